@@ -1,0 +1,5 @@
+pub mod Arithmetic
+pub mod Root
+pub mod Exponential
+pub mod Logarithm
+pub mod Steps

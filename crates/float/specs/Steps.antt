@@ -1,0 +1,68 @@
+-- What the inner functions of this crate promise one another: the parts of a float, the places of a whole root, the field of a power of two.
+-- No definition of document 01 stands on this file; the public promises cite Arithmetic, Root, Exponential and Logarithm alone. Definitions only.
+use mathlib.Core.Path.{_≡_}
+use mathlib.Core.Bool.{Bool, false, _&&_}
+use Prim.Native.Nat.{ℕ, _+_, _*_, _-_, _/_, _^_, _<_, _≤_}
+use lib.IntN.{ℤ}
+use lib.Ieee.{Float, fin, binary64, minus, round, mul, neg, le}
+use lib.Ieee.Positive.{num, den}
+use Rattle.float.specs.Arithmetic.{number}
+use Rattle.float.specs.Exponential.{expFrom, leftOf}
+
+-- ---- a positive float taken apart and put together
+
+-- 2^(n − 1023), n being the exponent's field
+abbrev pub powerOf : ℕ → Float
+powerOf n = fin false 1 (minus n 1023)
+
+-- y·2^k·2^−1074
+abbrev pub valueOf : ℕ → ℕ → Float
+valueOf y k = round binary64 false (y * 2 ^ k) (2 ^ 1074)
+
+-- x is m·2^e·2^−1126, and m has 53 binary digits
+pub record SplitOf (x : Float) (m e : ℕ) : Type 0 where
+  pub value : num x * 2 ^ 1126 ≡ m * 2 ^ e * den x
+  pub first : 2 ^ 52 ≤ m
+  pub last : m < 2 ^ 53
+  pub high : e ≤ 2097
+
+-- ---- a whole square root, place by place
+
+-- y is the whole part of the square root of x, and rest is what is left: y² ≤ x < (y + 1)²
+pub record Rooted (x y rest : ℕ) : Type 0 where
+  pub square : y * y + rest ≡ x
+  pub under : rest ≤ 2 * y
+  pub small : y < 2 ^ 53
+
+-- the number whose n lowest digits to the base 4 are the n highest ones of the word m, with zeros after its 32, and whose other digits are those of head
+abbrev pub joined : ℕ → ℕ → ℕ → ℕ
+joined head m n = (head * 2 ^ 64 + m) * 4 ^ n / 2 ^ 64
+
+-- one place more: y and rest with the digit d to the base 4 become y' and rest'
+pub record Placed (y rest d y' rest' : ℕ) : Type 0 where
+  pub square : y' * y' + rest' ≡ (y * y + rest) * 4 + d
+  pub under : rest' ≤ 2 * y'
+  pub most : y' ≤ y * 2 + 1
+
+-- y is the whole number nearest to the square root of x, which has 105 or 106 binary digits, and y has 53
+pub record Nearest (x y : ℕ) : Type 0 where
+  pub above : (2 * y - 1) * (2 * y - 1) < 4 * x
+  pub below : 4 * x < (2 * y + 1) * (2 * y + 1)
+  pub first : 2 ^ 52 ≤ y
+  pub last : y < 2 ^ 53
+
+-- ---- the exponential between its borders
+
+-- −708 ≤ x ≤ 709, and so x is no NaN
+abbrev pub inside : Float → Bool
+inside x = le (neg (number 708)) x && le x (number 709)
+
+-- b is the exponent's field of the normal number 2^n
+pub record FieldOf (n : ℤ) (b : ℕ) : Type 0 where
+  pub value : minus b 1023 ≡ n
+  pub least : 0 < b
+  pub most : b < 2047
+
+-- the series at the rest of x, n being a whole number as a float, times w
+abbrev pub raised : Float → Float → Float → Float
+raised x n w = mul binary64 (expFrom 13 (leftOf x n) (number 1)) w

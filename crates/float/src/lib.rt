@@ -1,0 +1,269 @@
+// f64 arithmetic as document 01 has it ('Arithmetic under the Rust'): maximum, clamp, absolute value, the square root by
+// recursion on the binary places still open, and the exponential and logarithm operation by operation.
+// Every public function is total: it takes any f64, NaN, infinities, zeros and subnormals included.
+ghost use mathlib.Core.Path.{_≡_};
+ghost use Prim.Native.Nat.{_+_, _*_, _-_, _^_, _<_, _≤_};
+ghost use lib.Dec.{T};
+ghost use lib.Ieee.{ofInt, minus, binary64};
+ghost use lib.Ieee.Positive.{positive};
+ghost use Rattle.float.specs.Arithmetic.{maxOf, clampOf, absOf};
+ghost use Rattle.float.specs.Root.{rootOf, positiveRoot};
+ghost use Rattle.float.specs.Exponential.{expOf, expBy, floorOf, turnsOf};
+ghost use Rattle.float.specs.Logarithm.{lnOf, lnBy, lnAt, exponentOf, fractionOf};
+ghost use Rattle.float.specs.Steps.{Rooted, joined, Placed, Nearest, SplitOf, valueOf, powerOf, raised, inside, FieldOf};
+
+// The greater of two; with one NaN the other operand.
+pub fn max(x: f64, y: f64) -> f64
+    ensures { λ r. ⌜ r ≡ maxOf x y ⌝ }
+{
+    if x != x {
+        return y;
+    }
+    if x < y { y } else { x }
+}
+
+// x held to [low, high]; a NaN passes.
+pub fn clamp(x: f64, low: f64, high: f64) -> f64
+    ensures { λ r. ⌜ r ≡ clampOf x low high ⌝ }
+{
+    if x < low {
+        return low;
+    }
+    if high < x { high } else { x }
+}
+
+// x without its sign.
+pub fn abs(x: f64) -> f64
+    ensures { λ r. ⌜ r ≡ absOf x ⌝ }
+{
+    if x < 0.0 {
+        return -x;
+    }
+    if x == 0.0 { 0.0 } else { x }
+}
+
+// 2^(n - 1023): the float whose exponent's field is n.
+fn pow2(n: u64) -> f64
+    requires { ⌜ (0 < n) × (n < 2047) ⌝ }
+    ensures { λ r. ⌜ r ≡ powerOf n ⌝ }
+{
+    f64::from_bits(n << 52)
+}
+
+// A positive float's 53 leading binary digits, and how far they are moved up.
+struct Digits {
+    m: u64,
+    e: u64,
+}
+
+// A positive x as m * 2^e * 2^-1126, where m has 53 binary digits.
+fn split(x: f64) -> Digits
+    requires { ⌜ T (positive x) ⌝ }
+    ensures { λ r. ⌜ SplitOf x (r .m) (r .e) ⌝ }
+{
+    let b = f64::to_bits(x);
+    let f = b / 4503599627370496;
+    let t = b % 4503599627370496;
+    if f == 0 {
+        let mut m = t;
+        let mut e: u64 = 52;
+        while m < 4503599627370496 {
+            m = m * 2;
+            e = e - 1;
+        }
+        Digits { m, e }
+    } else {
+        Digits {
+            m: t + 4503599627370496,
+            e: f + 51,
+        }
+    }
+}
+
+// y * 2^k * 2^-1074, where y has 53 binary digits.
+fn compose(y: u64, k: u64) -> f64
+    requires { ⌜ (2 ^ 52 ≤ y) × (y < 2 ^ 53) × (k < 2046) ⌝ }
+    ensures { λ r. ⌜ r ≡ valueOf y k ⌝ }
+{
+    f64::from_bits(k * 4503599627370496 + y)
+}
+
+// The whole square root of the places read so far: y, and what is left of them.
+struct Square {
+    y: u64,
+    rest: u64,
+}
+
+// One place more, with no branch: the comparison is made a number, and multiplied by.
+fn place(rest: u64, y: u64, digit: u64) -> Square
+    requires { ⌜ (rest ≤ 2 * y) × (y < 9007199254740992) × (digit < 4) ⌝ }
+    ensures { λ r. ⌜ Placed y rest digit (r .y) (r .rest) ⌝ }
+{
+    let more = rest * 4 + digit;
+    let step = y * 4 + 1;
+    let bit = (step <= more) as u64;
+    Square {
+        y: y * 2 + bit,
+        rest: more - bit * step,
+    }
+}
+
+// The whole square root of y * y + rest followed by n digits to the base 4, the highest of m first: recursion on the
+// n binary places of the root still open.
+fn open_places(m: u64, n: u64, rest: u64, y: u64) -> Square
+    requires { ⌜ (rest ≤ 2 * y) × ((y + 1) * 2 ^ n ≤ 2 ^ 53) ⌝ }
+    ensures { λ r. ⌜ Rooted (joined (y * y + rest) m n) (r .y) (r .rest) ⌝ }
+{
+    if n == 0 {
+        Square { y, rest }
+    } else {
+        let s = place(rest, y, m >> 62);
+        open_places(m << 2, n - 1, s.rest, s.y)
+    }
+}
+
+// The nearest whole number to the square root of m * 2^52, which has 105 or 106 binary digits.
+fn near_root(m: u64) -> u64
+    requires { ⌜ (2 ^ 52 ≤ m) × (m ≤ 2 ^ 54 - 2) ⌝ }
+    ensures { λ r. ⌜ Nearest (m * 2 ^ 52) r ⌝ }
+{
+    let s = open_places(m << 10, 53, 0, 0);
+    s.y + (s.y < s.rest) as u64
+}
+
+// The square root of a positive number: that of its digits, an even number of places up.
+fn positive_root(x: f64) -> f64
+    requires { ⌜ T (positive x) ⌝ }
+    ensures { λ r. ⌜ r ≡ positiveRoot x ⌝ }
+{
+    let s = split(x);
+    let h = s.e / 2;
+    compose(near_root(s.m << (s.e % 2)), h + 485)
+}
+
+// The square root: NaN for NaN and below zero, zeros and +infinity kept.
+pub fn root(x: f64) -> f64
+    ensures { λ r. ⌜ r ≡ rootOf x ⌝ }
+{
+    if x == 0.0 {
+        return x;
+    }
+    if x < 0.0 {
+        return 0.0 / 0.0;
+    }
+    if x < 1.0 / 0.0 { positive_root(x) } else { x }
+}
+
+// The series of the exponential at what is left of x past n, times w.
+fn raise(x: f64, n: f64, w: f64) -> f64
+    ensures { λ r. ⌜ r ≡ raised x n w ⌝ }
+{
+    let r = (x - n * 0.6931471803691238) - n * 1.9082149292705877e-10;
+    let p = 1.0;
+    let p = 1.0 + (r * p) / 13.0;
+    let p = 1.0 + (r * p) / 12.0;
+    let p = 1.0 + (r * p) / 11.0;
+    let p = 1.0 + (r * p) / 10.0;
+    let p = 1.0 + (r * p) / 9.0;
+    let p = 1.0 + (r * p) / 8.0;
+    let p = 1.0 + (r * p) / 7.0;
+    let p = 1.0 + (r * p) / 6.0;
+    let p = 1.0 + (r * p) / 5.0;
+    let p = 1.0 + (r * p) / 4.0;
+    let p = 1.0 + (r * p) / 3.0;
+    let p = 1.0 + (r * p) / 2.0;
+    let p = 1.0 + (r * p) / 1.0;
+    p * w
+}
+
+// The exponent's field of 2^n, n being the floor of x * 1.4426950408889634 + 0.5, for an x from -708 to 709. The sum is
+// made positive before it is cut, and the cut is compared with it, since adding 1023 may round.
+fn field(x: f64) -> u64
+    requires { ⌜ T (inside x) ⌝ }
+    ensures { λ r. ⌜ FieldOf (floorOf (turnsOf x)) r ⌝ }
+{
+    let y = x * 1.4426950408889634 + 0.5;
+    let t = std::num::truncating_f64_to_u64(y + 1023.0);
+    let k = (t as f64) - 1023.0;
+    if y < k { t - 1 } else { t }
+}
+
+// The whole number b - 1023 as a float.
+fn unbiased(b: u64) -> f64
+    requires { ⌜ b < 2047 ⌝ }
+    ensures { λ r. ⌜ r ≡ ofInt binary64 (minus b 1023) ⌝ }
+{
+    (b as f64) - 1023.0
+}
+
+// The exponential between its borders.
+fn inner_exp(x: f64) -> f64
+    requires { ⌜ T (inside x) ⌝ }
+    ensures { λ r. ⌜ r ≡ expBy x (floorOf (turnsOf x)) ⌝ }
+{
+    let b = field(x);
+    raise(x, unbiased(b), pow2(b))
+}
+
+// The exponential: NaN for NaN, +infinity above 709, +0 below -708.
+pub fn exp(x: f64) -> f64
+    ensures { λ r. ⌜ r ≡ expOf x ⌝ }
+{
+    if x != x {
+        return x;
+    }
+    if 709.0 < x {
+        return 1.0 / 0.0;
+    }
+    if x < -708.0 {
+        return 0.0;
+    }
+    inner_exp(x)
+}
+
+// The logarithm of 2^e * f, straight on.
+fn ln_at(e: f64, f: f64) -> f64
+    ensures { λ r. ⌜ r ≡ lnAt e f ⌝ }
+{
+    let s = (f - 1.0) / (f + 1.0);
+    let z = s * s;
+    let p = 1.0 / 21.0;
+    let p = 1.0 / 19.0 + z * p;
+    let p = 1.0 / 17.0 + z * p;
+    let p = 1.0 / 15.0 + z * p;
+    let p = 1.0 / 13.0 + z * p;
+    let p = 1.0 / 11.0 + z * p;
+    let p = 1.0 / 9.0 + z * p;
+    let p = 1.0 / 7.0 + z * p;
+    let p = 1.0 / 5.0 + z * p;
+    let p = 1.0 / 3.0 + z * p;
+    let p = 1.0 / 1.0 + z * p;
+    e * 0.6931471803691238 + ((2.0 * s) * p + e * 1.9082149292705877e-10)
+}
+
+// The logarithm of a positive number, from its leading digits and its exponent.
+fn positive_ln(x: f64) -> f64
+    requires { ⌜ T (positive x) ⌝ }
+    ensures { λ r. ⌜ r ≡ lnBy (exponentOf x) (fractionOf x) ⌝ }
+{
+    let s = split(x);
+    let f = compose(s.m, 1022);
+    if 1.4142135623730951 < f {
+        ln_at((s.e as f64) - 1073.0, f * 0.5)
+    } else {
+        ln_at((s.e as f64) - 1074.0, f)
+    }
+}
+
+// The natural logarithm: NaN for NaN and below zero, -infinity at a zero, +infinity kept.
+pub fn ln(x: f64) -> f64
+    ensures { λ r. ⌜ r ≡ lnOf x ⌝ }
+{
+    if x == 0.0 {
+        return -1.0 / 0.0;
+    }
+    if x < 0.0 {
+        return 0.0 / 0.0;
+    }
+    if x < 1.0 / 0.0 { positive_ln(x) } else { x }
+}

@@ -1,0 +1,2 @@
+pub mod SplitMix
+pub mod Drawn
