@@ -4,7 +4,7 @@
 ghost use mathlib.Core.Path.{_≡_};
 ghost use Prim.Native.Nat.{_+_, _*_, _-_, _^_, _<_, _≤_};
 ghost use lib.Dec.{T};
-ghost use lib.Ieee.{ofInt, minus, binary64};
+ghost use lib.Ieee.{ofInt, ofBits, toBits, minus, binary64};
 ghost use lib.Ieee.Positive.{positive};
 ghost use Rattle.float.specs.Arithmetic.{maxOf, clampOf, absOf};
 ghost use Rattle.float.specs.Root.{rootOf, positiveRoot};
@@ -40,6 +40,28 @@ pub fn abs(x: f64) -> f64
         return -x;
     }
     if x == 0.0 { 0.0 } else { x }
+}
+
+// The f64 of a bit pattern; every pattern of a NaN is the one NaN.
+pub fn of_bits(b: u64) -> f64
+    ensures { λ r. ⌜ r ≡ ofBits binary64 b ⌝ }
+{
+    if 0x7FF0_0000_0000_0000 < b % 0x8000_0000_0000_0000 {
+        0.0 / 0.0
+    } else {
+        f64::from_bits(b)
+    }
+}
+
+// The bit pattern of an f64; of a NaN always 0x7FF8000000000000.
+pub fn bits_of(x: f64) -> u64
+    ensures { λ r. ⌜ r ≡ toBits binary64 x ⌝ }
+{
+    if x != x {
+        0x7FF8_0000_0000_0000
+    } else {
+        f64::to_bits(x)
+    }
 }
 
 // 2^(n - 1023): the float whose exponent's field is n.
