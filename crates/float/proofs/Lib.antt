@@ -1,14 +1,27 @@
 -- Laws that other proofs cite, each file named after what it is about.
+-- ---- f64 in general: order, tests, whole numbers, bounds, powers of two, bit patterns
 pub mod Order
-pub mod Pattern
-pub mod Fields
-pub mod Rounding
-pub mod Assemble
+pub mod Tests
+pub mod Whole
 pub mod Bound
 pub mod Ranges
-pub mod Whole
 pub mod Sums
 pub mod Scaling
 pub mod Grain
 pub mod Error
 pub mod Units
+pub mod Pattern
+pub mod Fields
+pub mod Rounding
+pub mod Assemble
+pub mod Parts
+-- ---- the definitions of specs/
+pub mod Floor
+pub mod Exponential
+pub mod Logarithm
+pub mod Roots
+pub mod RootOf
+pub mod RootRule
+pub mod RootLaws
+pub mod RootUnit
+pub mod RootSame

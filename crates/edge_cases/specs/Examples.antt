@@ -1,0 +1,55 @@
+-- Document 01, 'Edge examples': the starred ones, as one table of the definitions with one theorem.
+-- A row has what a definition gives, and beside it what document 01 says. Each part of the work adds its rows here.
+use mathlib.Core.Path.{_≡_, refl}
+use mathlib.Core.List.{List, [], _∷_}
+use mathlib.Core.Bool.{true, false}
+use Prim.Native.Nat.{ℕ}
+use lib.IntN.{pos, negsuc}
+use lib.Ieee.{Float, inf, fin, neg}
+use Rattle.float.specs.Arithmetic.{number, plusZero, minusZero}
+use Rattle.float.specs.Root.{rootOf}
+use Rattle.float.specs.Exponential.{expOf}
+use Rattle.float.specs.Logarithm.{lnOf}
+
+-- an answer is one or more values
+pub data Value : Type 0 where
+  float : Float → Value
+  whole : ℕ → Value
+  none : Value
+
+pub record Row : Type 0 where
+  pub gives : List Value
+  pub says : List Value
+
+abbrev row : List Value → List Value → Row
+row g s = record { gives = g; says = s }
+
+abbrev one : Value → List Value
+one v = v ∷ []
+
+unfoldable pub table : List Row
+unfolding rootOf expOf lnOf
+table =
+    -- root of 4 is 2; of −0 is −0; of 2^−1074 is 2^−537
+    row (one (float (rootOf (number 4)))) (one (float (number 2)))
+    ∷ row (one (float (rootOf minusZero))) (one (float minusZero))
+    ∷ row (one (float (rootOf (fin false 1 (negsuc 1073))))) (one (float (fin false 1 (negsuc 536))))
+    -- exp 0 = 1; exp −709 = +0; ln 1 = +0; ln −0 = −infinity
+    ∷ row (one (float (expOf plusZero))) (one (float (number 1)))
+    ∷ row (one (float (expOf (neg (number 709))))) (one (float plusZero))
+    ∷ row (one (float (lnOf (number 1)))) (one (float plusZero))
+    ∷ row (one (float (lnOf minusZero))) (one (float (inf true)))
+    ∷ []
+
+abbrev allGive : List Row → List (List Value)
+allGive [] = []
+allGive (r ∷ rs) = r .gives ∷ allGive rs
+
+abbrev allSay : List Row → List (List Value)
+allSay [] = []
+allSay (r ∷ rs) = r .says ∷ allSay rs
+
+-- every definition gives what document 01 says
+pub examples : allGive table ≡ allSay table
+unfolding table
+examples = refl

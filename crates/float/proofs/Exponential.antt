@@ -1,0 +1,48 @@
+-- The cases of the exponential, each from the tests that lead to it; between the borders, the product of the series and the power of two. Assumes nothing.
+use mathlib.Core.Path.{_≡_, refl, sym, subst}
+use mathlib.Core.Bool.{true, false, not}
+use Prim.Native.Nat.{ℕ}
+use lib.Dec.{T, not-T}
+use lib.IntN.{ℤ}
+use lib.Ieee.{Float, inf, binary64, lt, le, ne, isNan, neg, ofInt, minus}
+use lib.Ieee.Bits.{is-false}
+use lib.Ieee.Fits.{and-i, and-l, and-r}
+use Rattle.float.specs.Arithmetic.{number, plusZero}
+use Rattle.float.specs.Exponential.{floorOf, turnsOf, expBy, expOf}
+use Rattle.float.specs.Steps.{inside, raised, powerOf}
+use Rattle.float.proofs.Order.{le-of-nlt, nlt-of-le, no-nan}
+use Rattle.float.proofs.Tests.{is-nan, is-number, of-false}
+
+ends : T (not (isNan (number 709))) × T (not (isNan (neg (number 708))))
+unfolding ofInt neg isNan
+ends = (tt, tt)
+
+pub by-nan : (x : Float) → ne x x ≡ true → x ≡ expOf x
+unfolding expOf isNan
+by-nan x h = subst (λ (z : Float). z ≡ expOf z) (sym (is-nan x h)) refl
+
+pub by-high : (x : Float) → ne x x ≡ false → lt (number 709) x ≡ true → inf false ≡ expOf x
+unfolding expOf
+by-high x h k = rw (is-number x h, k)
+
+pub by-low : (x : Float) → ne x x ≡ false → lt (number 709) x ≡ false → lt x (neg (number 708)) ≡ true → plusZero ≡ expOf x
+unfolding expOf
+by-low x h k l = rw (is-number x h, k, l)
+
+pub is-inside : (x : Float) → ne x x ≡ false → lt (number 709) x ≡ false → lt x (neg (number 708)) ≡ false → T (inside x)
+is-inside x h k l =
+    let n = of-false (isNan x) (is-number x h) in
+    and-i (le (neg (number 708)) x) (le x (number 709))
+    (le-of-nlt x (neg (number 708)) n (ends .1) (of-false (lt x (neg (number 708))) l))
+    (le-of-nlt (number 709) x (ends .0) n (of-false (lt (number 709) x) k))
+
+pub by-inside : (x : Float) → T (inside x) → expBy x (floorOf (turnsOf x)) ≡ expOf x
+unfolding expOf
+by-inside x h =
+    let a = and-l (le (neg (number 708)) x) (le x (number 709)) h in
+    let b = and-r (le (neg (number 708)) x) (le x (number 709)) h in
+    rw (is-false (isNan x) (no-nan (neg (number 708)) x a .1), is-false (lt (number 709) x) (not-T (lt (number 709) x) (nlt-of-le (number 709) x b)), is-false (lt x (neg (number 708))) (not-T (lt x (neg (number 708))) (nlt-of-le x (neg (number 708)) a)))
+
+pub by-field : (x n w : Float) (b : ℕ) (k : ℤ) → minus b 1023 ≡ k → n ≡ ofInt binary64 (minus b 1023) → w ≡ powerOf b → raised x n w ≡ expBy x k
+unfolding expBy
+by-field x n w b k e p q = rw (p, q, e)

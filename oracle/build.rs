@@ -1,0 +1,44 @@
+// Brings the original's vmf.rs and rng.rs into the build. ORIGINAL names a folder: a checkout of betula-cluster at commit
+// 6eba1999bc, or a folder that holds the two files under the names src--src--clustering--vmf.rs.txt and
+// src--src--clustering--rng.rs.txt. Nothing of them is kept in this repository.
+//
+// Changed by textual substitution, the number of matches asserted: the logarithm and the exponential become document 01's;
+// the crate's own paths become the stand-ins of src/standins.rs. Inner doc comments become plain ones, since the files are
+// included inside modules.
+use std::path::PathBuf;
+use std::{env, fs};
+
+fn main() {
+    println!("cargo:rerun-if-env-changed=ORIGINAL");
+    let folder = PathBuf::from(env::var("ORIGINAL").expect("ORIGINAL: the folder with vmf.rs and rng.rs"));
+    let out = PathBuf::from(env::var("OUT_DIR").unwrap());
+
+    let rng = plain_comments(&read(&folder, "clustering", "rng.rs"));
+    fs::write(out.join("rng.rs"), rng).unwrap();
+
+    let mut vmf = plain_comments(&read(&folder, "clustering", "vmf.rs"));
+    vmf = replaced(&vmf, ".ln()", ".document_ln()", 16);
+    vmf = replaced(&vmf, ".exp()", ".document_exp()", 4);
+    vmf = replaced(&vmf, "use crate::clustering::rng::SplitMix64;", "use crate::rng::SplitMix64;", 1);
+    vmf = replaced(&vmf, "use crate::feature::ClusterFeature;", "use crate::standins::ClusterFeature;", 1);
+    vmf = replaced(&vmf, "use crate::mixture::Mixture;", "use crate::standins::Mixture;", 1);
+    vmf = replaced(&vmf, "use crate::types::Real;", "use crate::standins::Real;", 1);
+    fs::write(out.join("vmf.rs"), vmf).unwrap();
+}
+
+fn read(folder: &PathBuf, part: &str, name: &str) -> String {
+    let checkout = folder.join("src").join(part).join(name);
+    let flat = folder.join(format!("src--src--{part}--{name}.txt"));
+    let path = if checkout.exists() { checkout } else { flat };
+    println!("cargo:rerun-if-changed={}", path.display());
+    fs::read_to_string(&path).unwrap_or_else(|e| panic!("{}: {e}", path.display()))
+}
+
+fn plain_comments(text: &str) -> String {
+    text.replace("//!", "//")
+}
+
+fn replaced(text: &str, from: &str, to: &str, times: usize) -> String {
+    assert_eq!(text.matches(from).count(), times, "matches of {from}");
+    text.replace(from, to)
+}
