@@ -5,7 +5,7 @@ use mathlib.Core.List.{List, [], _∷_}
 use mathlib.Core.Bool.{true, false}
 use Prim.Native.Nat.{ℕ}
 use lib.IntN.{pos, negsuc}
-use lib.Ieee.{Float, inf, fin, neg}
+use lib.Ieee.{Float, inf, fin, add, sub, mul, div, neg, lt, isNan, ofInt, ofBits, round, size}
 use Rattle.float.specs.Arithmetic.{number, plusZero, minusZero}
 use Rattle.float.specs.Root.{rootOf}
 use Rattle.float.specs.Exponential.{expOf}
@@ -28,7 +28,6 @@ abbrev one : Value → List Value
 one v = v ∷ []
 
 unfoldable pub table : List Row
-unfolding rootOf expOf lnOf
 table =
     -- root of 4 is 2; of −0 is −0; of 2^−1074 is 2^−537
     row (one (float (rootOf (number 4)))) (one (float (number 2)))
@@ -51,5 +50,5 @@ allSay (r ∷ rs) = r .says ∷ allSay rs
 
 -- every definition gives what document 01 says
 pub examples : allGive table ≡ allSay table
-unfolding table
+unfolding table rootOf expOf lnOf add sub mul div neg lt isNan ofInt ofBits round size
 examples = refl

@@ -144,7 +144,8 @@ fn other_lines() {
 fn generator_lines() {
     io::write_all(1, b"SplitMix64, seed 1234567:\n");
     let mut state: u64 = 1234567;
-    for i in 0..5 {
+    let five: usize = 5;
+    for i in 0..five {
         let d = rng::next_u64(state);
         state = d.state;
         io::print_decimal(1, d.out);

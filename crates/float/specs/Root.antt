@@ -11,19 +11,23 @@ use lib.Ieee.Positive.{num, den, positive}
 unfoldable pub unitsOf : Float → ℕ
 unitsOf x = num x * 2 ^ 1074 / den x
 
--- the whole part of the square root of an n below 4^k: that of n / 4, doubled, and one more where the square of that is not above n
+-- y, or y + 1 where the square of that is not above n
+abbrev pub grown : ℕ → ℕ → ℕ
+grown n y = cond (leb ((y + 1) * (y + 1)) n) (y + 1) y
+
+-- the whole part of the square root of an n below 4^k: that of n / 4, doubled, and then grown
 unfoldable pub wholeRoot : ℕ → ℕ → ℕ
 wholeRoot zero n = 0
-wholeRoot (suc k) n =
-    let y = 2 * wholeRoot k (n / 4) in
-    cond (leb ((y + 1) * (y + 1)) n) (y + 1) y
+wholeRoot (suc k) n = grown n (2 * wholeRoot k (n / 4))
+
+-- of y and y + 1 the nearer to the square root of n, y being its whole part: y where n is at most (y + 1/2)²
+abbrev pub nearer : ℕ → ℕ → ℕ
+nearer n y = cond (leb n (y * y + y)) y (y + 1)
 
 -- the whole number Y nearest to the square root of an n below 4^53: (2Y−1)² < 4·n < (2Y+1)². There is no tie, since 4·n is no odd number's square
 unfoldable pub nearRoot : ℕ → ℕ
 unfolding wholeRoot
-nearRoot n =
-    let y = wholeRoot 53 n in
-    cond (leb n (y * y + y)) y (y + 1)
+nearRoot n = nearer n (wholeRoot 53 n)
 
 -- q + 590, for the whole number q with 2^104 ≤ x·2^(−2q) < 2^106: half of x's binary digits in units of 2^−1074, rounded up
 unfoldable pub placesOf : Float → ℕ

@@ -1,2 +1,0 @@
-pub mod Normalizer
-pub mod Concentration

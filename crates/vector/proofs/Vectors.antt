@@ -1,0 +1,139 @@
+-- Laws of the definitions of specs/Vectors.antt and specs/Pick.antt, one for a turn of the loop that computes each and one for its end. A sum, a dot product
+-- and a pick go by what is left of the list, a store by what is done beside what is left, a place by the turns done. Assumes nothing.
+use mathlib.Core.Path.{_≡_, refl, ap, sym, _∙_}
+use mathlib.Core.List.{List, [], _∷_, _++_, append-assoc, append-nil}
+use mathlib.Core.Bool.{Bool, true, false, cond}
+use mathlib.Core.Logic.{⊎-elim}
+use Prim.Native.Nat.{ℕ, suc, _+_, _-_, _≤_, _<_, min, max}
+use native.Mathlib.Numerals.{add-one}
+use native.Mathlib.Omega.{arith}
+use lib.ListN.{length, getD, take, drop, set, replicate, replicate-append-replicate, drop-of-length-le, take-append-drop}
+use lib.Seq.{drop-cons, take-suc, take-suc-set, drop-set-lt, take-all}
+use lib.Ieee.{Float, nan, binary64, add, sub, mul, div, lt, le}
+use Rattle.float.specs.Arithmetic.{plusZero, sumFrom, dotFrom}
+use Rattle.float.proofs.Order.{lt-or-ge}
+use Rattle.vector.specs.Vectors.{dividedBy, addScaled, argmaxUpTo, argminUpTo}
+use Rattle.vector.specs.Pick.{pickFrom}
+
+-- sums
+module _ (s : Float) (v : List Float) (j : ℕ) where
+  pub sum-turn : j < length v → sumFrom (add binary64 s (getD v j nan)) (drop (j + 1) v) ≡ sumFrom s (drop j v)
+  sum-turn h = rw (add-one, drop-cons v j nan)
+
+  pub sum-end : length v ≤ j → sumFrom s (drop j v) ≡ s
+  sum-end h = rw (drop-of-length-le v h)
+
+-- dot products
+dot-nil : (s : Float) (a : List Float) → dotFrom s a [] ≡ s
+dot-nil s [] = refl
+dot-nil s (x ∷ a) = refl
+
+module _ (s : Float) (a b : List Float) (j : ℕ) where
+  pub dot-turn : j < length a → j < length b
+      → dotFrom (add binary64 s (mul binary64 (getD a j nan) (getD b j nan))) (drop (j + 1) a) (drop (j + 1) b) ≡ dotFrom s (drop j a) (drop j b)
+  dot-turn ha hb = rw (add-one, drop-cons a j nan, drop-cons b j nan)
+
+  pub dot-end : min (length a) (length b) ≤ j → dotFrom s (drop j a) (drop j b) ≡ s
+  dot-end h =
+      ⊎-elim (λ (l : j < length a). let g : length b ≤ j = omega arith in rw (drop-of-length-le b g) (dot-nil s (drop j a)))
+      (λ (g : length a ≤ j). rw (drop-of-length-le a g))
+      (lt-or-ge j (length a))
+
+-- lists that are filled or copied, of any elements
+module _ {A : Type 0} where
+  pub fill-turn : (s : List A) (j : ℕ) (x : A) → j < length s → take j s ≡ replicate j x → take (j + 1) (set s j x) ≡ replicate (j + 1) x
+  fill-turn s j x h e =
+      let t : take (j + 1) (set s j x) ≡ take j s ++ (x ∷ []) = rw add-one (take-suc-set s j x h) in
+      t ∙ ap (λ (l : List A). l ++ (x ∷ [])) e ∙ replicate-append-replicate j 1 x
+
+  pub copy-turn : (s t : List A) (j : ℕ) (z : A) → j < length s → j < length t → take j s ≡ take j t → take (j + 1) (set s j (getD t j z)) ≡ take (j + 1) t
+  copy-turn s t j z hs ht e = rw (add-one, take-suc-set, take-suc t j z, e)
+
+  pub take-end : (s t : List A) (j : ℕ) → length s ≤ j → take j s ≡ t → s ≡ t
+  take-end s t j h e = sym (take-all j s h) ∙ e
+
+-- a list divided by n
+module _ (n : Float) (l from : List Float) (j : ℕ) where
+  pub divide-turn : j < length l → j < length from
+      → take (j + 1) (set l j (div binary64 (getD from j nan) n)) ++ dividedBy n (drop (j + 1) from) ≡ take j l ++ dividedBy n (drop j from)
+  divide-turn hl hf = rw (add-one, take-suc-set, drop-cons from j nan, append-assoc)
+
+  pub divide-end : length l ≤ j → length from ≤ j → take j l ++ dividedBy n (drop j from) ≡ l
+  divide-end hl hf = rw (drop-of-length-le from hf, take-all, append-nil)
+
+pub divide-length : (n : Float) (l : List Float) → length (dividedBy n l) ≡ length l
+divide-length n [] = refl
+divide-length n (x ∷ l) = ap suc (divide-length n l)
+
+-- a list with w times another added
+add-scaled-nil : (w : Float) (l : List Float) → addScaled w l [] ≡ l
+add-scaled-nil w [] = refl
+add-scaled-nil w (r ∷ l) = refl
+
+module _ (w : Float) (l x : List Float) (j : ℕ) where
+  pub add-scaled-turn : j < length l → j < length x
+      → take (j + 1) (set l j (add binary64 (getD l j nan) (mul binary64 w (getD x j nan))))
+      ++ addScaled w (drop (j + 1) (set l j (add binary64 (getD l j nan) (mul binary64 w (getD x j nan))))) (drop (j + 1) x)
+      ≡ take j l ++ addScaled w (drop j l) (drop j x)
+  add-scaled-turn hl hx =
+      let h : j < suc j = omega arith in
+      rw (add-one, take-suc-set, drop-set-lt, drop-cons l j nan, drop-cons x j nan, append-assoc)
+
+  pub add-scaled-end : min (length l) (length x) ≤ j → take j l ++ addScaled w (drop j l) (drop j x) ≡ l
+  add-scaled-end h =
+      ⊎-elim (λ (h' : j < length l). let g : length x ≤ j = omega arith in rw (drop-of-length-le x g, add-scaled-nil, take-append-drop))
+      (λ (g : length l ≤ j). rw (drop-of-length-le l g, take-all, append-nil))
+      (lt-or-ge j (length l))
+
+pub add-scaled-length : (w : Float) (l x : List Float) → length (addScaled w l x) ≡ length l
+add-scaled-length w [] x = refl
+add-scaled-length w (r ∷ l) [] = refl
+add-scaled-length w (r ∷ l) (y ∷ x) = ap suc (add-scaled-length w l x)
+
+-- the place of the greatest and of the least: one place alone, a turn by the way that the test went, and the end of a loop that starts at place 1
+either-zero : (t : Bool) → _≡_ {A = ℕ} (cond t 0 0) 0
+either-zero true = refl
+either-zero false = refl
+
+module _ (v : List Float) where
+  pub argmax-one : argmaxUpTo v 1 ≡ 0
+  unfolding argmaxUpTo
+  argmax-one = either-zero (lt (getD v 0 nan) (getD v 0 nan))
+
+  pub argmin-one : argminUpTo v 1 ≡ 0
+  unfolding argminUpTo
+  argmin-one = either-zero (lt (getD v 0 nan) (getD v 0 nan))
+
+  module _ (best best' i : ℕ) (t : Bool) where
+    pub argmax-turn : best ≡ argmaxUpTo v i → lt (getD v best nan) (getD v i nan) ≡ t → best' ≡ cond t i best → best' ≡ argmaxUpTo v (i + 1)
+    unfolding argmaxUpTo
+    argmax-turn e g h = rw (add-one, ← e, g) h
+
+    pub argmin-turn : best ≡ argminUpTo v i → lt (getD v i nan) (getD v best nan) ≡ t → best' ≡ cond t i best → best' ≡ argminUpTo v (i + 1)
+    unfolding argminUpTo
+    argmin-turn e g h = rw (add-one, ← e, g) h
+
+pub argmax-end : (v : List Float) (i : ℕ) → i ≡ max (length v) 1 → argmaxUpTo v i ≡ argmaxUpTo v (length v)
+unfolding argmaxUpTo
+argmax-end [] i e = let f : i ≡ 1 = omega arith in rw f (argmax-one [])
+argmax-end (x ∷ v) i e = let f : i ≡ suc (length v) = omega arith in rw f
+
+pub argmin-end : (v : List Float) (i : ℕ) → i ≡ max (length v) 1 → argminUpTo v i ≡ argminUpTo v (length v)
+unfolding argminUpTo
+argmin-end [] i e = let f : i ≡ 1 = omega arith in rw f (argmin-one [])
+argmin-end (x ∷ v) i e = let f : i ≡ suc (length v) = omega arith in rw f
+
+-- the pick: at the place sought, past another, and past all
+module _ (t : Float) (w : List Float) (i : ℕ) where
+  pub pick-found : i < length w → le (sub binary64 t (getD w i nan)) plusZero ≡ true → i ≡ pickFrom t i (drop i w)
+  unfolding pickFrom
+  pick-found h e = rw (drop-cons w i nan, e)
+
+  pub pick-turn : i < length w → le (sub binary64 t (getD w i nan)) plusZero ≡ false
+      → pickFrom (sub binary64 t (getD w i nan)) (i + 1) (drop (i + 1) w) ≡ pickFrom t i (drop i w)
+  unfolding pickFrom
+  pick-turn h e = rw (add-one, drop-cons w i nan, e)
+
+  pub pick-end : length w ≤ i → i - 1 ≡ pickFrom t i (drop i w)
+  unfolding pickFrom
+  pick-end h = rw (drop-of-length-le w h)

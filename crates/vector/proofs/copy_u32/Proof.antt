@@ -1,0 +1,70 @@
+-- `vector::copy_u32` meets its contract. The loop's invariant: the elements passed are those of `from`. The measure is what is left of the length.
+-- Assumes nothing.
+use mathlib.Core.Path.{_≡_, refl, sym, _∙_}
+use Prim.Native.Nat.{_≤_, _-_}
+use native.Mathlib.Omega.{arith}
+use borrow.Author.Needs.{needs}
+use lib.ListN.{length, take, length-set}
+use lib.Seq.{take-all}
+use Rattle.vector.proofs.Vectors.{copy-turn, take-end}
+use Rattle.vector.proofs.copy_u32.Statement.{statement}
+use Rattle.vector.proofs.copy_u32.Tie as tie
+
+abbrev Inv-loop : tie.InvT-loop
+Inv-loop to₀ from j₀ to j = (length to ≡ length from) × (j ≤ length from) × (take j to ≡ take j from)
+
+abbrev μ-loop : tie.MeasureT-loop
+μ-loop to₀ from j₀ to j = length from - j
+
+loop-holds : tie.Need-loop-holds Inv-loop μ-loop
+loop-holds c = (c .pre .same, omega arith, refl)
+
+mul-to : tie.Need-mul-to Inv-loop μ-loop
+mul-to c = search needs
+
+shared-slice-read-to : tie.Need-shared-slice-read-to Inv-loop μ-loop
+shared-slice-read-to c = search needs
+
+mul-to-2 : tie.Need-mul-to-2 Inv-loop μ-loop
+mul-to-2 c = search needs
+
+slice-write-to : tie.Need-slice-write-to Inv-loop μ-loop
+slice-write-to c = search needs
+
+add-j : tie.Need-add-j Inv-loop μ-loop
+add-j c = search needs
+
+loop-less : tie.Need-loop-less Inv-loop μ-loop
+loop-less c = search needs
+
+loop-again : tie.Need-loop-again Inv-loop μ-loop
+loop-again c =
+    let t = c .before .before in
+    let l = t .loop in
+    (simp length-set (l .inv .0), omega arith, copy-turn (l .to) (t .before .args .from .now) (l .j) 0 (omega arith) (omega arith) (l .inv .2))
+
+same-length : tie.Need-same-length Inv-loop μ-loop
+same-length c = c .before .loop .inv .0 ∙ sym (c .before .before .pre .same)
+
+returns : tie.Need-returns Inv-loop μ-loop
+returns c =
+    let l = c .before .loop in
+    let x = c .before .before .args .from .now in
+    take-end (l .to) x (l .j) (omega arith) (l .inv .2 ∙ take-all (l .j) x (omega arith))
+
+pub copy-u32-spec : {M : Type 1} → statement M
+copy-u32-spec =
+    tie.close
+    (tie.spec
+    Inv-loop
+    μ-loop
+    loop-holds
+    mul-to
+    shared-slice-read-to
+    mul-to-2
+    slice-write-to
+    add-j
+    loop-less
+    loop-again
+    same-length
+    returns)

@@ -1,0 +1,59 @@
+-- `vector::fill_u32` meets its contract. The loop's invariant: the elements passed are all x. The measure is what is left of the length. Assumes nothing.
+use mathlib.Core.Path.{_≡_}
+use Prim.Native.Nat.{_≤_, _-_}
+use native.Mathlib.Omega.{arith}
+use borrow.Author.Needs.{needs}
+use lib.ListN.{length, take, replicate, length-set}
+use Rattle.vector.proofs.Vectors.{fill-turn, take-end}
+use Rattle.vector.proofs.fill_u32.Statement.{statement}
+use Rattle.vector.proofs.fill_u32.Tie as tie
+
+abbrev Inv-loop : tie.InvT-loop
+Inv-loop v₀ x j₀ v j = (length v ≡ length v₀) × (j ≤ length v₀) × (take j v ≡ replicate j x)
+
+abbrev μ-loop : tie.MeasureT-loop
+μ-loop v₀ x j₀ v j = length v₀ - j
+
+loop-holds : tie.Need-loop-holds Inv-loop μ-loop
+loop-holds c = search needs
+
+mul-v : tie.Need-mul-v Inv-loop μ-loop
+mul-v c = search needs
+
+slice-write-v : tie.Need-slice-write-v Inv-loop μ-loop
+slice-write-v c = search needs
+
+add-j : tie.Need-add-j Inv-loop μ-loop
+add-j c = search needs
+
+loop-less : tie.Need-loop-less Inv-loop μ-loop
+loop-less c = search needs
+
+loop-again : tie.Need-loop-again Inv-loop μ-loop
+loop-again c =
+    let l = c .before .loop in
+    (simp length-set (l .inv .0), omega arith, fill-turn (l .v) (l .j) (c .before .before .args .x) (omega arith) (l .inv .2))
+
+same-length : tie.Need-same-length Inv-loop μ-loop
+same-length c = search needs
+
+returns : tie.Need-returns Inv-loop μ-loop
+returns c =
+    let l = c .before .loop in
+    let e : l .j ≡ length (c .before .before .args .v .now) = omega arith in
+    rw (← e) (take-end (l .v) _ (l .j) (omega arith) (l .inv .2))
+
+pub fill-u32-spec : {M : Type 1} → statement M
+fill-u32-spec =
+    tie.close
+    (tie.spec
+    Inv-loop
+    μ-loop
+    loop-holds
+    mul-v
+    slice-write-v
+    add-j
+    loop-less
+    loop-again
+    same-length
+    returns)
