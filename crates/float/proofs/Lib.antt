@@ -2,7 +2,9 @@
 -- ---- f64 in general: order, tests, whole numbers, bounds, powers of two, bit patterns
 pub mod Order
 pub mod Tests
+pub mod Interval
 pub mod Whole
+pub mod Numbers
 pub mod Bound
 pub mod Ranges
 pub mod Sums
@@ -16,6 +18,7 @@ pub mod Rounding
 pub mod Assemble
 pub mod Parts
 -- ---- the definitions of specs/
+pub mod ClampOf
 pub mod Floor
 pub mod Exponential
 pub mod Logarithm

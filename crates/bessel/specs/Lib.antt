@@ -1,0 +1,2 @@
+pub mod Normalizer
+pub mod Concentration

@@ -1,0 +1,164 @@
+// The special functions of vmf.rs and the estimate of a concentration (document 01, 'Concentration and normalizer'). Every f64
+// is taken, NaN and infinities included; a dimension is 1 to 256.
+ghost use mathlib.Core.Path.{_≡_};
+ghost use Rattle.bessel.specs.Normalizer.{lanczosFrom, lanczos, lanczosTerms, lnGammaOf, termsOf, asymptoticOf, termAfter, withTerm, endsAt, peakSumOf, seriesOf, logIvOf, logVmfNormOf};
+ghost use Rattle.bessel.specs.Concentration.{Dimension, kappaMax, Estimated};
+
+// The logarithm of TAU, document 01's.
+const LN_TAU: f64 = 1.8378770664093453;
+
+// The constants of vmf.rs at x.
+fn lanczos_sum(x: f64) -> f64
+    ensures { λ r. ⌜ r ≡ lanczosFrom x lanczos 1 lanczosTerms ⌝ }
+{
+    let a = 0.9999999999998099;
+    let a = a + 676.5203681218851 / (x + 1.0);
+    let a = a + -1259.1392167224028 / (x + 2.0);
+    let a = a + 771.3234287776531 / (x + 3.0);
+    let a = a + -176.6150291621406 / (x + 4.0);
+    let a = a + 12.507343278686905 / (x + 5.0);
+    let a = a + -0.13857109526572012 / (x + 6.0);
+    let a = a + 9.984369578019572e-6 / (x + 7.0);
+    a + 1.5056327351493116e-7 / (x + 8.0)
+}
+
+// ln Gamma(y), by the Lanczos approximation of vmf.rs.
+pub fn ln_gamma(y: f64) -> f64
+    ensures { λ r. ⌜ r ≡ lnGammaOf y ⌝ }
+{
+    let x = y - 1.0;
+    let t = x + 7.0 + 0.5;
+    let a = lanczos_sum(x);
+    0.5 * LN_TAU + (x + 0.5) * float::ln(t) - t + float::ln(a)
+}
+
+// The three terms of DLMF 10.41.3 at p = 1 / w.
+fn asymptotic_terms(nu: f64, w: f64) -> f64
+    ensures { λ r. ⌜ r ≡ termsOf nu w ⌝ }
+{
+    let p = 1.0 / w;
+    let p2 = p * p;
+    let p3 = p * p * p;
+    let u1 = (3.0 * p - 5.0 * p3) / 24.0;
+    let u2 = (81.0 * p2 - 462.0 * p2 * p2 + 385.0 * p3 * p3) / 1152.0;
+    1.0 + u1 / nu + u2 / (nu * nu)
+}
+
+// log I_nu(kappa) by DLMF 10.41.3.
+pub fn log_iv_asymptotic(nu: f64, kappa: f64) -> f64
+    ensures { λ r. ⌜ r ≡ asymptoticOf nu kappa ⌝ }
+{
+    let z = kappa / nu;
+    let w = float::root(1.0 + z * z);
+    let eta = w + float::ln(z / (1.0 + w));
+    let terms = asymptotic_terms(nu, w);
+    nu * eta - 0.5 * float::ln(6.283185307179586 * nu) - 0.5 * float::ln(w) + float::ln(terms)
+}
+
+// What the series hands out: the logarithm of its greatest term, and the sum of all terms over that one.
+pub struct PeakSum {
+    pub peak: f64,
+    pub sum: f64,
+}
+
+// The logarithm of term m, from that of the term before.
+fn term_after(nu: f64, half_ln: f64, m: f64, log_a: f64) -> f64
+    ensures { λ r. ⌜ r ≡ termAfter nu «half_ln» m «log_a» ⌝ }
+{
+    log_a + (2.0 * half_ln - float::ln(m) - float::ln(nu + m))
+}
+
+// The peak and the sum with one term more.
+fn with_term(s: PeakSum, log_a: f64) -> PeakSum
+    ensures { λ r. ⌜ r ≡ withTerm s «log_a» ⌝ }
+{
+    if s.peak < log_a {
+        PeakSum {
+            peak: log_a,
+            sum: s.sum * float::exp(s.peak - log_a) + 1.0,
+        }
+    } else {
+        PeakSum {
+            peak: s.peak,
+            sum: s.sum + float::exp(log_a - s.peak),
+        }
+    }
+}
+
+// Whether the series ends at term m: past the peak with a negligible tail, or out of terms.
+fn ends_at(kappa: f64, m: f64, peak: f64, log_a: f64) -> bool
+    ensures { λ r. ⌜ r ≡ endsAt kappa m peak «log_a» ⌝ }
+{
+    ((kappa * 0.5 < m) & (log_a < peak - 40.0)) | (200000.0 < m)
+}
+
+// The peak and the sum of the series whose first term has the logarithm `first`.
+fn peak_sum(nu: f64, kappa: f64, half_ln: f64, first: f64) -> PeakSum
+    ensures { λ r. ⌜ r ≡ peakSumOf nu kappa «half_ln» first ⌝ }
+{
+    let mut log_a = first;
+    let mut s = PeakSum {
+        peak: first,
+        sum: 1.0,
+    };
+    let mut m = 1.0;
+    loop {
+        log_a = term_after(nu, half_ln, m, log_a);
+        s = with_term(s, log_a);
+        if ends_at(kappa, m, s.peak, log_a) {
+            break PeakSum {
+                peak: s.peak,
+                sum: s.sum,
+            };
+        }
+        m = m + 1.0;
+    }
+}
+
+// log I_nu(kappa) by the power series.
+pub fn log_iv_series(nu: f64, kappa: f64) -> f64
+    ensures { λ r. ⌜ r ≡ seriesOf nu kappa ⌝ }
+{
+    let half_ln = float::ln(kappa * 0.5);
+    let first = -ln_gamma(nu + 1.0);
+    let s = peak_sum(nu, kappa, half_ln, first);
+    nu * half_ln + s.peak + float::ln(s.sum)
+}
+
+// log I_nu(kappa), by the evaluator that serves.
+pub fn log_iv(nu: f64, kappa: f64) -> f64
+    ensures { λ r. ⌜ r ≡ logIvOf nu kappa ⌝ }
+{
+    if nu >= 1.0 && kappa >= 10000.0 {
+        log_iv_asymptotic(nu, kappa)
+    } else {
+        log_iv_series(nu, kappa)
+    }
+}
+
+// The log normalizing constant of the density in dim dimensions.
+pub fn log_vmf_norm(dim: usize, kappa: f64) -> f64
+    requires { ⌜ Dimension dim ⌝ }
+    ensures { λ r. ⌜ r ≡ logVmfNormOf dim kappa ⌝ }
+{
+    let half_d = dim as f64 / 2.0;
+    let nu = half_d - 1.0;
+    nu * float::ln(kappa) - half_d * LN_TAU - log_iv(nu, kappa)
+}
+
+// The greatest concentration in dim dimensions.
+pub fn kappa_max(dim: usize) -> f64
+    ensures { λ r. ⌜ r ≡ kappaMax dim ⌝ }
+{
+    if dim <= 3 { 10000.0 } else { 1000000.0 }
+}
+
+// The concentration of a mean resultant length.
+pub fn estimate_kappa(rbar: f64, dim: usize) -> f64
+    requires { ⌜ Dimension dim ⌝ }
+    ensures { λ r. ⌜ Estimated dim rbar r ⌝ }
+{
+    let d = dim as f64;
+    let r = float::clamp(rbar, 1e-8, 1.0 - 1e-9);
+    float::clamp((r * (d - r * r)) / (1.0 - r * r), 1e-8, kappa_max(dim))
+}
