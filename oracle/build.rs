@@ -4,7 +4,7 @@
 //
 // Changed by textual substitution, the number of matches asserted: the logarithm and the exponential become document 01's;
 // the crate's own paths become the stand-ins of src/standins.rs. Inner doc comments become plain ones, since the files are
-// included inside modules.
+// included inside modules. Appended to vmf.rs: a public function for each private one that is compared.
 use std::path::PathBuf;
 use std::{env, fs};
 
@@ -23,8 +23,22 @@ fn main() {
     vmf = replaced(&vmf, "use crate::feature::ClusterFeature;", "use crate::standins::ClusterFeature;", 1);
     vmf = replaced(&vmf, "use crate::mixture::Mixture;", "use crate::standins::Mixture;", 1);
     vmf = replaced(&vmf, "use crate::types::Real;", "use crate::standins::Real;", 1);
+    vmf.push_str(PROBES);
     fs::write(out.join("vmf.rs"), vmf).unwrap();
 }
+
+const PROBES: &str = "
+pub fn probe_dot(a: &[f64], b: &[f64]) -> f64 { dot(a, b) }
+pub fn probe_norm(v: &[f64]) -> f64 { norm(v) }
+pub fn probe_unit(v: &[f64]) -> Vec<f64> { unit(v) }
+pub fn probe_argmax(v: &[f64]) -> usize { argmax(v) }
+pub fn probe_argmin(v: &[f64]) -> usize { argmin(v) }
+pub fn probe_weighted_pick(w: &[f64], rng: &mut SplitMix64) -> usize { weighted_pick(w, rng) }
+pub fn probe_ln_gamma(x: f64) -> f64 { ln_gamma(x) }
+pub fn probe_log_vmf_norm(dim: usize, kappa: f64) -> f64 { log_vmf_norm(dim, kappa) }
+pub fn probe_estimate_kappa(rbar: f64, dim: usize) -> f64 { estimate_kappa(rbar, dim) }
+pub fn probe_kappa_max(dim: usize) -> f64 { kappa_max(dim) }
+";
 
 fn read(folder: &PathBuf, part: &str, name: &str) -> String {
     let checkout = folder.join("src").join(part).join(name);

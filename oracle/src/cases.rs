@@ -1,9 +1,12 @@
-// The cases. A list is words of 16 hexadecimal digits, each followed by a space or, at the end of a case, a line end. A block
+// The format, and the cases of the arithmetic and of the generator. A list is words of 16 hexadecimal digits, each followed by a space or, at the end of a case, a line end. A block
 // is its kind, the numbers of words in and out of a case, the number of cases, and the cases: the words in, then the answer.
 // Every NaN is written as 7ff8000000000000.
 use crate::document;
 use crate::rng::SplitMix64;
 use std::io::Write;
+
+// The words in, and the answer's.
+pub type Case = (Vec<u64>, Vec<u64>);
 
 pub struct List<W: Write> {
     out: W,
@@ -20,7 +23,7 @@ impl<W: Write> List<W> {
     }
 
     // One block of cases, all of the same shape.
-    pub fn block(&mut self, kind: u64, cases: &[(Vec<u64>, Vec<u64>)]) {
+    pub fn block(&mut self, kind: u64, cases: &[Case]) {
         let (ins, outs) = (cases[0].0.len(), cases[0].1.len());
         self.line(&[kind, ins as u64, outs as u64, cases.len() as u64]);
         for (a, b) in cases {
@@ -36,7 +39,7 @@ impl<W: Write> List<W> {
 }
 
 // The pattern of an f64, all NaN as one.
-fn bits(x: f64) -> u64 {
+pub fn bits(x: f64) -> u64 {
     if x.is_nan() { 0x7FF8_0000_0000_0000 } else { x.to_bits() }
 }
 
@@ -77,21 +80,29 @@ fn patterns(seed: u64) -> Vec<u64> {
 }
 
 // Patterns near a value: the value, and some neighbours on both sides.
-fn around(x: f64, width: u64) -> Vec<u64> {
+pub fn around(x: f64, width: u64) -> Vec<u64> {
     let b = x.to_bits();
     (0..=2 * width).map(|k| b + k - width).collect()
 }
 
-fn one(name: u64, inputs: &[u64], f: fn(f64) -> f64) -> (u64, Vec<(Vec<u64>, Vec<u64>)>) {
+fn one(name: u64, inputs: &[u64], f: fn(f64) -> f64) -> (u64, Vec<Case>) {
     (name, inputs.iter().map(|&b| (vec![b], vec![bits(f(f64::from_bits(b)))])).collect())
 }
 
 // Kinds 1 to 6: root, exp, ln, max, clamp, abs.
 pub fn arithmetic<W: Write>(list: &mut List<W>) {
-    let root = patterns(1);
-    let (kind, cases) = one(1, &root, f64::sqrt);
+    let (kind, cases) = one(1, &patterns(1), f64::sqrt);
     list.block(kind, &cases);
+    let (kind, cases) = one(2, &exp_patterns(), document::exp);
+    list.block(kind, &cases);
+    let (kind, cases) = one(3, &ln_patterns(), document::ln);
+    list.block(kind, &cases);
+    order(list);
+    let (kind, cases) = one(6, &few_patterns(), f64::abs);
+    list.block(kind, &cases);
+}
 
+fn exp_patterns() -> Vec<u64> {
     let mut exp = patterns(2);
     for x in [709.0, -708.0, 0.5, -0.5, 1.0, -1.0, 88.0, -745.2] {
         exp.extend(around(x, 4));
@@ -104,17 +115,20 @@ pub fn arithmetic<W: Write>(list: &mut List<W>) {
     for _ in 0..2048 {
         exp.push((g.next_f64() * 1420.0 - 710.0).to_bits());
     }
-    let (kind, cases) = one(2, &exp, document::exp);
-    list.block(kind, &cases);
+    exp
+}
 
+fn ln_patterns() -> Vec<u64> {
     let mut ln = patterns(4);
     for x in [1.0, 1.4142135623730951, 2.0, std::f64::consts::TAU, 0.7071067811865476, 1e-300, f64::MIN_POSITIVE] {
         ln.extend(around(x, 8));
     }
-    let (kind, cases) = one(3, &ln, document::ln);
-    list.block(kind, &cases);
+    ln
+}
 
-    let few: Vec<u64> = few_patterns();
+// Kinds 4 and 5.
+fn order<W: Write>(list: &mut List<W>) {
+    let few = few_patterns();
     let mut max = Vec::new();
     let mut clamp = Vec::new();
     for &a in &few {
@@ -134,8 +148,6 @@ pub fn arithmetic<W: Write>(list: &mut List<W>) {
     }
     list.block(4, &max);
     list.block(5, &clamp);
-    let (kind, cases) = one(6, &few, f64::abs);
-    list.block(kind, &cases);
 }
 
 fn few_patterns() -> Vec<u64> {
@@ -146,21 +158,24 @@ fn few_patterns() -> Vec<u64> {
     all
 }
 
-// Kinds 7 to 10: draws of the generator (state in; number and fraction out), the product modulo 2^64, restart seeds.
-pub fn generator<W: Write>(list: &mut List<W>) {
+pub fn seeds() -> Vec<u64> {
     let mut seeds: Vec<u64> = vec![0, 1, 7, 1234567, u64::MAX, 1 << 63, 0x9E37_79B9_7F4A_7C15, 0x61C8_8646_80B5_83EB];
     let mut g = SplitMix64::new(5);
     for _ in 0..1024 {
         seeds.push(g.next_u64());
     }
-    let draws: Vec<_> = seeds
-        .iter()
-        .map(|&s| {
-            let n = SplitMix64::new(s).next_u64();
-            let x = SplitMix64::new(s).next_f64();
-            (vec![s], vec![n, bits(x)])
-        })
-        .collect();
+    seeds
+}
+
+// Kinds 7 to 10: draws of the generator (state in; number and fraction out), the product modulo 2^64, restart seeds.
+pub fn generator<W: Write>(list: &mut List<W>) {
+    let seeds = seeds();
+    let mut draws = Vec::new();
+    for &s in &seeds {
+        let n = SplitMix64::new(s).next_u64();
+        let x = SplitMix64::new(s).next_f64();
+        draws.push((vec![s], vec![n, bits(x)]));
+    }
     list.block(7, &draws);
     // the 1st, 2nd, .. 64th draw of a seed, one after the other
     let mut runs = Vec::new();
@@ -170,7 +185,17 @@ pub fn generator<W: Write>(list: &mut List<W>) {
         runs.push((vec![s], outs));
     }
     list.block(8, &runs);
+    list.block(9, &products(&seeds));
+    let mut restarts = Vec::new();
+    for &seed in &seeds[..64] {
+        for s in 0..4u64 {
+            restarts.push((vec![seed, s], vec![seed.wrapping_add(s.wrapping_mul(0x9E37_79B9))]));
+        }
+    }
+    list.block(10, &restarts);
+}
 
+fn products(seeds: &[u64]) -> Vec<Case> {
     let mut products = Vec::new();
     for (i, &a) in seeds.iter().enumerate() {
         let b = seeds[(i * 7 + 3) % seeds.len()];
@@ -181,13 +206,5 @@ pub fn generator<W: Write>(list: &mut List<W>) {
             products.push((vec![a, b], vec![a.wrapping_mul(b)]));
         }
     }
-    list.block(9, &products);
-
-    let mut restarts = Vec::new();
-    for &seed in &seeds[..64] {
-        for s in 0..4u64 {
-            restarts.push((vec![seed, s], vec![seed.wrapping_add(s.wrapping_mul(0x9E37_79B9))]));
-        }
-    }
-    list.block(10, &restarts);
+    products
 }
