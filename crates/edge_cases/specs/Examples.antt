@@ -6,10 +6,11 @@ use mathlib.Core.Bool.{true, false}
 use Prim.Native.Nat.{ℕ}
 use lib.IntN.{pos, negsuc}
 use lib.Ieee.{Float, inf, fin, add, sub, mul, div, neg, lt, isNan, ofInt, ofBits, round, size}
-use Rattle.float.specs.Arithmetic.{number, plusZero, minusZero}
+use Rattle.float.specs.Arithmetic.{number, plusZero, minusZero, clampOf}
 use Rattle.float.specs.Root.{rootOf}
 use Rattle.float.specs.Exponential.{expOf}
 use Rattle.float.specs.Logarithm.{lnOf}
+use Rattle.bessel.specs.Concentration.{estimateOf, kappaMax}
 
 -- an answer is one or more values
 pub data Value : Type 0 where
@@ -38,6 +39,12 @@ table =
     ∷ row (one (float (expOf (neg (number 709))))) (one (float plusZero))
     ∷ row (one (float (lnOf (number 1)))) (one (float plusZero))
     ∷ row (one (float (lnOf minusZero))) (one (float (inf true)))
+    -- estimate 0.5 at d = 4 is 2.5, at d = 1 is 0.5
+    ∷ row (one (float (estimateOf 4 (fin false 1 (negsuc 0))))) (one (float (fin false 5 (negsuc 0))))
+    ∷ row (one (float (estimateOf 1 (fin false 1 (negsuc 0))))) (one (float (fin false 1 (negsuc 0))))
+    -- cap at d = 3 is 1e4, at d = 4 is 1e6
+    ∷ row (one (float (kappaMax 3))) (one (float (number 10000)))
+    ∷ row (one (float (kappaMax 4))) (one (float (number 1000000)))
     ∷ []
 
 abbrev allGive : List Row → List (List Value)
@@ -50,5 +57,5 @@ allSay (r ∷ rs) = r .says ∷ allSay rs
 
 -- every definition gives what document 01 says
 pub examples : allGive table ≡ allSay table
-unfolding table rootOf expOf lnOf add sub mul div neg lt isNan ofInt ofBits round size
+unfolding table rootOf expOf lnOf estimateOf clampOf add sub mul div neg lt isNan ofInt ofBits round size
 examples = refl
