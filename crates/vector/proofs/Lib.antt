@@ -1,2 +1,3 @@
 pub mod Rows
 pub mod Vectors
+pub mod Fours

@@ -4,7 +4,7 @@ use mathlib.Core.Path.{_≡_, refl, ap, sym, _∙_}
 use mathlib.Core.List.{List, [], _∷_, _++_, append-assoc, append-nil}
 use mathlib.Core.Bool.{Bool, true, false, cond}
 use mathlib.Core.Logic.{⊎-elim}
-use Prim.Native.Nat.{ℕ, suc, _+_, _-_, _≤_, _<_, min, max}
+use Prim.Native.Nat.{ℕ, zero, suc, _+_, _-_, _≤_, _<_, min, max}
 use native.Mathlib.Numerals.{add-one}
 use native.Mathlib.Omega.{arith}
 use lib.ListN.{length, getD, take, drop, set, replicate, replicate-append-replicate, drop-of-length-le, take-append-drop}
@@ -12,7 +12,7 @@ use lib.Seq.{drop-cons, take-suc, take-suc-set, drop-set-lt, take-all}
 use lib.Ieee.{Float, nan, binary64, add, sub, mul, div, lt, le}
 use Rattle.float.specs.Arithmetic.{plusZero, sumFrom, dotFrom}
 use Rattle.float.proofs.Order.{lt-or-ge}
-use Rattle.vector.specs.Vectors.{dividedBy, addScaled, argmaxUpTo, argminUpTo}
+use Rattle.vector.specs.Vectors.{normOf, dividedBy, unitVector, addScaled, argmaxUpTo, argmaxOf, argminUpTo, argminOf}
 use Rattle.vector.specs.Pick.{pickFrom}
 
 -- sums
@@ -61,9 +61,26 @@ module _ (n : Float) (l from : List Float) (j : ℕ) where
   pub divide-end : length l ≤ j → length from ≤ j → take j l ++ dividedBy n (drop j from) ≡ l
   divide-end hl hf = rw (drop-of-length-le from hf, take-all, append-nil)
 
+-- a list divided by n in place
+pub divide-by-turn : (n : Float) (l : List Float) (j : ℕ) → j < length l
+    → take (j + 1) (set l j (div binary64 (getD l j nan) n)) ++ dividedBy n (drop (j + 1) (set l j (div binary64 (getD l j nan) n)))
+    ≡ take j l ++ dividedBy n (drop j l)
+divide-by-turn n l j h =
+    let g : j < suc j = omega arith in
+    rw (add-one, take-suc-set, drop-set-lt, drop-cons l j nan, append-assoc)
+
 pub divide-length : (n : Float) (l : List Float) → length (dividedBy n l) ≡ length l
 divide-length n [] = refl
 divide-length n (x ∷ l) = ap suc (divide-length n l)
+
+-- a unit vector is as long as the vector
+either-length : (t : Bool) (n : Float) (v : List Float) → length (cond t (dividedBy n v) v) ≡ length v
+either-length true n v = divide-length n v
+either-length false n v = refl
+
+pub unit-length : (v : List Float) → length (unitVector v) ≡ length v
+unfolding unitVector
+unit-length v = either-length (lt plusZero (normOf v)) (normOf v) v
 
 -- a list with w times another added
 add-scaled-nil : (w : Float) (l : List Float) → addScaled w l [] ≡ l
@@ -122,6 +139,29 @@ pub argmin-end : (v : List Float) (i : ℕ) → i ≡ max (length v) 1 → argmi
 unfolding argminUpTo
 argmin-end [] i e = let f : i ≡ 1 = omega arith in rw f (argmin-one [])
 argmin-end (x ∷ v) i e = let f : i ≡ suc (length v) = omega arith in rw f
+
+-- the place lies in the vector, if it is not empty
+either-below : (t : Bool) (i best n : ℕ) → i < n → best < n → cond t i best < n
+either-below true i best n h g = h
+either-below false i best n h g = g
+
+argmax-within : (v : List Float) (n : ℕ) → 0 < length v → n ≤ length v → argmaxUpTo v n < length v
+unfolding argmaxUpTo
+argmax-within v zero h g = h
+argmax-within v (suc i) h g =
+    either-below (lt (getD v (argmaxUpTo v i) nan) (getD v i nan)) i (argmaxUpTo v i) (length v) g (argmax-within v i h (omega arith))
+
+argmin-within : (v : List Float) (n : ℕ) → 0 < length v → n ≤ length v → argminUpTo v n < length v
+unfolding argminUpTo
+argmin-within v zero h g = h
+argmin-within v (suc i) h g =
+    either-below (lt (getD v i nan) (getD v (argminUpTo v i) nan)) i (argminUpTo v i) (length v) g (argmin-within v i h (omega arith))
+
+pub argmax-below : (v : List Float) → 0 < length v → argmaxOf v < length v
+argmax-below v h = argmax-within v (length v) h (omega arith)
+
+pub argmin-below : (v : List Float) → 0 < length v → argminOf v < length v
+argmin-below v h = argmin-within v (length v) h (omega arith)
 
 -- the pick: at the place sought, past another, and past all
 module _ (t : Float) (w : List Float) (i : ℕ) where

@@ -1,3 +1,4 @@
 pub mod Rows
 pub mod Vectors
 pub mod Pick
+pub mod Fours

@@ -2,7 +2,7 @@
 -- length. Definitions only.
 use mathlib.Core.Path.{_≡_}
 use mathlib.Core.List.{List, [], _∷_, _++_}
-use Prim.Native.Nat.{ℕ, zero, suc, _+_, _*_}
+use Prim.Native.Nat.{ℕ, zero, suc, _+_, _*_, _≤_}
 use lib.ListN.{length, take, drop}
 
 -- the n elements from place `at` on, and the list with others in their place
@@ -19,6 +19,11 @@ rowOf l d c = part l (c * d) d
 -- what a function that writes a whole row asks: a row as long as what is written
 pub record Alike {A : Type 0} {B : Type 0} (a : List A) (b : List B) : Type 0 where
   pub same : length a ≡ length b
+
+-- what a copy within one array asks: two parts of n elements that do not meet, the one written before the one read
+pub record Apart (length from to n : ℕ) : Type 0 where
+  pub order : to + n ≤ from
+  pub within : from + n ≤ length
 
 -- the list cut into regions of these lengths, in this order; what is left over is in none
 abbrev pub cut : {A : Type 0} → List ℕ → List A → List (List A)

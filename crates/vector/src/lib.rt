@@ -5,7 +5,8 @@ ghost use mathlib.Core.Path.{_≡_};
 ghost use Prim.Native.Nat.{min, max};
 ghost use lib.ListN.{length, replicate};
 ghost use Rattle.float.specs.Arithmetic.{minusZero, plusZero, sumFrom};
-ghost use Rattle.vector.specs.Rows.{Alike};
+ghost use Rattle.vector.specs.Rows.{Alike, Apart, part, putPart};
+ghost use Rattle.vector.specs.Fours.{FourRows, dotsOf};
 ghost use Rattle.vector.specs.Vectors.{dotOf, normOf, dividedBy, unitVector, addScaled, argmaxOf, argminOf};
 ghost use Rattle.vector.specs.Pick.{pickOf, pickFrom};
 
@@ -28,6 +29,36 @@ pub fn dot(a: &[f64], b: &[f64]) -> f64
         j += 1;
     }
     s
+}
+
+// The dots with four vectors.
+pub struct Four {
+    pub a: f64,
+    pub b: f64,
+    pub c: f64,
+    pub e: f64,
+}
+
+// The dots of x with four vectors of one length, in four accumulators.
+pub fn dot4(x: &[f64], p: &[f64], q: &[f64], r: &[f64], s: &[f64]) -> Four
+    requires { ⌜ FourRows (now p) (now q) (now r) (now s) ⌝ }
+    ensures { λ f. ⌜ f ≡ dotsOf (now (x .entry)) (now (p .entry)) (now (q .entry)) (now (r .entry)) (now (s .entry)) ⌝ }
+{
+    let n = shorter(x.len(), p.len());
+    let mut a = -0.0;
+    let mut b = -0.0;
+    let mut c = -0.0;
+    let mut e = -0.0;
+    let mut j = 0;
+    while j < n {
+        let v = x[j];
+        a = a + v * p[j];
+        b = b + v * q[j];
+        c = c + v * r[j];
+        e = e + v * s[j];
+        j += 1;
+    }
+    Four { a, b, c, e }
 }
 
 // The root of the sum of the squares.
@@ -118,6 +149,29 @@ pub fn divide(to: &mut [f64], from: &[f64], n: f64)
     let mut j = 0;
     while j < from.len() {
         to[j] = from[j] / n;
+        j += 1;
+    }
+}
+
+// Every element is divided by n.
+pub fn divide_by(row: &mut [f64], n: f64)
+    ensures { λ _. ⌜ now (row .exit) ≡ dividedBy n (now (row .entry)) ⌝ }
+{
+    let mut j = 0;
+    while j < row.len() {
+        row[j] = row[j] / n;
+        j += 1;
+    }
+}
+
+// A part of an array copied over an earlier one of the same array.
+pub fn copy_within(w: &mut [f64], from: usize, to: usize, n: usize)
+    requires { ⌜ Apart (length (now w)) from to n ⌝ }
+    ensures { λ _. ⌜ now (w .exit) ≡ putPart (now (w .entry)) to n (part (now (w .entry)) from n) ⌝ }
+{
+    let mut j = 0;
+    while j < n {
+        w[to + j] = w[from + j];
         j += 1;
     }
 }

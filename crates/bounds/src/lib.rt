@@ -1,0 +1,205 @@
+// A leaf's bounds and its best centre (vmf.rs; document 01, 'Spherical k-means'): the shifts of the bounds after the centres
+// turned, the two smallest drifts, the skip, and the best of the centres with the next best dot.
+ghost use mathlib.Core.Path.{_≡_};
+ghost use Prim.Native.Nat.{_+_, _*_, _-_, _<_, _≤_};
+ghost use lib.ListN.{length};
+ghost use Rattle.vector.specs.Rows.{rowOf};
+ghost use Rattle.vector.specs.Vectors.{dotOf};
+ghost use Rattle.bounds.specs.Shifts.{sinesOf, shiftLower, shiftUpper, slowerOf, slowestUpTo, shiftedBounds, skips};
+ghost use Rattle.bounds.specs.Nearest.{betterOf, bestTo, rowDots, Centers};
+
+// The sines of two angles multiplied, from their cosines.
+fn sines(a: f64, p: f64) -> f64
+    ensures { λ r. ⌜ r ≡ sinesOf a p ⌝ }
+{
+    float::root(float::max((1.0 - a * a) * (1.0 - p * p), 0.0))
+}
+
+// A lower bound on a cosine after its centre turned by p.
+pub fn shift_lower(l: f64, p: f64) -> f64
+    ensures { λ r. ⌜ r ≡ shiftLower l p ⌝ }
+{
+    let l = float::clamp(l, -1.0, 1.0);
+    let p = float::clamp(p, -1.0, 1.0);
+    if l < -p {
+        return -1.0;
+    }
+    l * p - sines(l, p)
+}
+
+// An upper bound on a cosine after its centre turned by p.
+pub fn shift_upper(u: f64, p: f64) -> f64
+    ensures { λ r. ⌜ r ≡ shiftUpper u p ⌝ }
+{
+    let u = float::clamp(u, -1.0, 1.0);
+    let p = float::clamp(p, -1.0, 1.0);
+    if p <= u {
+        return 1.0;
+    }
+    u * p + sines(u, p)
+}
+
+// The place of the smallest drift, it, and the next smallest.
+pub struct Slowest {
+    pub at: usize,
+    pub least: f64,
+    pub next: f64,
+}
+
+// With drift p of centre c.
+fn slower(s: Slowest, c: usize, p: f64) -> Slowest
+    ensures { λ r. ⌜ r ≡ slowerOf s c p ⌝ }
+{
+    if p < s.least {
+        return Slowest {
+            at: c,
+            least: p,
+            next: s.least,
+        };
+    }
+    if p < s.next {
+        return Slowest {
+            at: s.at,
+            least: s.least,
+            next: p,
+        };
+    }
+    s
+}
+
+// The two smallest entries.
+pub fn two_smallest(drift: &[f64]) -> Slowest
+    ensures { λ r. ⌜ r ≡ slowestUpTo (now (drift .entry)) (length (now (drift .entry))) ⌝ }
+{
+    let most = 1.0 / 0.0;
+    let mut s = Slowest {
+        at: 0,
+        least: most,
+        next: most,
+    };
+    let mut c = 0;
+    while c < drift.len() {
+        s = slower(s, c, drift[c]);
+        c += 1;
+    }
+    s
+}
+
+// A leaf's bounds: the norm of its mean, a lower bound on the cosine to its own centre, an upper one on that to any other.
+pub struct Bounds {
+    pub scale: f64,
+    pub low: f64,
+    pub high: f64,
+}
+
+// The bounds after the leaf's centre turned by `own` and the others by `other` at most.
+pub fn shifted(b: Bounds, own: f64, other: f64, several: bool) -> Bounds
+    ensures { λ r. ⌜ r ≡ shiftedBounds several own other b ⌝ }
+{
+    if several {
+        return Bounds {
+            scale: b.scale,
+            low: shift_lower(b.low, own),
+            high: shift_upper(b.high, other),
+        };
+    }
+    Bounds {
+        scale: b.scale,
+        low: shift_lower(b.low, own),
+        high: b.high,
+    }
+}
+
+// Whether the leaf is skipped in round `it`.
+pub fn is_skipped(b: Bounds, it: usize) -> bool
+    ensures { λ r. ⌜ r ≡ skips it b ⌝ }
+{
+    if it > 0 {
+        if b.scale > 0.0 {
+            return b.low - b.high >= 1e-12;
+        }
+    }
+    false
+}
+
+// A leaf's best centre, its dot, and the next best dot.
+pub struct Best {
+    pub index: usize,
+    pub dot: f64,
+    pub second: f64,
+}
+
+// With centre c, whose dot is v.
+fn better(b: Best, c: usize, v: f64) -> Best
+    ensures { λ r. ⌜ r ≡ betterOf b c v ⌝ }
+{
+    if b.dot < v {
+        return Best {
+            index: c,
+            dot: v,
+            second: b.dot,
+        };
+    }
+    if b.second < v {
+        return Best {
+            index: b.index,
+            dot: b.dot,
+            second: v,
+        };
+    }
+    b
+}
+
+// The dot with row c of the centres.
+fn row_dot(x: &[f64], centers: &[f64], c: usize, d: usize) -> f64
+    requires { ⌜ c * d + d ≤ length (now centers) ⌝ }
+    ensures { λ r. ⌜ r ≡ dotOf (now (x .entry)) (rowOf (now (centers .entry)) d c) ⌝ }
+{
+    let at = c * d;
+    vector::dot(x, &centers[at..at + d])
+}
+
+// The dots with rows c to c + 3 of the centres.
+fn row_dots(x: &[f64], centers: &[f64], c: usize, d: usize) -> vector::Four
+    requires { ⌜ (c + 4) * d ≤ length (now centers) ⌝ }
+    ensures { λ r. ⌜ r ≡ rowDots (now (x .entry)) (now (centers .entry)) d c ⌝ }
+{
+    let p = c * d;
+    let q = p + d;
+    let r = q + d;
+    let s = r + d;
+    vector::dot4(
+        x,
+        &centers[p..q],
+        &centers[q..r],
+        &centers[r..s],
+        &centers[s..s + d],
+    )
+}
+
+// The best of k centres of d coordinates, the first of equals: the first, then by fours, then singly.
+pub fn best_of(x: &[f64], centers: &[f64], k: usize, d: usize) -> Best
+    requires { ⌜ Centers (length (now centers)) k d ⌝ }
+    ensures { λ r. ⌜ r ≡ bestTo (now (x .entry)) (now (centers .entry)) d (k - 1) ⌝ }
+{
+    let mut b = Best {
+        index: 0,
+        dot: row_dot(x, centers, 0, d),
+        second: -1.0 / 0.0,
+    };
+    let mut c = 1;
+    while 4 <= k - c {
+        let f = row_dots(x, centers, c, d);
+        b = better(b, c, f.a);
+        b = better(b, c + 1, f.b);
+        b = better(b, c + 2, f.c);
+        b = better(b, c + 3, f.e);
+        c += 4;
+    }
+    while c < k {
+        let v = row_dot(x, centers, c, d);
+        b = better(b, c, v);
+        c += 1;
+    }
+    b
+}

@@ -1,0 +1,17 @@
+-- Four dot products at once. Definitions only.
+use mathlib.Core.Path.{_≡_}
+use mathlib.Core.List.{List}
+use lib.ListN.{length}
+use lib.Ieee.{Float}
+use Rattle.vector.specs.Vectors.{dotOf}
+use Rattle.vector.specs.declared.Four.{Four}
+
+-- what the four dots at once ask: vectors of one length
+pub record FourRows (p q r s : List Float) : Type 0 where
+  pub second : length q ≡ length p
+  pub third : length r ≡ length p
+  pub last : length s ≡ length p
+
+-- the dot of x with each of the four
+abbrev pub dotsOf : List Float → List Float → List Float → List Float → List Float → Four
+dotsOf x p q r s = record { a = dotOf x p; b = dotOf x q; c = dotOf x r; e = dotOf x s }
