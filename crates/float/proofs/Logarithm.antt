@@ -25,7 +25,7 @@ use Rattle.float.proofs.Whole.{sub-whole}
 use Rattle.float.proofs.Tests.{zero-digits, not-below, not-zero}
 use Rattle.float.proofs.Rounding.{size-gt}
 use Rattle.float.proofs.Units.{parts-of, places}
-use Rattle.float.proofs.Parts.{units-whole, units-digits, units-split, units-size}
+use Rattle.float.proofs.Parts.{in-whole, units-whole, units-digits, units-split, units-size}
 
 -- ---- one more than a − b
 minus-next : (a b : ℕ) → minus a b +ℤ pos 1 ≡ minus (a + 1) b
@@ -57,7 +57,7 @@ by-rest n f h = rw h
 module _ (x : Float) (h : T (fits binary64 x)) (p : T (positive x)) (m e : ℕ) (s : SplitOf x m e) where
   exponent-is : exponentOf x ≡ minus (e + 1) 1075
   unfolding exponentOf
-  exponent-is = ap (λ (n : ℕ). minus n 1075) (units-size x h p m e s)
+  exponent-is = ap (λ (n : ℕ). minus n 1075) (units-size x (in-whole x p h) m e s)
 
   less : minus e 1074 ≡ exponentOf x
   less = minus-same e 1074 (e + 1) 1075 (omega arith) ∙ sym exponent-is
@@ -73,8 +73,8 @@ module _ (x : Float) (h : T (fits binary64 x)) (p : T (positive x)) (m e : ℕ) 
   fraction-is =
       let one : e + 1 - 1 ≡ e = omega arith in
       round-same binary64 false (m * 2 ^ 1022) (2 ^ 1074) (unitsOf x) (2 ^ e) (pow-pos 1074) (pow-pos e)
-      (mul-right-comm m (2 ^ 1022) (2 ^ e) ∙ ap (λ (z : ℕ). z * 2 ^ 1022) (sym (units-split x h p m e s)) ∙ mul-assoc (unitsOf x) (2 ^ 52) (2 ^ 1022))
-      ∙ ap (λ (n : ℕ). round binary64 false (unitsOf x) (2 ^ n)) (sym (ap (λ (n : ℕ). n - 1) (units-size x h p m e s) ∙ one))
+      (mul-right-comm m (2 ^ 1022) (2 ^ e) ∙ ap (λ (z : ℕ). z * 2 ^ 1022) (sym (units-split x (in-whole x p h) m e s)) ∙ mul-assoc (unitsOf x) (2 ^ 52) (2 ^ 1022))
+      ∙ ap (λ (n : ℕ). round binary64 false (unitsOf x) (2 ^ n)) (sym (ap (λ (n : ℕ). n - 1) (units-size x (in-whole x p h) m e s) ∙ one))
 
   pub ln-above : (f : Float) → f ≡ valueOf m 1022 → lt (f64 0x3FF6A09E667F3BCD) f ≡ true
       → lnAt (sub binary64 (number e) (number 1073)) (mul binary64 f (f64 0x3FE0000000000000)) ≡ lnBy (exponentOf x) (fractionOf x)
@@ -205,4 +205,4 @@ parts-are (fin false (suc m) e) h p =
     let d = units-digits m e h in
     let c : 0 < unitsOf x = subst (λ (z : ℕ). 0 < z) (sym d) (mul-pos (zero-lt-suc m) (pow-pos (places e 1074))) in
     two-parts (unitsOf x) c x (round binary64 false (unitsOf x) (leading (unitsOf x)))
-    (exact-at (unitsOf x) c (suc m) (places e 1074) d (parts-of binary64 false m e h .few)) (units-whole x h p)
+    (exact-at (unitsOf x) c (suc m) (places e 1074) d (parts-of binary64 false m e h .few)) (units-whole x (in-whole x p h))

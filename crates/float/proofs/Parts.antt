@@ -18,14 +18,18 @@ use Rattle.float.proofs.Rounding.{size-gt}
 use Rattle.float.proofs.Scaling.{Multiple}
 use Rattle.float.proofs.Units.{grained-of-fits, parts-of, in-units, places}
 
-exactly : (a d : ℕ) → 0 < d → Multiple a d 1074 → a * 2 ^ 1074 / d * d ≡ a * 2 ^ 1074
-exactly a d D u = ap (λ (z : ℕ). z / d * d) (u .is) ∙ ap (λ (z : ℕ). z * d) (mul-div-cancel (u .times) D) ∙ sym (u .is)
+-- every f64 is a whole number of units of 2^−1074
+abbrev pub InUnits : Float → Type 0
+InUnits x = Multiple (num x) (den x) 1074
 
-pub units-whole : (x : Float) → T (fits binary64 x) → T (positive x) → unitsOf x * den x ≡ num x * 2 ^ 1074
+pub in-whole : (x : Float) → T (positive x) → T (fits binary64 x) → InUnits x
+in-whole nan p h = absurd p
+in-whole (inf s) p h = absurd p
+in-whole (fin s m e) p h = grained-of-fits binary64 (fin s m e) h tt
+
+pub units-whole : (x : Float) → InUnits x → unitsOf x * den x ≡ num x * 2 ^ 1074
 unfolding unitsOf
-units-whole nan f p = absurd p
-units-whole (inf s) f p = absurd p
-units-whole (fin s m e) f p = exactly (m * up e) (down e) (down-pos e) (grained-of-fits binary64 (fin s m e) f tt)
+units-whole x w = ap (λ (z : ℕ). z / den x * den x) (w .is) ∙ ap (λ (z : ℕ). z * den x) (mul-div-cancel (w .times) (den-pos x)) ∙ sym (w .is)
 
 -- the units of a float written in the one way: its odd digits, as many places up
 pub units-digits : (m : ℕ) (e : ℤ) → T (fits binary64 (fin false (suc m) e)) → unitsOf (fin false (suc m) e) ≡ suc m * 2 ^ places e 1074
@@ -40,11 +44,11 @@ size-is n e l h =
     let b : size n ≤ e + 1 = size-le n (e + 1) h in
     omega arith
 
-module _ (x : Float) (f : T (fits binary64 x)) (p : T (positive x)) (m e : ℕ) (s : SplitOf x m e) where
+module _ (x : Float) (w : InUnits x) (m e : ℕ) (s : SplitOf x m e) where
   pub units-split : unitsOf x * 2 ^ 52 ≡ m * 2 ^ e
   units-split =
       eq-of-mul-eq-mul-right (den x) (den-pos x) (unitsOf x * 2 ^ 52) (m * 2 ^ e)
-      (mul-right-comm (unitsOf x) (2 ^ 52) (den x) ∙ ap (λ (z : ℕ). z * 2 ^ 52) (units-whole x f p) ∙ mul-assoc (num x) (2 ^ 1074) (2 ^ 52) ∙ s .value)
+      (mul-right-comm (unitsOf x) (2 ^ 52) (den x) ∙ ap (λ (z : ℕ). z * 2 ^ 52) (units-whole x w) ∙ mul-assoc (num x) (2 ^ 1074) (2 ^ 52) ∙ s .value)
 
   pub units-size : size (unitsOf x) ≡ e + 1
   units-size =

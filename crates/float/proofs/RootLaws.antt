@@ -15,7 +15,8 @@ use Rattle.float.specs.Root.{nearRoot, rootOf}
 use Rattle.float.specs.Steps.{SplitOf, valueOf}
 use Rattle.float.proofs.Assemble.{exact}
 use Rattle.float.proofs.Scaling.{scale, shifted, scale-val, round-scale}
-use Rattle.float.proofs.RootOf.{InUnits, in-whole, near-digits, root-digits, apart, split-exists}
+use Rattle.float.proofs.Parts.{InUnits, in-whole}
+use Rattle.float.proofs.RootOf.{near-digits, root-digits, apart, split-exists}
 
 -- ---- y·2^k units, scaled
 finite-odd : (y k : ℕ) → T (finite (odd 54 false y k 1074))

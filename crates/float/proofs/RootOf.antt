@@ -14,9 +14,12 @@ use lib.Ieee.Digits.{size-lt, size-le, size-reaches}
 use lib.Ieee.Fits.{up-pos, and-l, and-i, eq→eqb}
 use lib.Ieee.Positive.{num, den, den-pos, positive}
 use lib.Ieee.Scale.{round-same}
+use Rattle.float.specs.Arithmetic.{plusZero}
 use Rattle.float.specs.Root.{unitsOf, nearRoot, placesOf, radicandOf, positiveRoot, rootOf}
 use Rattle.float.specs.Steps.{SplitOf, Nearest, valueOf}
 use Rattle.float.proofs.Rounding.{size-gt}
+use Rattle.float.proofs.Tests.{zero-digits, not-below}
+use Rattle.float.proofs.Parts.{InUnits, units-split, units-size}
 use Rattle.float.proofs.Roots.{Paired, paired, paired-near, nearest-one}
 use Rattle.float.proofs.Scaling.{Multiple}
 use Rattle.float.proofs.Units.{parts-of, reached, places, in-units, grained-of-fits}
@@ -40,45 +43,13 @@ more-places h =
     let k : h + 485 ≡ h + 1 + 484 = omega arith in
     ap (λ (z : ℕ). 2 ^ z) k ∙ pow-add 2 (h + 1) 484
 
--- ---- every f64 is a whole number of units of 2^−1074
-abbrev pub InUnits : Float → Type 0
-InUnits x = Multiple (num x) (den x) 1074
-
-pub in-whole : (x : Float) → T (positive x) → T (fits binary64 x) → InUnits x
-in-whole nan p h = absurd p
-in-whole (inf s) p h = absurd p
-in-whole (fin s m e) p h = grained-of-fits binary64 (fin s m e) h tt
-
 -- ---- the definition's parts, of a float that is taken apart
 module _ (x : Float) (m e : ℕ) (s : SplitOf x m e) (w : InUnits x) where
-  whole : unitsOf x ≡ w .times
-  unfolding unitsOf
-  whole = ap (λ (z : ℕ). z / den x) (w .is) ∙ mul-div-cancel (w .times) (den-pos x)
-
-  raised : w .times * 2 ^ 52 ≡ m * 2 ^ e
-  raised =
-      eq-of-mul-eq-mul-right (den x) (den-pos x) (w .times * 2 ^ 52) (m * 2 ^ e)
-      (mul-right-comm (w .times) (2 ^ 52) (den x) ∙ ap (λ (z : ℕ). z * 2 ^ 52) (sym (w .is)) ∙ mul-assoc (num x) (2 ^ 1074) (2 ^ 52) ∙ s .value)
-
-  sized : size (w .times) ≡ e + 1
-  sized =
-      let lo : 2 ^ e ≤ w .times = le-of-mul-le-mul-right {k = 2 ^ 52} (le-trans (mul-le-mul-left' (2 ^ e) (s .first)) (le-of-eq (sym raised))) (pow-pos 52) in
-      let hi : w .times < 2 ^ (e + 1) = lt-of-mul-lt-mul-right (2 ^ 52) (lt-of-le-of-lt (le-of-eq raised) (lt-of-lt-of-le (mul-lt-mul-of-pos-right (s .last) (pow-pos e)) (le-of-eq last-place))) in
-      let a : e < size (w .times) = size-gt (w .times) e lo in
-      let b : size (w .times) ≤ e + 1 = size-le (w .times) (e + 1) hi in
-      omega arith
-    where
-      mul-le-mul-left' : (p : ℕ) → 2 ^ 52 ≤ m → p * 2 ^ 52 ≤ m * p
-      mul-le-mul-left' p h = le-trans (le-of-eq (mul-comm p (2 ^ 52))) (mul-le-mul-right p h)
-
-      last-place : 2 ^ 53 * 2 ^ e ≡ 2 ^ (e + 1) * 2 ^ 52
-      last-place = rw (pow-add 2 e 1) (mul-comm (2 ^ 53) (2 ^ e) ∙ sym (mul-assoc (2 ^ e) 2 (2 ^ 52)))
-
   pub places-are : placesOf x ≡ e / 2 + 1
   unfolding placesOf
   places-are =
       let a : (e + 1 + 1) / 2 ≡ e / 2 + 1 = omega arith in
-      ap (λ (z : ℕ). (z + 1) / 2) (ap size whole ∙ sized) ∙ a
+      ap (λ (z : ℕ). (z + 1) / 2) (units-size x w m e s) ∙ a
 
   at-radicand : m * 2 ^ e * 2 ^ 54 ≡ m * 2 ^ (e % 2) * 2 ^ 52 * 4 ^ (e / 2 + 1)
   at-radicand =
@@ -92,8 +63,8 @@ module _ (x : Float) (m e : ℕ) (s : SplitOf x m e) (w : InUnits x) where
   pub radicand-is : radicandOf x ≡ m * 2 ^ (e % 2) * 2 ^ 52
   unfolding radicandOf
   radicand-is =
-      ap₂ (λ (a b : ℕ). a / 4 ^ b) (ap (λ (z : ℕ). z * 2 ^ 106) whole) places-are
-      ∙ ap (λ (z : ℕ). z / 4 ^ (e / 2 + 1)) (sym (mul-assoc (w .times) (2 ^ 52) (2 ^ 54)) ∙ ap (λ (z : ℕ). z * 2 ^ 54) raised ∙ at-radicand)
+      ap (λ (b : ℕ). unitsOf x * 2 ^ 106 / 4 ^ b) places-are
+      ∙ ap (λ (z : ℕ). z / 4 ^ (e / 2 + 1)) (sym (mul-assoc (unitsOf x) (2 ^ 52) (2 ^ 54)) ∙ ap (λ (z : ℕ). z * 2 ^ 54) (units-split x w m e s) ∙ at-radicand)
       ∙ mul-div-cancel (m * 2 ^ (e % 2) * 2 ^ 52) (rw (fours (e / 2 + 1)) (mul-pos (pow-pos (e / 2 + 1)) (pow-pos (e / 2 + 1))))
 
   -- x as a fraction: the radicand's 4^(e / 2 + 1), in units of 2^−1180
@@ -170,18 +141,18 @@ split-exists (fin false (suc m) e) p h =
     deep (negsuc k) h = omega (arith, reached (suc k) 1074 h)
 
 -- ---- the cases of `rootOf`
-pub of-zero : (x : Float) → eq x (fin false 0 (pos 0)) ≡ true → x ≡ rootOf x
-unfolding eq rootOf
+pub of-zero : (x : Float) → eq x plusZero ≡ true → x ≡ rootOf x
+unfolding rootOf eq
 of-zero nan h = refl
 of-zero (inf true) h = absurd (true≢false (sym h))
 of-zero (inf false) h = refl
 of-zero (fin s zero e) h = refl
-of-zero (fin s (suc m) e) h = absurd (none (up e) (down e) (up-pos e) (eqb→eq (suc m * up e * 1) (0 * down e) (and-l (eqb (suc m * up e * 1) (0 * down e)) (Bool·beq s false || eqb (suc m * up e * 1) 0) (subst T (sym h) tt))))
+of-zero (fin s (suc m) e) h = absurd (some m (zero-digits s (suc m) e h))
   where
-    none : (b d : ℕ) → 0 < b → suc m * b * 1 ≡ 0 * d → ⊥
-    none b d p q = omega (arith, mul-pos (zero-lt-suc m) p)
+    some : (m : ℕ) → suc m ≡ 0 → ⊥
+    some m e = omega arith
 
-pub of-negative : (x : Float) → lt x (fin false 0 (pos 0)) ≡ true → nan ≡ rootOf x
+pub of-negative : (x : Float) → lt x plusZero ≡ true → nan ≡ rootOf x
 unfolding lt rootOf
 of-negative nan h = refl
 of-negative (inf true) h = refl
@@ -191,10 +162,7 @@ of-negative (fin true zero e) h = absurd (clash (up e) (down e) (ltb-true 0 (0 *
     clash : (a b : ℕ) → 0 < 0 * a * 1 + 0 * b → ⊥
     clash a b q = omega arith
 of-negative (fin true (suc m) e) h = refl
-of-negative (fin false m e) h = absurd (clash (m * up e * 1) (down e) (ltb-true (m * up e * 1) (0 * down e) h))
-  where
-    clash : (a b : ℕ) → a < 0 * b → ⊥
-    clash a b q = omega arith
+of-negative (fin false m e) h = absurd (not-below m e h)
 
 pub of-positive : (x : Float) → T (positive x) → positiveRoot x ≡ rootOf x
 unfolding rootOf
@@ -203,21 +171,6 @@ of-positive (inf s) p = absurd p
 of-positive (fin true m e) p = absurd p
 of-positive (fin false zero e) p = absurd p
 of-positive (fin false (suc m) e) p = refl
-
-pub is-positive : (x : Float) → eq x (fin false 0 (pos 0)) ≡ false → lt x (fin false 0 (pos 0)) ≡ false → lt x (inf false) ≡ true → T (positive x)
-unfolding eq lt
-is-positive nan p q r = absurd (true≢false (sym r))
-is-positive (inf true) p q r = absurd (true≢false q)
-is-positive (inf false) p q r = absurd (true≢false (sym r))
-is-positive (fin true m e) p q r =
-    let l : m * up e * 1 + 0 * down e ≤ 0 = ltb-false 0 (m * up e * 1 + 0 * down e) q in
-    let a : m * up e * 1 ≡ 0 * down e = omega arith in
-    let b : m * up e * 1 ≡ 0 = omega arith in
-    absurd (subst T p (and-i (eqb (m * up e * 1) (0 * down e)) (false || eqb (m * up e * 1) 0) (eq→eqb a) (eq→eqb b)))
-is-positive (fin false zero e) p q r =
-    let a : 0 * up e * 1 ≡ 0 * down e = omega arith in
-    absurd (subst T p (and-i (eqb (0 * up e * 1) (0 * down e)) (true || eqb (0 * up e * 1) 0) (eq→eqb a) tt))
-is-positive (fin false (suc m) e) p q r = lt→ltb 0 (suc m) (zero-lt-suc m)
 
 pub of-endless : (x : Float) → lt x (fin false 0 (pos 0)) ≡ false → lt x (inf false) ≡ false → x ≡ rootOf x
 unfolding lt rootOf

@@ -21,7 +21,8 @@ use Rattle.float.specs.Root.{nearRoot, rootOf, scaledNum, scaledDen, Roo
 use Rattle.float.specs.Steps.{SplitOf, Nearest}
 use Rattle.float.proofs.Assemble.{exact}
 use Rattle.float.proofs.Roots.{one-between}
-use Rattle.float.proofs.RootOf.{InUnits, in-whole, split-exists, paired-digits, near-digits, radicand-value, more-places, root-digits, of-negative}
+use Rattle.float.proofs.Parts.{InUnits, in-whole}
+use Rattle.float.proofs.RootOf.{split-exists, paired-digits, near-digits, radicand-value, more-places, root-digits, of-negative}
 
 -- ---- one q
 -- 2^q is at most half of 2^q'

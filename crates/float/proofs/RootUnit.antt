@@ -24,7 +24,8 @@ use Rattle.float.proofs.Bound.{Within, held-whole}
 use Rattle.float.proofs.Error.{half-more}
 use Rattle.float.proofs.Ranges.{All, Ratio, div-within, mul-within, within-finite}
 use Rattle.float.proofs.Roots.{sq-up}
-use Rattle.float.proofs.RootOf.{InUnits, in-whole, near-digits, radicand-value, more-places, root-digits, split-exists}
+use Rattle.float.proofs.Parts.{InUnits, in-whole}
+use Rattle.float.proofs.RootOf.{near-digits, radicand-value, more-places, root-digits, split-exists}
 use Rattle.float.proofs.Units.{Good, AtMost, squaresFrom, squares-each, grained-of-fits}
 
 -- ---- a root: 3·x ≤ 4·n², in whole numbers

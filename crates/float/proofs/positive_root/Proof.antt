@@ -8,7 +8,8 @@ use lib.Dec.{T}
 use lib.Ieee.{binary64, fits}
 use Rattle.float.specs.Steps.{Nearest}
 use Rattle.float.proofs.Roots.{paired}
-use Rattle.float.proofs.RootOf.{in-whole, positive-root-is}
+use Rattle.float.proofs.Parts.{in-whole}
+use Rattle.float.proofs.RootOf.{positive-root-is}
 use Rattle.float.proofs.positive_root.Statement.{statement}
 use Rattle.float.proofs.positive_root.Tie as tie
 

@@ -1,7 +1,8 @@
 -- `float::root` meets its contract: a case of `rootOf` for each answer. Assumes nothing.
 use mathlib.Core.Path.{_∙_}
 use lib.Ieee.{ofBits, div}
-use Rattle.float.proofs.RootOf.{of-zero, of-negative, of-positive, is-positive, of-endless}
+use Rattle.float.proofs.Tests.{is-positive}
+use Rattle.float.proofs.RootOf.{of-zero, of-negative, of-positive, of-endless}
 use Rattle.float.proofs.root.Statement.{statement}
 use Rattle.float.proofs.root.Tie as tie
 
