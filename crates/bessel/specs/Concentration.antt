@@ -4,7 +4,7 @@ use mathlib.Core.Path.{_≡_}
 use mathlib.Core.Bool.{not, cond}
 use Prim.Native.Nat.{ℕ, _≤_}
 use lib.Dec.{T, leb}
-use lib.Ieee.{Float, nan, binary64, sub, mul, div, le, isNan}
+use lib.Ieee.{Float, binary64, sub, mul, div, le, isNan}
 use Rattle.float.specs.Arithmetic.{f64, number, clampOf}
 
 -- what the functions of a dimension ask

@@ -5,7 +5,7 @@ use Prim.Native.Nat.{ℕ, zero, suc}
 use lib.Dec.{eqb, ltb}
 use lib.ListN.{getD}
 use lib.Ieee.{Float, nan, inf, binary64, add, sub, mul, neg, lt, le}
-use mathlib.Core.Bool.{true, false}
+use mathlib.Core.Bool.{false}
 use Rattle.float.specs.Arithmetic.{f64, number, plusZero, maxOf, clampOf}
 use Rattle.float.specs.Root.{rootOf}
 use Rattle.bounds.specs.declared.Bounds.{Bounds}

@@ -4,7 +4,7 @@ use mathlib.Core.Path.{_≡_, refl}
 use mathlib.Core.List.{List, [], _∷_}
 use mathlib.Core.Bool.{true, false}
 use Prim.Native.Nat.{ℕ}
-use lib.IntN.{pos, negsuc}
+use lib.IntN.{negsuc}
 use lib.Ieee.{Float, inf, fin, add, sub, mul, div, neg, lt, isNan, ofInt, ofBits, round, size}
 use Rattle.float.specs.Arithmetic.{number, plusZero, minusZero, clampOf}
 use Rattle.float.specs.Root.{rootOf}

@@ -1,14 +1,13 @@
 -- The float y * 2 ^ k * 2 ^ -1074 by its bit pattern, for a y of 53 digits. Assumes nothing.
-use mathlib.Core.Path.{_≡_, refl, sym, ap, _∙_, subst}
-use mathlib.Core.Logic.{inl, inr}
+use mathlib.Core.Path.{_≡_, refl, sym, ap, _∙_}
 use Prim.Native.Nat.{ℕ, zero, suc, _+_, _-_, _*_, _/_, _%_, _^_, _≤_, _<_}
-use native.Mathlib.Nat.{mul-assoc, mul-comm, mul-left-comm, mul-le-mul-right, mul-lt-mul-of-pos-right, mul-pos, lt-of-lt-of-le, pow-suc, not-suc-le-zero}
+use native.Mathlib.Nat.{mul-assoc, mul-comm, mul-left-comm, mul-le-mul-right, mul-lt-mul-of-pos-right, mul-pos, lt-of-lt-of-le, pow-suc}
 use native.Mathlib.Omega.{arith}
-use mathlib.Core.Bool.{Bool, true, false, not}
-use lib.Dec.{T, lit<}
+use mathlib.Core.Bool.{false, not}
+use lib.Dec.{T}
 use lib.Pow.{pow-pos, pow-mono, pow-add}
 use lib.Count.{trailingZeros, under}
-use lib.Ieee.{Float, fin, binary64, odd, ofBits, nanBits, isNan, round, minus}
+use lib.Ieee.{fin, binary64, odd, ofBits, nanBits, isNan, round, minus}
 use lib.Ieee.Bits.{nanBits-is}
 use Rattle.float.proofs.Pattern.{normal}
 use Rattle.float.proofs.Rounding.{round-to}

@@ -1,13 +1,13 @@
 -- How far a rounded value lies from the fraction: |fl x - x| ≤ |x| / 2 ^ prec + half of the smallest value, in whole numbers. Assumes nothing.
-use mathlib.Core.Path.{_≡_, refl, sym, ap, _∙_, subst}
-use mathlib.Core.Logic.{_⊎_, inl, inr}
-use Prim.Native.Nat.{ℕ, zero, suc, _+_, _-_, _*_, _/_, _%_, _^_, _≤_, _<_, compare, Ordering, Ordering·lt, Ordering·eq, Ordering·gt}
-use native.Mathlib.Nat.{le-trans, le-of-eq, suc-mul, add-mul, mul-one, mul-assoc, mul-comm, mul-left-comm, mul-right-comm, mul-add, mul-le-mul-right, mul-le-mul-left, mul-pos, div-add-mod', mod-lt, le-div-iff-mul-le, eq-zero-or-pos}
+use mathlib.Core.Path.{_≡_, sym, ap, _∙_, subst}
+use mathlib.Core.Logic.{inl, inr}
+use Prim.Native.Nat.{ℕ, suc, _+_, _-_, _*_, _/_, _%_, _^_, _≤_, _<_, compare, Ordering, Ordering·lt, Ordering·eq, Ordering·gt}
+use native.Mathlib.Nat.{le-trans, le-of-eq, suc-mul, add-mul, mul-one, mul-assoc, mul-comm, mul-left-comm, mul-add, mul-le-mul-right, mul-le-mul-left, mul-pos, div-add-mod', mod-lt, le-div-iff-mul-le, eq-zero-or-pos}
 use native.Mathlib.Omega.{arith}
 use mathlib.Core.Bool.{not}
 use lib.Arith.{lt-of-le-ne}
 use lib.Dec.{T, isLe, isEq, eqb, leb→le, nleb→lt, eqb→eq, eqb-refl, lit≤}
-use lib.Pow.{pow-add, pow-pos, pow-mono}
+use lib.Pow.{pow-add, pow-pos}
 use lib.Ieee.{Format, binary32, binary64, prec, low, nearest, size}
 use lib.Ieee.Digits.{size-reaches}
 use lib.Ieee.Fits.{two}

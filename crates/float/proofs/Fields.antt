@@ -1,13 +1,13 @@
 -- The number that a positive value of binary64 is, by the fields of its bit pattern. Assumes nothing.
 use mathlib.Core.Path.{_≡_, refl, sym, ap, _∙_, subst}
-use Prim.Native.Nat.{ℕ, zero, suc, _+_, _-_, _*_, _/_, _%_, _^_, _≤_, _<_}
-use native.Mathlib.Nat.{lt-of-not-le, mul-assoc, mul-comm, mul-left-comm, mul-right-comm, mul-one, add-comm}
+use Prim.Native.Nat.{ℕ, zero, suc, _+_, _-_, _*_, _/_, _%_, _^_, _<_}
+use native.Mathlib.Nat.{lt-of-not-le, mul-assoc, mul-right-comm, mul-one, add-comm}
 use native.Mathlib.Decide.{decLe}
 use native.Mathlib.Omega.{arith}
 use mathlib.Core.Bool.{Bool, true, false, not, cond, true≢false}
 use Prim.{yes, no}
 use borrow.Author.Tests.{le-leb}
-use lib.Dec.{T, leb, eqb}
+use lib.Dec.{T, eqb}
 use lib.Pow.{pow-add, pow-pos}
 use lib.Ieee.{Float, nan, inf, fin, binary64, odd, ofFields, ofBits, toBits, fits, isNan}
 use lib.Ieee.Bits.{ofBits-toBits}

@@ -1,16 +1,14 @@
 -- Whole multiples of 2 ^ -g stay such through sums and products, and so a dot product of scaled rows is the scaled dot product. Assumes nothing.
-use mathlib.Core.Path.{_≡_, refl, sym, ap, ap₂, _∙_, subst}
-use mathlib.Core.Logic.{_⊎_, inl, inr}
+use mathlib.Core.Path.{_≡_, refl, sym, ap, _∙_, subst}
 use mathlib.Core.List.{List, [], _∷_}
-use Prim.Native.Nat.{ℕ, zero, suc, _+_, _-_, _*_, _/_, _%_, _^_, _≤_, _<_}
+use Prim.Native.Nat.{ℕ, suc, _+_, _-_, _*_, _/_, _^_, _≤_, _<_}
 use Prim.{yes, no}
 use native.Mathlib.Decide.{decLe}
-use native.Mathlib.Nat.{le-trans, le-of-eq, lt-of-lt-of-le, lt-of-le-of-lt, lt-of-not-le, not-le-of-lt, mul-one, one-mul, mul-comm, mul-assoc, mul-left-comm, mul-right-comm, mul-le-mul-right, mul-le-mul-left, mul-lt-mul-of-pos-right, mul-pos, mul-div-cancel, eq-of-mul-eq-mul-right, le-of-mul-le-mul-right, mul-suc, add-mul, mul-mul-mul-comm}
+use native.Mathlib.Nat.{le-trans, le-of-eq, lt-of-lt-of-le, lt-of-not-le, not-le-of-lt, mul-comm, mul-assoc, mul-left-comm, mul-right-comm, mul-le-mul-right, mul-lt-mul-of-pos-right, mul-pos, mul-div-cancel, eq-of-mul-eq-mul-right, le-of-mul-le-mul-right, mul-suc, add-mul, mul-mul-mul-comm}
 use native.Mathlib.Omega.{arith}
-use mathlib.Core.Bool.{Bool, true, false, not, _&&_, Bool·beq, cond, true≢false}
+use mathlib.Core.Bool.{Bool, true, false, _&&_, Bool·beq, cond, true≢false}
 use borrow.Author.Tests.{le-ltb}
-use lib.IntN.{ℤ, pos, negsuc}
-use lib.Dec.{T, ltb, lit<, lit≤}
+use lib.Dec.{T, ltb, lit<}
 use lib.ListN.{length}
 use lib.Pow.{pow-add, pow-pos, pow-mono}
 use lib.Ieee.{Float, nan, inf, fin, Format, binary64, prec, emax, low, up, down, unlike, size, odd, units, round, sum, add, mul}
@@ -21,7 +19,7 @@ use lib.Ieee.Order.{drop, kept}
 use lib.Ieee.Scale.{finite}
 use Rattle.float.proofs.Bound.{Within, held-whole}
 use Rattle.float.specs.Arithmetic.{dotFrom}
-use Rattle.float.proofs.Ranges.{All, within-finite, within-more, mul-within, add-within}
+use Rattle.float.proofs.Ranges.{All, within-finite, mul-within, add-within}
 use Rattle.float.proofs.Units.{squaresFrom}
 use Rattle.float.proofs.Scaling.{mul-scale-both, Multiple, Grained, Coarse, scale, shifted, scale-val, mul-scale, add-scale, multiple-mul, multiple-add, multiple-sub, multiple-wider}
 

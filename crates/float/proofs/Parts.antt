@@ -8,7 +8,7 @@ use mathlib.Core.Bool.{false}
 use lib.Dec.{T}
 use lib.IntN.{ℤ}
 use lib.Pow.{pow-pos, pow-add}
-use lib.Ieee.{Float, nan, inf, fin, binary64, up, down, size, fits}
+use lib.Ieee.{Float, nan, inf, fin, binary64, down, size, fits}
 use lib.Ieee.Fits.{down-pos}
 use lib.Ieee.Digits.{size-le}
 use lib.Ieee.Positive.{num, den, den-pos, positive}

@@ -1,15 +1,14 @@
 -- Bounds of sums, differences, products and quotients, and of a dot product. Assumes nothing.
-use mathlib.Core.Path.{_≡_, refl, sym, ap, _∙_, subst}
+use mathlib.Core.Path.{_≡_}
 use mathlib.Core.List.{List, [], _∷_}
-use Prim.Native.Nat.{ℕ, zero, suc, _+_, _-_, _*_, _^_, _≤_, _<_}
-use native.Mathlib.Nat.{le-trans, le-of-eq, mul-comm, mul-assoc, mul-left-comm, mul-right-comm, mul-mul-mul-comm, mul-le-mul, mul-le-mul-right, mul-pos, add-mul, mul-suc, eq-zero-or-pos}
+use Prim.Native.Nat.{ℕ, suc, _+_, _-_, _*_, _≤_, _<_}
+use native.Mathlib.Nat.{le-trans, le-of-eq, mul-comm, mul-assoc, mul-left-comm, mul-mul-mul-comm, mul-le-mul, mul-le-mul-right, mul-pos, add-mul, mul-suc}
 use native.Mathlib.Omega.{arith}
-use mathlib.Core.Bool.{Bool, true, false, not, _&&_, Bool·beq, cond}
-use mathlib.Core.Logic.{_⊎_, inl, inr}
-use lib.Dec.{T, ltb, eqb, lit<, eqb→eq}
+use mathlib.Core.Bool.{Bool, true, false, _&&_, Bool·beq, cond}
+use lib.Dec.{T, ltb, lit<}
 use lib.ListN.{length}
 use borrow.Author.Tests.{ne-eqb}
-use lib.Ieee.{Float, nan, inf, fin, Format, binary64, prec, up, down, unlike, round, sum, add, sub, mul, div, neg}
+use lib.Ieee.{Float, nan, inf, fin, Format, binary64, up, down, unlike, round, sum, add, sub, mul, div, neg}
 use lib.Ieee.Fits.{up-pos, down-pos}
 use lib.Ieee.Scale.{finite}
 use Rattle.float.specs.Arithmetic.{dotFrom}

@@ -1,28 +1,25 @@
 -- The root of a positive float from its 53 leading digits, and the cases of the root: from x in units of 2^−1074, a whole number with e + 1 binary digits,
 -- the definition's radicand is m·2^(e % 2)·2^52, and of that the nearest root is the one. Assumes nothing.
-use mathlib.Core.Path.{_≡_, refl, sym, ap, ap₂, _∙_, subst}
+use mathlib.Core.Path.{_≡_, refl, sym, ap, ap₂, _∙_}
 use Prim.Native.Nat.{ℕ, zero, suc, _+_, _-_, _*_, _/_, _%_, _^_, _≤_, _<_}
-use native.Mathlib.Nat.{mul-assoc, mul-comm, mul-left-comm, mul-right-comm, mul-le-mul-right, mul-lt-mul-of-pos-right, mul-pos, le-trans, le-of-eq, lt-of-lt-of-le, lt-of-le-of-lt, lt-of-not-le, not-le-of-lt, le-of-mul-le-mul-right, lt-of-mul-lt-mul-right, eq-of-mul-eq-mul-right, pow-suc, mul-div-cancel, zero-lt-suc}
+use native.Mathlib.Nat.{mul-assoc, mul-comm, mul-left-comm, mul-right-comm, mul-le-mul-right, mul-lt-mul-of-pos-right, mul-pos, le-trans, le-of-eq, lt-of-lt-of-le, lt-of-le-of-lt, lt-of-not-le, not-le-of-lt, lt-of-mul-lt-mul-right, pow-suc, mul-div-cancel}
 use native.Mathlib.Omega.{arith}
-use mathlib.Core.Bool.{true, false, _||_, Bool·beq, true≢false}
+use mathlib.Core.Bool.{true, false, true≢false}
 use lib.IntN.{ℤ, pos, negsuc}
-use borrow.Author.Tests.{ltb-true, ltb-false}
-use lib.Dec.{T, eqb, lit≤, eqb→eq, lt→ltb}
+use borrow.Author.Tests.{ltb-true}
+use lib.Dec.{T, lit≤}
 use lib.Pow.{pow-pos, pow-mono, pow-add}
 use lib.Ieee.{Float, nan, inf, fin, binary64, up, down, round, size, eq, lt, fits}
 use lib.Ieee.Digits.{size-lt, size-le, size-reaches}
-use lib.Ieee.Fits.{up-pos, and-l, and-i, eq→eqb}
-use lib.Ieee.Positive.{num, den, den-pos, positive}
+use lib.Ieee.Positive.{num, den, positive}
 use lib.Ieee.Scale.{round-same}
 use Rattle.float.specs.Arithmetic.{plusZero}
 use Rattle.float.specs.Root.{unitsOf, nearRoot, placesOf, radicandOf, positiveRoot, rootOf}
 use Rattle.float.specs.Steps.{SplitOf, Nearest, valueOf}
-use Rattle.float.proofs.Rounding.{size-gt}
 use Rattle.float.proofs.Tests.{zero-digits, not-below}
 use Rattle.float.proofs.Parts.{InUnits, units-split, units-size}
 use Rattle.float.proofs.Roots.{Paired, paired, paired-near, nearest-one}
-use Rattle.float.proofs.Scaling.{Multiple}
-use Rattle.float.proofs.Units.{parts-of, reached, places, in-units, grained-of-fits}
+use Rattle.float.proofs.Units.{parts-of, reached, places, in-units}
 
 -- ---- powers
 fours : (h : ℕ) → 4 ^ h ≡ 2 ^ h * 2 ^ h

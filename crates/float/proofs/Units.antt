@@ -1,25 +1,25 @@
 -- Every finite float is a whole multiple of the smallest value, and rounding leaves it as it is; so a sum of two that are not negative is at least each. Assumes nothing.
-use mathlib.Core.Path.{_≡_, refl, sym, ap, ap₂, _∙_, subst}
+use mathlib.Core.Path.{_≡_, refl, sym, ap, _∙_}
 use mathlib.Core.Logic.{_⊎_, inl, inr}
 use mathlib.Core.List.{List, [], _∷_}
-use Prim.Native.Nat.{ℕ, zero, suc, _+_, _-_, _*_, _/_, _%_, _^_, _≤_, _<_}
-use native.Mathlib.Nat.{le-trans, le-of-eq, lt-of-lt-of-le, lt-of-le-of-lt, lt-of-not-le, not-le-of-lt, mul-one, one-mul, zero-mul, mul-comm, mul-assoc, mul-left-comm, mul-right-comm, mul-le-mul-right, mul-le-mul-left, mul-lt-mul-of-pos-right, mul-pos, add-mul, mul-suc, lt-of-mul-lt-mul-right, eq-of-mul-eq-mul-right, eq-zero-or-pos}
+use Prim.Native.Nat.{ℕ, zero, suc, _+_, _-_, _*_, _%_, _^_, _≤_, _<_}
+use native.Mathlib.Nat.{le-trans, le-of-eq, lt-of-lt-of-le, lt-of-le-of-lt, not-le-of-lt, mul-one, zero-mul, mul-comm, mul-assoc, mul-left-comm, mul-le-mul-right, mul-lt-mul-of-pos-right, mul-pos, mul-suc, lt-of-mul-lt-mul-right, eq-zero-or-pos}
 use borrow.Author.Tests.{lt-ltb, le-ltb}
 use native.Mathlib.Omega.{arith}
-use mathlib.Core.Bool.{Bool, true, false, not, _&&_, cond, true≢false}
+use mathlib.Core.Bool.{Bool, true, false, not, _&&_, true≢false}
 use lib.IntN.{ℤ, pos, negsuc}
 use lib.Dec.{T, ltb, leb, eqb, ltb→lt, leb→le, nleb→lt, lit<}
 use lib.ListN.{length}
-use lib.Pow.{pow-add, pow-pos, pow-mono, pow-lt}
-use lib.Ieee.{Float, nan, inf, fin, Format, binary64, prec, emax, low, up, down, unlike, round, sum, add, mul, fits}
-use lib.Ieee.Fits.{and-l, and-r, up-pos, down-pos, add-fits, mul-fits}
-use lib.Ieee.Exact.{HasValue, round-exact}
+use lib.Pow.{pow-add, pow-pos, pow-lt}
+use lib.Ieee.{Float, nan, inf, fin, Format, binary64, prec, emax, low, up, down, round, sum, add, mul, fits}
+use lib.Ieee.Fits.{and-l, and-r, down-pos, add-fits, mul-fits}
+use lib.Ieee.Exact.{round-exact}
 use lib.Ieee.Positive.{through}
 use lib.Ieee.Scale.{finite}
 use Rattle.float.specs.Arithmetic.{dotFrom}
 use Rattle.float.proofs.Bound.{Within, Over, Signed, Held, held-whole, round-signed, round-over}
-use Rattle.float.proofs.Ranges.{All, within-finite, within-more, mul-within, add-within}
-use Rattle.float.proofs.Scaling.{Multiple, Grained}
+use Rattle.float.proofs.Ranges.{All, within-more, mul-within, add-within}
+use Rattle.float.proofs.Scaling.{Grained}
 
 -- what `fits` says of the digits and of the exponent
 pub record Parts (f : Format) (m : ℕ) (e : ℤ) : Type 0 where

@@ -1,7 +1,7 @@
 -- Document 01, 'Arithmetic under the Rust': the exponential, operation by operation. Definitions only.
 use Prim.Native.Nat.{ℕ, zero, suc, _+_, _-_, _*_, _/_}
 use mathlib.Core.Bool.{true, false, cond}
-use lib.IntN.{ℤ, pos, negsuc, negℤ}
+use lib.IntN.{ℤ, pos, negℤ}
 use lib.Ieee.{Float, nan, inf, fin, binary64, up, down, add, sub, mul, div, neg, lt, isNan, ofInt}
 use Rattle.float.specs.Arithmetic.{f64, number, plusZero}
 

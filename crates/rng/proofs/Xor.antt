@@ -1,11 +1,11 @@
 -- The specification's exclusive or, digit by digit, is the machine's. Assumes nothing.
-use mathlib.Core.Path.{_≡_, refl, sym, ap, ap₂, _∙_}
+use mathlib.Core.Path.{_≡_, refl, sym, ap₂, _∙_}
 use Prim.Native.Nat.{ℕ, zero, suc, _+_, _*_, _/_, _%_, _^_, _<_}
-use native.Mathlib.Nat.{pow-suc, zero-add, add-zero, mod-lt, mod-eq-of-lt, lt-of-le-of-lt}
+use native.Mathlib.Nat.{pow-suc, zero-add, mod-lt, mod-eq-of-lt, lt-of-le-of-lt}
 use native.Mathlib.Omega.{arith}
 use lib.Arith.{lt-one}
 use lib.Pow.{pow-pos, shr-le}
-use lib.Bits.{bitXor, differ, xor-step, xor-zero-r}
+use lib.Bits.{bitXor, differ, xor-step}
 use Rattle.rng.specs.SplitMix.{xor, foldedBy}
 
 digit : (x y : ℕ) → x < 2 → y < 2 → (x + y) % 2 ≡ differ x y

@@ -1,6 +1,6 @@
 -- Document 01, 'SplitMix64': `weighted_pick`, with the generator's state after it. Definitions only.
 use mathlib.Core.List.{List, [], _∷_}
-use mathlib.Core.Bool.{Bool, true, false, cond}
+use mathlib.Core.Bool.{cond}
 use Prim.Native.Nat.{ℕ, suc, _-_, _%_, max}
 use lib.ListN.{length}
 use lib.Ieee.{Float, binary64, sub, mul, le}

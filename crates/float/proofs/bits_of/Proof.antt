@@ -1,6 +1,6 @@
 -- `float::bits_of` meets its contract: only a NaN differs from itself, and it gets the definition's pattern. Assumes nothing.
-use mathlib.Core.Path.{_≡_, refl, sym, ap, _∙_, subst}
-use mathlib.Core.Bool.{Bool, true, false, not, true≢false}
+use mathlib.Core.Path.{_≡_, refl, sym, subst}
+use mathlib.Core.Bool.{true, false, not, true≢false}
 use lib.Dec.{T}
 use lib.Ieee.{Float, nan, inf, fin, binary64, isNan, ne, eq, toBits}
 use lib.Ieee.Compare.{differs-from-itself}

@@ -1,9 +1,9 @@
 -- `float::of_bits` meets its contract: above the infinity's pattern, the sign left out, every pattern is a NaN's, and no other is. Assumes nothing.
-use mathlib.Core.Path.{_≡_, refl, sym, ap, _∙_, subst}
-use mathlib.Core.Bool.{Bool, true, false, not}
+use mathlib.Core.Path.{_≡_, refl, sym, _∙_, subst}
+use mathlib.Core.Bool.{true, false}
 use Prim.Native.Nat.{ℕ, _%_, _≤_, _<_}
 use borrow.Author.Tests.{lt-ltb, le-ltb}
-use lib.Dec.{T, ltb}
+use lib.Dec.{T}
 use lib.Ieee.{Float, nan, inf, fin, binary64, isNan, nanBits, ofBits, div}
 use lib.Ieee.Bits.{nanBits-is, nanBits-above}
 use Rattle.float.proofs.of_bits.Statement.{statement}

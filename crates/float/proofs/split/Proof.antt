@@ -1,14 +1,13 @@
 -- `float::split` meets its contract. The loop keeps m * 2 ^ e, and its measure is e.
 -- Assumes nothing.
 use mathlib.Core.Path.{_≡_, refl, sym, ap, _∙_, subst}
-use Prim.Native.Nat.{ℕ, zero, suc, _+_, _-_, _*_, _/_, _%_, _^_, _<_, _≤_}
+use Prim.Native.Nat.{ℕ, zero, suc, _+_, _-_, _*_, _^_, _<_, _≤_}
 use native.Mathlib.Nat.{mul-assoc}
 use native.Mathlib.Omega.{arith}
 use lib.Dec.{T, lit≤}
 use lib.Pow.{pow-add}
-use lib.Ieee.{binary64, fits, toBits}
+use lib.Ieee.{binary64, fits}
 use Rattle.float.proofs.Fields.{positive-no-nan, bits-under, normal-split, subnormal-split, subnormal-pos}
-use Rattle.float.specs.Steps.{SplitOf}
 use Rattle.float.proofs.split.Statement.{statement}
 use Rattle.float.proofs.split.Tie as tie
 use Rattle.float.proofs.split.Reads as reads

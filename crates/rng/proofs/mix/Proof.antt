@@ -1,5 +1,5 @@
 -- `rng::mix` meets its contract: each product is the definition's modulo 2^64, and each exclusive or is the digit-wise one. Assumes nothing.
-use mathlib.Core.Path.{_≡_, ap, _∙_}
+use mathlib.Core.Path.{ap, _∙_}
 use Prim.Native.Nat.{ℕ, _*_, _%_, _^_}
 use borrow.Author.Needs.{needs}
 use Rattle.rng.specs.SplitMix.{foldedBy, roundOf, mixOf}

@@ -1,5 +1,5 @@
 -- `rng::restart_seed` meets its contract: a sum modulo 2^64 does not change when a term is first taken modulo 2^64. Assumes nothing.
-use mathlib.Core.Path.{_≡_, ap, _∙_}
+use mathlib.Core.Path.{ap, _∙_}
 use Prim.Native.Nat.{ℕ, _+_, _*_, _%_, _^_}
 use native.Mathlib.Nat.{add-mod-mod}
 use borrow.Author.Needs.{needs}
