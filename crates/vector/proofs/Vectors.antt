@@ -4,16 +4,18 @@ use mathlib.Core.Path.{_≡_, refl, ap, sym, _∙_}
 use mathlib.Core.List.{List, [], _∷_, _++_, append-assoc, append-nil}
 use mathlib.Core.Bool.{Bool, true, false, cond}
 use mathlib.Core.Logic.{⊎-elim}
-use Prim.Native.Nat.{ℕ, zero, suc, _+_, _-_, _≤_, _<_, min, max}
+use Prim.Native.Nat.{ℕ, zero, suc, _+_, _-_, _%_, _≤_, _<_, min, max}
+use native.Mathlib.Nat.{mod-lt}
 use native.Mathlib.Numerals.{add-one}
 use native.Mathlib.Omega.{arith}
 use lib.ListN.{length, getD, take, drop, set, replicate, replicate-append-replicate, drop-of-length-le, take-append-drop}
 use lib.Seq.{drop-cons, take-suc, take-suc-set, drop-set-lt, take-all}
 use lib.Ieee.{Float, nan, binary64, add, sub, mul, div, lt, le}
-use Rattle.float.specs.Arithmetic.{plusZero, sumFrom, dotFrom}
+use Rattle.float.specs.Arithmetic.{minusZero, plusZero, sumFrom, dotFrom}
 use Rattle.float.proofs.Order.{lt-or-ge}
+use Rattle.rng.specs.SplitMix.{stepOf, mixOf, unitOf}
 use Rattle.vector.specs.Vectors.{normOf, dividedBy, unitVector, addScaled, argmaxUpTo, argmaxOf, argminUpTo, argminOf}
-use Rattle.vector.specs.Pick.{pickFrom}
+use Rattle.vector.specs.Pick.{pickFrom, pickOf}
 
 -- sums
 module _ (s : Float) (v : List Float) (j : ℕ) where
@@ -177,3 +179,19 @@ module _ (t : Float) (w : List Float) (i : ℕ) where
   pub pick-end : length w ≤ i → i - 1 ≡ pickFrom t i (drop i w)
   unfolding pickFrom
   pick-end h = rw (drop-of-length-le w h)
+
+-- the place picked lies in the list, if that is not empty
+pick-within : (t : Float) (i : ℕ) (ws : List Float) → 0 < i + length ws → pickFrom t i ws < i + length ws
+unfolding pickFrom
+pick-within t i [] h = omega arith
+pick-within t i (w ∷ ws) h =
+    either-below (le (sub binary64 t w) plusZero) i (pickFrom (sub binary64 t w) (suc i) ws) (i + suc (length ws)) (omega arith)
+    (omega (arith, pick-within (sub binary64 t w) (suc i) ws (omega arith)))
+
+pub pick-below : (ws : List Float) (state : ℕ) → 0 < length ws → pickOf ws state .index < length ws
+pick-below ws state h =
+    let out = mixOf (stepOf state) in
+    let sum = sumFrom minusZero ws in
+    let e : max (length ws) 1 ≡ length ws = omega arith in
+    either-below (le sum plusZero) (out % max (length ws) 1) (pickFrom (mul binary64 (unitOf out) sum) 0 ws) (length ws) (rw e (mod-lt out h))
+    (omega (arith, pick-within (mul binary64 (unitOf out) sum) 0 ws (omega arith)))
