@@ -1,0 +1,389 @@
+-- Laws of the start and the seeds, over plain lists: a region written place by place holds what is done before what it held, and each definition of
+-- specs/Seeding.antt grows by one place or one centre a turn. Assumes nothing.
+use mathlib.Core.Path.{_≡_, refl, ap, sym, subst, _∙_}
+use mathlib.Core.List.{List, [], _∷_, _++_, append-assoc, append-nil}
+use mathlib.Core.Bool.{true, false, cond}
+use Prim.Native.Nat.{ℕ, zero, suc, _+_, _*_, _-_, _≤_, _<_}
+use native.Mathlib.Nat.{suc-mul, zero-mul}
+use native.Mathlib.Numerals.{add-one}
+use native.Mathlib.Omega.{arith}
+use lib.ListN.{length, getD, take, drop, set, replicate, length-append, length-replicate, drop-of-length-le}
+use lib.Seq.{drop-cons, take-suc, take-all, set-at, take-at, getD-at, length-take-le}
+use lib.Ieee.{Float, nan, inf, binary64, sub, mul, lt}
+use Rattle.float.specs.Arithmetic.{number, plusZero, maxOf}
+use Rattle.vector.specs.Rows.{putPart, rowOf}
+use Rattle.vector.specs.Vectors.{dotOf, normOf, unitVector}
+use Rattle.vector.proofs.Rows.{row-within, length-part, part-put}
+use Rattle.vector.specs.Pick.{pickOf}
+use Rattle.vector.specs.declared.Picked.{Picked}
+use Rattle.vector.proofs.Vectors.{unit-length, pick-below}
+use Rattle.lloyd.specs.Lloyd.{State, normsUpTo, startedFrom}
+use Rattle.lloyd.specs.Seeding.{angleOf, anglesUpTo, lowered, chances, seedsUpTo, seedsOf}
+use Rattle.lloyd.specs.Areas.{Area, Seeding, SeededNext, stateIn, total, scaleAt, lowAt, highAt, servedAt, driftAt, nextPick, putScale, putLow, putHigh, putCenter}
+use Rattle.lloyd.proofs.Regions.{withScale, withLow, withHigh, withServed, withDrift, withLabels, put-low-all, put-high-all, put-served-all, put-drift-all, put-labels-all, high-are, length-centers, set-scale, set-low, set-high, get-low, row-centers, put-row-centers, length-scale, length-low, length-high}
+
+-- a row as the code cuts it
+pub row-cut : {A : Type 0} (l : List A) (d c : ℕ) → take (c * d + d - c * d) (drop (c * d) l) ≡ rowOf l d c
+row-cut l d c = let f : c * d + d - c * d ≡ d = omega arith in rw f
+
+-- an area of the same length has the same sizes
+pub area-kept : (work work' m k d : ℕ) → work' ≡ work → Area work m k d → Area work' m k d
+area-kept work work' m k d e a = rw e a
+
+-- likewise what a seeding asks, which holds what is asked of the area alone
+pub seeding-kept : (work work' weights coords m k d : ℕ) → work' ≡ work → Seeding work weights coords m k d → Seeding work' weights coords m k d
+seeding-kept work work' weights coords m k d e s = rw e s
+
+pub seeding-area : (work work' weights coords m k d : ℕ) → work' ≡ work → Seeding work weights coords m k d → Area work' m k d
+seeding-area work work' weights coords m k d e s =
+    rw e (record { m-small = s .m-small; k-small = s .k-small; kd-small = s .kd-small; work-long = s .work-long })
+
+-- what is done, before what was held from place i on: one place more, the place after it, and the end
+module _ (p l : List Float) (i : ℕ) (e : length p ≡ i) where
+  front-turn : (v : Float) → i < length l → set (p ++ drop i l) i v ≡ (p ++ (v ∷ [])) ++ drop (i + 1) l
+  front-turn v h = rw (add-one, drop-cons l i nan, append-assoc) (set-at p (getD l i nan) (drop (suc i) l) v i e)
+
+  front-next : i < length l → getD (p ++ drop i l) i nan ≡ getD l i nan
+  front-next h = rw (drop-cons l i nan) (getD-at p (getD l i nan) (drop (suc i) l) nan i e)
+
+front-end : (p l : List Float) (m : ℕ) → length l ≡ m → p ++ drop m l ≡ p
+front-end p l m e = let h : length l ≤ m = omega arith in rw (drop-of-length-le l h, append-nil)
+
+-- the same of a region of the state
+module _ (m k d : ℕ) (w : List Float) (u : List ℕ) (s : State) (p : List Float) (i : ℕ) (v : Float) (h : i < m) (e : length p ≡ i) where
+  scale-turn : length (s .scale) ≡ m → stateIn m k d w u ≡ putScale (p ++ drop i (s .scale)) s
+      → stateIn m k d (set w (scaleAt m k d + i) v) u ≡ putScale ((p ++ (v ∷ [])) ++ drop (i + 1) (s .scale)) s
+  unfolding putScale
+  scale-turn g f =
+      set-scale m k d w u i v h ∙ ap (λ (t : State). withScale (set (t .scale) i v) t) f ∙ ap (λ (x : List Float). putScale x s) (front-turn p (s .scale) i e v (omega arith))
+
+  low-turn : length (s .low) ≡ m → stateIn m k d w u ≡ putLow (p ++ drop i (s .low)) s
+      → stateIn m k d (set w (lowAt m k d + i) v) u ≡ putLow ((p ++ (v ∷ [])) ++ drop (i + 1) (s .low)) s
+  unfolding putLow
+  low-turn g f =
+      set-low m k d w u i v h ∙ ap (λ (t : State). withLow (set (t .low) i v) t) f ∙ ap (λ (x : List Float). putLow x s) (front-turn p (s .low) i e v (omega arith))
+
+  high-turn : length (s .high) ≡ m → stateIn m k d w u ≡ putHigh (p ++ drop i (s .high)) s
+      → stateIn m k d (set w (highAt m k d + i) v) u ≡ putHigh ((p ++ (v ∷ [])) ++ drop (i + 1) (s .high)) s
+  unfolding putHigh
+  high-turn g f =
+      set-high m k d w u i v h ∙ ap (λ (t : State). withHigh (set (t .high) i v) t) f ∙ ap (λ (x : List Float). putHigh x s) (front-turn p (s .high) i e v (omega arith))
+
+-- ---- the norms, by which the scales are written
+norms-length : (rows : List Float) (d n : ℕ) → length (normsUpTo rows d n) ≡ n
+unfolding normsUpTo
+norms-length rows d zero = refl
+norms-length rows d (suc n) = length-append (normsUpTo rows d n) (normOf (rowOf rows d n) ∷ []) ∙ omega (arith, norms-length rows d n)
+
+abbrev pub normed : List Float → ℕ → ℕ → State → State
+normed coords d i s = putScale (normsUpTo coords d i ++ drop i (s .scale)) s
+
+pub norms-start : (coords : List Float) (d : ℕ) (s : State) → s ≡ normed coords d 0 s
+unfolding putScale normsUpTo
+norms-start coords d s = refl
+
+module _ (m k d : ℕ) (w₀ coords : List Float) (u : List ℕ) (long : total m k d ≤ length w₀) where
+  pub norms-turn : (w : List Float) (i : ℕ) (v : Float) → i < m → v ≡ normOf (take (i * d + d - i * d) (drop (i * d) coords))
+      → stateIn m k d w u ≡ normed coords d i (stateIn m k d w₀ u) → stateIn m k d (set w (scaleAt m k d + i) v) u ≡ normed coords d (i + 1) (stateIn m k d w₀ u)
+  unfolding normsUpTo
+  norms-turn w i v h e f =
+      let s = stateIn m k d w₀ u in
+      let g : v ≡ normOf (rowOf coords d i) = e ∙ ap normOf (row-cut coords d i) in
+      let more : normsUpTo coords d i ++ (v ∷ []) ≡ normsUpTo coords d (i + 1) = rw (add-one, g) in
+      scale-turn m k d w u s (normsUpTo coords d i) i v h (norms-length coords d i) (length-scale m k d w₀ u long) f
+      ∙ ap (λ (x : List Float). putScale (x ++ drop (i + 1) (s .scale)) s) more
+
+  pub norms-end : (w : List Float) (i : ℕ) → i ≡ m → stateIn m k d w u ≡ normed coords d i (stateIn m k d w₀ u)
+      → stateIn m k d w u ≡ putScale (normsUpTo coords d m) (stateIn m k d w₀ u)
+  norms-end w i e f =
+      let s = stateIn m k d w₀ u in
+      f ∙ ap (λ (n : ℕ). normed coords d n s) e ∙ ap (λ (x : List Float). putScale x s) (front-end (normsUpTo coords d m) (s .scale) m (length-scale m k d w₀ u long))
+
+-- ---- the distances
+
+-- how far a leaf is from a centre, by rows as the code cuts them
+pub angle-done : (m k d : ℕ) (w coords : List Float) (u : List ℕ) (c i : ℕ) → c < k → (p r : Float)
+    → p ≡ dotOf (take (i * d + d - i * d) (drop (i * d) coords)) (take (c * d + d - c * d) (drop (c * d) w)) → r ≡ maxOf (sub binary64 (number 1) p) plusZero
+    → r ≡ angleOf (rowOf coords d i) (rowOf (stateIn m k d w u .centers) d c)
+angle-done m k d w coords u c i h p r e f = f ∙ rw (e, row-cut coords d i, row-cut w d c, row-centers m k d w u c h)
+
+-- the distances from the first centre
+angles-length : (coords : List Float) (d : ℕ) (row : List Float) (n : ℕ) → length (anglesUpTo coords d row n) ≡ n
+unfolding anglesUpTo
+angles-length coords d row zero = refl
+angles-length coords d row (suc n) = length-append (anglesUpTo coords d row n) (angleOf (rowOf coords d n) row ∷ []) ∙ omega (arith, angles-length coords d row n)
+
+abbrev pub distanced : List Float → ℕ → ℕ → State → State
+distanced coords d i s = putLow (anglesUpTo coords d (rowOf (s .centers) d 0) i ++ drop i (s .low)) s
+
+pub angles-start : (coords : List Float) (d : ℕ) (s : State) → s ≡ distanced coords d 0 s
+unfolding putLow anglesUpTo
+angles-start coords d s = refl
+
+module _ (m k d : ℕ) (w₀ coords : List Float) (u : List ℕ) (long : total m k d ≤ length w₀) where
+  pub angles-turn : (w : List Float) (i : ℕ) (v : Float) → i < m → v ≡ angleOf (rowOf coords d i) (rowOf (stateIn m k d w u .centers) d 0)
+      → stateIn m k d w u ≡ distanced coords d i (stateIn m k d w₀ u) → stateIn m k d (set w (lowAt m k d + i) v) u ≡ distanced coords d (i + 1) (stateIn m k d w₀ u)
+  unfolding putLow anglesUpTo
+  angles-turn w i v h e f =
+      let s = stateIn m k d w₀ u in
+      let row = rowOf (s .centers) d 0 in
+      let g : v ≡ angleOf (rowOf coords d i) row = e ∙ ap (λ (t : State). angleOf (rowOf coords d i) (rowOf (t .centers) d 0)) f in
+      let more : anglesUpTo coords d row i ++ (v ∷ []) ≡ anglesUpTo coords d row (i + 1) = rw (add-one, g) in
+      low-turn m k d w u s (anglesUpTo coords d row i) i v h (angles-length coords d row i) (length-low m k d w₀ u long) f
+      ∙ ap (λ (x : List Float). putLow (x ++ drop (i + 1) (s .low)) s) more
+
+  pub angles-end : (w : List Float) (i : ℕ) → i ≡ m → stateIn m k d w u ≡ distanced coords d i (stateIn m k d w₀ u)
+      → stateIn m k d w u ≡ putLow (anglesUpTo coords d (rowOf (stateIn m k d w₀ u .centers) d 0) m) (stateIn m k d w₀ u)
+  angles-end w i e f =
+      let s = stateIn m k d w₀ u in
+      f ∙ ap (λ (n : ℕ). distanced coords d n s) e
+      ∙ ap (λ (x : List Float). putLow x s) (front-end (anglesUpTo coords d (rowOf (s .centers) d 0) m) (s .low) m (length-low m k d w₀ u long))
+
+-- the distances lowered where a further centre is nearer
+lowered-length : (coords : List Float) (d : ℕ) (row : List Float) (j : ℕ) (xs : List Float) → length (lowered coords d row j xs) ≡ length xs
+unfolding lowered
+lowered-length coords d row j [] = refl
+lowered-length coords d row j (x ∷ xs) = ap suc (lowered-length coords d row (suc j) xs)
+
+lowered-at : (coords : List Float) (d : ℕ) (row : List Float) (xs : List Float) (j i n : ℕ) → n ≡ j + i → i < length xs
+    → getD (lowered coords d row j xs) i nan ≡ cond (lt (angleOf (rowOf coords d n) row) (getD xs i nan)) (angleOf (rowOf coords d n) row) (getD xs i nan)
+unfolding lowered
+lowered-at coords d row [] j i n e h = absurd (omega arith)
+lowered-at coords d row (x ∷ xs) j zero n e h = let f : n ≡ j = omega arith in rw f
+lowered-at coords d row (x ∷ xs) j (suc i) n e h = lowered-at coords d row xs (suc j) i n (omega arith) (omega arith)
+
+abbrev pub lowering : List Float → ℕ → ℕ → ℕ → State → State
+lowering coords d c i s = putLow (take i (lowered coords d (rowOf (s .centers) d c) 0 (s .low)) ++ drop i (s .low)) s
+
+pub lowering-start : (coords : List Float) (d c : ℕ) (s : State) → s ≡ lowering coords d c 0 s
+unfolding putLow
+lowering-start coords d c s = refl
+
+module _ (m k d : ℕ) (w₀ coords : List Float) (u : List ℕ) (c : ℕ) (long : total m k d ≤ length w₀) where
+  pub lowering-turn : (w : List Float) (i : ℕ) (v x : Float) → i < m → v ≡ angleOf (rowOf coords d i) (rowOf (stateIn m k d w u .centers) d c)
+      → x ≡ cond (lt v (getD w (lowAt m k d + i) nan)) v (getD w (lowAt m k d + i) nan)
+      → stateIn m k d w u ≡ lowering coords d c i (stateIn m k d w₀ u) → stateIn m k d (set w (lowAt m k d + i) x) u ≡ lowering coords d c (i + 1) (stateIn m k d w₀ u)
+  unfolding putLow
+  lowering-turn w i v x h e ex f =
+      let s = stateIn m k d w₀ u in
+      let row = rowOf (s .centers) d c in
+      let new = lowered coords d row 0 (s .low) in
+      let ls : length (s .low) ≡ m = length-low m k d w₀ u long in
+      let ln : length new ≡ m = lowered-length coords d row 0 (s .low) ∙ ls in
+      let lp : length (take i new) ≡ i = length-take-le i new (omega arith) in
+      let g : v ≡ angleOf (rowOf coords d i) row = e ∙ ap (λ (t : State). angleOf (rowOf coords d i) (rowOf (t .centers) d c)) f in
+      let y : getD w (lowAt m k d + i) nan ≡ getD (s .low) i nan =
+      get-low m k d w u i nan h ∙ ap (λ (t : State). getD (t .low) i nan) f ∙ front-next (take i new) (s .low) i lp (omega arith) in
+      let at : x ≡ getD new i nan = ex ∙ rw (y, g) (sym (lowered-at coords d row (s .low) 0 i i (omega arith) (omega arith))) in
+      let more : take i new ++ (x ∷ []) ≡ take (i + 1) new = rw (add-one, at) (sym (take-suc new i nan (omega arith))) in
+      low-turn m k d w u s (take i new) i x h lp ls f ∙ ap (λ (r : List Float). putLow (r ++ drop (i + 1) (s .low)) s) more
+
+  pub lowering-end : (w : List Float) (i : ℕ) → i ≡ m → stateIn m k d w u ≡ lowering coords d c i (stateIn m k d w₀ u)
+      → stateIn m k d w u ≡ putLow (lowered coords d (rowOf (stateIn m k d w₀ u .centers) d c) 0 (stateIn m k d w₀ u .low)) (stateIn m k d w₀ u)
+  lowering-end w i e f =
+      let s = stateIn m k d w₀ u in
+      let new = lowered coords d (rowOf (s .centers) d c) 0 (s .low) in
+      let ls : length (s .low) ≡ m = length-low m k d w₀ u long in
+      let ln : length new ≤ m = omega (arith, lowered-length coords d (rowOf (s .centers) d c) 0 (s .low)) in
+      f ∙ ap (λ (n : ℕ). lowering coords d c n s) e ∙ ap (λ (x : List Float). putLow x s) (front-end (take m new) (s .low) m ls ∙ take-all m new ln)
+
+-- ---- the chances of the leaves
+chances-length : (ws xs : List Float) → length ws ≡ length xs → length (chances ws xs) ≡ length xs
+unfolding chances
+chances-length [] [] e = refl
+chances-length [] (x ∷ xs) e = absurd (omega arith)
+chances-length (w ∷ ws) [] e = refl
+chances-length (w ∷ ws) (x ∷ xs) e = ap suc (chances-length ws xs (omega arith))
+
+chances-at : (ws xs : List Float) (i : ℕ) → i < length ws → i < length xs → getD (chances ws xs) i nan ≡ mul binary64 (getD ws i nan) (getD xs i nan)
+unfolding chances
+chances-at [] xs i h g = absurd (omega arith)
+chances-at (w ∷ ws) [] i h g = absurd (omega arith)
+chances-at (w ∷ ws) (x ∷ xs) zero h g = refl
+chances-at (w ∷ ws) (x ∷ xs) (suc i) h g = chances-at ws xs i (omega arith) (omega arith)
+
+abbrev pub chancing : List Float → ℕ → State → State
+chancing weights i s = putHigh (take i (chances weights (s .low)) ++ drop i (s .high)) s
+
+pub chancing-start : (weights : List Float) (s : State) → s ≡ chancing weights 0 s
+unfolding putHigh
+chancing-start weights s = refl
+
+module _ (m k d : ℕ) (w₀ weights : List Float) (u : List ℕ) (long : total m k d ≤ length w₀) (lw : length weights ≡ m) where
+  pub chancing-turn : (w : List Float) (i : ℕ) (x : Float) → i < m → x ≡ mul binary64 (getD weights i nan) (getD w (lowAt m k d + i) nan)
+      → stateIn m k d w u ≡ chancing weights i (stateIn m k d w₀ u) → stateIn m k d (set w (highAt m k d + i) x) u ≡ chancing weights (i + 1) (stateIn m k d w₀ u)
+  unfolding putHigh
+  chancing-turn w i x h ex f =
+      let s = stateIn m k d w₀ u in
+      let new = chances weights (s .low) in
+      let ls : length (s .low) ≡ m = length-low m k d w₀ u long in
+      let ln : length new ≡ m = chances-length weights (s .low) (omega arith) ∙ ls in
+      let lp : length (take i new) ≡ i = length-take-le i new (omega arith) in
+      let y : getD w (lowAt m k d + i) nan ≡ getD (s .low) i nan = get-low m k d w u i nan h ∙ ap (λ (t : State). getD (t .low) i nan) f in
+      let at : x ≡ getD new i nan = ex ∙ rw y (sym (chances-at weights (s .low) i (omega arith) (omega arith))) in
+      let more : take i new ++ (x ∷ []) ≡ take (i + 1) new = rw (add-one, at) (sym (take-suc new i nan (omega arith))) in
+      high-turn m k d w u s (take i new) i x h lp (length-high m k d w₀ u long) f ∙ ap (λ (r : List Float). putHigh (r ++ drop (i + 1) (s .high)) s) more
+
+  pub chancing-end : (w : List Float) (i : ℕ) → i ≡ m → stateIn m k d w u ≡ chancing weights i (stateIn m k d w₀ u)
+      → stateIn m k d w u ≡ putHigh (chances weights (stateIn m k d w₀ u .low)) (stateIn m k d w₀ u)
+  chancing-end w i e f =
+      let s = stateIn m k d w₀ u in
+      let new = chances weights (s .low) in
+      let ls : length (s .low) ≡ m = length-low m k d w₀ u long in
+      let ln : length new ≤ m = omega (arith, chances-length weights (s .low) (omega arith)) in
+      f ∙ ap (λ (n : ℕ). chancing weights n s) e ∙ ap (λ (x : List Float). putHigh x s) (front-end (take m new) (s .high) m (length-high m k d w₀ u long) ∙ take-all m new ln)
+
+-- ---- a centre put in its row
+pub center-done : (m k d : ℕ) (w coords : List Float) (u : List ℕ) (c i : ℕ) (row : List Float) → c < k → i * d + d ≤ length coords → total m k d ≤ length w
+    → row ≡ unitVector (take (i * d + d - i * d) (drop (i * d) coords))
+    → stateIn m k d (putPart w (c * d) (c * d + d - c * d) row) u ≡ putCenter d c (unitVector (rowOf coords d i)) (stateIn m k d w u)
+unfolding putCenter
+center-done m k d w coords u c i row h g t e =
+    let f : c * d + d - c * d ≡ d = omega arith in
+    let e' : row ≡ unitVector (rowOf coords d i) = e ∙ ap unitVector (row-cut coords d i) in
+    rw (f, e') (put-row-centers m k d w u c (unitVector (rowOf coords d i)) (unit-length (rowOf coords d i) ∙ length-part coords (i * d) d g) h t)
+
+-- ---- before the first round
+pub fill-done : (w v : List Float) (at n : ℕ) (x : Float) → at + n ≤ length w → v ≡ replicate (length (take (at + n - at) (drop at w))) x
+    → putPart w at (at + n - at) v ≡ putPart w at n (replicate n x)
+fill-done w v at n x h e =
+    let f : at + n - at ≡ n = omega arith in
+    rw (e, f, length-part w at n h)
+
+pub start-done : (m k d : ℕ) (w w₁ w₂ w₃ w₄ w₅ coords : List Float) (u u' v : List ℕ) → total m k d ≤ length w → length w₁ ≡ length w → length w₂ ≡ length w → length w₃ ≡ length w → length w₄ ≡ length w
+    → m + k ≤ length u → stateIn m k d w₁ u' ≡ putScale (normsUpTo coords d m) (stateIn m k d w u') → w₂ ≡ putPart w₁ (lowAt m k d) m (replicate m (inf true))
+    → w₃ ≡ putPart w₂ (highAt m k d) m (replicate m (inf false)) → w₄ ≡ putPart w₃ (servedAt m k d) m (replicate m (inf true))
+    → w₅ ≡ putPart w₄ (driftAt m k d) k (replicate k (number 1)) → v ≡ replicate (length (take m u)) 0 → u' ≡ putPart u 0 m v
+    → stateIn m k d w₅ u' ≡ startedFrom coords m k d (stateIn m k d w u .centers)
+unfolding startedFrom putScale
+start-done m k d w w₁ w₂ w₃ w₄ w₅ coords u u' v t l₁ l₂ l₃ l₄ tu e₁ e₂ e₃ e₄ e₅ ev eu =
+    let s = stateIn m k d w u' in
+    let n = normsUpTo coords d m in
+    let low = replicate m (inf true) in
+    let high = replicate m (inf false) in
+    let drift = replicate k (number 1) in
+    let s₂ : stateIn m k d w₂ u' ≡ withLow low (putScale n s) =
+    rw e₂ (put-low-all m k d w₁ u' low (length-replicate m (inf true)) (omega arith)) ∙ ap (λ (x : State). withLow low x) e₁ in
+    let s₃ : stateIn m k d w₃ u' ≡ withHigh high (withLow low (putScale n s)) =
+    rw e₃ (put-high-all m k d w₂ u' high (length-replicate m (inf false)) (omega arith)) ∙ ap (λ (x : State). withHigh high x) s₂ in
+    let s₄ : stateIn m k d w₄ u' ≡ withServed low (withHigh high (withLow low (putScale n s))) =
+    rw e₄ (put-served-all m k d w₃ u' low (length-replicate m (inf true)) (omega arith)) ∙ ap (λ (x : State). withServed low x) s₃ in
+    let s₅ : stateIn m k d w₅ u' ≡ withDrift drift (withServed low (withHigh high (withLow low (putScale n s)))) =
+    rw e₅ (put-drift-all m k d w₄ u' drift (length-replicate k (number 1)) (omega arith)) ∙ ap (λ (x : State). withDrift drift x) s₄ in
+    let v' : v ≡ replicate m 0 = rw ev (ap (λ (j : ℕ). replicate j 0) (length-take-le m u (omega arith))) in
+    let su : s ≡ withLabels (replicate m 0) (stateIn m k d w u) = rw (eu, v') (put-labels-all m k d w u (replicate m 0) (length-replicate m 0) tu) in
+    s₅ ∙ ap (λ (x : State). withDrift drift (withServed low (withHigh high (withLow low (putScale n x))))) su
+
+-- ---- one centre more
+
+-- a unit row is as long as a leaf, and the leaf picked is one of the m
+seed-row-length : (coords : List Float) (m d i : ℕ) → length coords ≡ m * d → i < m → length (unitVector (rowOf coords d i)) ≡ d
+seed-row-length coords m d i e h = unit-length (rowOf coords d i) ∙ length-part coords (i * d) d (omega (arith, row-within i m d h))
+
+index-below : (weights : List Float) (state : ℕ) (s : State) (m : ℕ) → 0 < m → length weights ≡ m → length (s .low) ≡ m → nextPick weights state s .index < m
+index-below weights state s m h lw ls =
+    let l : length (chances weights (s .low)) ≡ m = chances-length weights (s .low) (omega arith) ∙ ls in
+    omega (arith, pick-below (chances weights (s .low)) state (omega arith))
+
+module _ (m k d : ℕ) (w w₁ weights : List Float) (u : List ℕ) (state : ℕ) (p : Picked) (t : total m k d ≤ length w)
+    (lw : length weights ≡ m) (e₁ : stateIn m k d w₁ u ≡ putHigh (chances weights (stateIn m k d w u .low)) (stateIn m k d w u))
+    (ep : p ≡ pickOf (take (highAt m k d + m - highAt m k d) (drop (highAt m k d) w₁)) state) where
+  next-is : p ≡ nextPick weights state (stateIn m k d w u)
+  unfolding putHigh
+  next-is =
+      let f : highAt m k d + m - highAt m k d ≡ m = omega arith in
+      let g : take (highAt m k d + m - highAt m k d) (drop (highAt m k d) w₁) ≡ chances weights (stateIn m k d w u .low) =
+      rw f (high-are m k d w₁ u ∙ ap (λ (x : State). x .high) e₁) in
+      ep ∙ ap (λ (x : List Float). pickOf x state) g
+
+  pub next-below : 0 < m → p .index < m
+  next-below h =
+      rw next-is (index-below weights state (stateIn m k d w u) m h lw (length-low m k d w u t))
+
+  pub next-done : (coords : List Float) (c : ℕ) (w₂ w₃ : List Float) → c < k → 0 < m → length coords ≡ m * d
+      → stateIn m k d w₂ u ≡ putCenter d c (unitVector (rowOf coords d (p .index))) (stateIn m k d w₁ u)
+      → stateIn m k d w₃ u ≡ putLow (lowered coords d (rowOf (stateIn m k d w₂ u .centers) d c) 0 (stateIn m k d w₂ u .low)) (stateIn m k d w₂ u)
+      → SeededNext weights coords d c state (stateIn m k d w u) (stateIn m k d w₃ u) (p .state)
+  unfolding putLow putHigh putCenter
+  next-done coords c w₂ w₃ h hm lc e₂ e₃ =
+      let s = stateIn m k d w u in
+      let row = unitVector (rowOf coords d (p .index)) in
+      let lr : length row ≡ d = seed-row-length coords m d (p .index) lc (next-below hm) in
+      let s₂ : stateIn m k d w₂ u ≡ putCenter d c row (putHigh (chances weights (s .low)) s) = e₂ ∙ ap (λ (x : State). putCenter d c row x) e₁ in
+      let within : c * d ≤ length (s .centers) = omega (arith, length-centers m k d w u t, row-within c k d h) in
+      let put : rowOf (putPart (s .centers) (c * d) d row) d c ≡ row = part-put (s .centers) (c * d) d row lr within in
+      let s₃ : stateIn m k d w₃ u
+      ≡ putLow (lowered coords d (rowOf (putPart (s .centers) (c * d) d row) d c) 0 (s .low)) (putCenter d c row (putHigh (chances weights (s .low)) s)) =
+      e₃ ∙ ap (λ (x : State). putLow (lowered coords d (rowOf (x .centers) d c) 0 (x .low)) x) s₂ in
+      let index : p .index ≡ nextPick weights state s .index = ap (λ (x : Picked). x .index) next-is in
+      record {
+        centers = ap (λ (x : State). x .centers) s₃ ∙ ap (λ (i : ℕ). putPart (s .centers) (c * d) d (unitVector (rowOf coords d i))) index;
+        distances =
+            ap (λ (x : State). x .low) s₃ ∙ ap (λ (r : List Float). lowered coords d r 0 (s .low)) put
+            ∙ ap (λ (i : ℕ). lowered coords d (unitVector (rowOf coords d i)) 0 (s .low)) index;
+        state-is = ap (λ (x : Picked). x .state) next-is;
+      }
+
+-- ---- the seeds, of which c are chosen
+pub record Held (weights coords : List Float) (m d state c : ℕ) (s : State) (r : ℕ) : Type 0 where
+  pub centers : take (c * d) (s .centers) ≡ seedsUpTo weights coords m d state (c - 1) .centers
+  pub distances : s .low ≡ seedsUpTo weights coords m d state (c - 1) .distances
+  pub state-is : r ≡ seedsUpTo weights coords m d state (c - 1) .state
+
+-- one row more of the rows at the front
+take-row : (l row : List Float) (c d : ℕ) → length row ≡ d → c * d ≤ length l → take ((c + 1) * d) (putPart l (c * d) d row) ≡ take (c * d) l ++ row
+take-row l row c d e h =
+    let f : length (take (c * d) l ++ row) ≡ c * d + d = length-append (take (c * d) l) row ∙ rw (length-take-le (c * d) l h, e) in
+    rw (add-one, suc-mul, ← append-assoc (take (c * d) l) row (drop d (drop (c * d) l))) (take-at (take (c * d) l ++ row) (drop d (drop (c * d) l)) (c * d + d) f)
+
+-- the first leaf picked is one of the m
+pub first-below : (weights : List Float) (m state : ℕ) (p : Picked) → 0 < m → length weights ≡ m → p ≡ pickOf weights state → p .index < m
+first-below weights m state p h lw e = rw e (omega (arith, pick-below weights state (omega arith)))
+
+module _ (weights coords : List Float) (m k d state : ℕ) (hm : 0 < m) (lw : length weights ≡ m) (lc : length coords ≡ m * d) where
+  pub held-first : (p : Picked) (s s₁ s₂ : State) → length (s .centers) ≡ k * d → p ≡ pickOf weights state
+      → s₁ ≡ putCenter d 0 (unitVector (rowOf coords d (p .index))) s → s₂ ≡ putLow (anglesUpTo coords d (rowOf (s₁ .centers) d 0) m) s₁
+      → Held weights coords m d state 1 s₂ (p .state)
+  unfolding putCenter putLow seedsUpTo
+  held-first p s s₁ s₂ ls e e₁ e₂ =
+      let row = unitVector (rowOf coords d (p .index)) in
+      let lr : length row ≡ d = seed-row-length coords m d (p .index) lc (first-below weights m state p hm lw e) in
+      let zeros : 0 * d ≤ length (s .centers) = rw zero-mul (omega arith) in
+      let put : rowOf (putPart (s .centers) (0 * d) d row) d 0 ≡ row = part-put (s .centers) (0 * d) d row lr zeros in
+      let front : take (1 * d) (putPart (s .centers) (0 * d) d row) ≡ row = take-row (s .centers) row 0 d lr zeros ∙ rw zero-mul in
+      let s₂' : s₂ ≡ putLow (anglesUpTo coords d (rowOf (putPart (s .centers) (0 * d) d row) d 0) m) (putCenter d 0 row s) =
+      e₂ ∙ ap (λ (x : State). putLow (anglesUpTo coords d (rowOf (x .centers) d 0) m) x) e₁ in
+      record {
+        centers = ap (λ (x : State). take (1 * d) (x .centers)) s₂' ∙ front ∙ ap (λ (x : Picked). unitVector (rowOf coords d (x .index))) e;
+        distances =
+            ap (λ (x : State). x .low) s₂' ∙ ap (λ (r : List Float). anglesUpTo coords d r m) put
+            ∙ ap (λ (x : Picked). anglesUpTo coords d (unitVector (rowOf coords d (x .index))) m) e;
+        state-is = ap (λ (x : Picked). x .state) e;
+      }
+
+  pub held-turn : (c r r' : ℕ) (s s' : State) → 0 < c → c < k → length (s .centers) ≡ k * d → length (s .low) ≡ m
+      → Held weights coords m d state c s r → SeededNext weights coords d c r s s' r' → Held weights coords m d state (c + 1) s' r'
+  unfolding seedsUpTo
+  held-turn c r r' s s' hc h ls ll g n =
+      let before = seedsUpTo weights coords m d state (c - 1) in
+      let f : c + 1 - 1 ≡ suc (c - 1) = omega arith in
+      let p = nextPick weights r s in
+      let q = pickOf (chances weights (before .distances)) (before .state) in
+      let row = unitVector (rowOf coords d (p .index)) in
+      let lr : length row ≡ d = seed-row-length coords m d (p .index) lc (index-below weights r s m hm lw ll) in
+      let within : c * d ≤ length (s .centers) = omega (arith, row-within c k d h) in
+      let same : p ≡ q = rw (g .distances, g .state-is) in
+      let grown : take ((c + 1) * d) (s' .centers) ≡ before .centers ++ row =
+      ap (λ (x : List Float). take ((c + 1) * d) x) (n .centers) ∙ take-row (s .centers) row c d lr within ∙ ap (λ (x : List Float). x ++ row) (g .centers) in
+      let lower : s' .low ≡ lowered coords d row 0 (before .distances) = n .distances ∙ ap (λ (x : List Float). lowered coords d row 0 x) (g .distances) in
+      record {
+        centers = rw f (grown ∙ ap (λ (x : Picked). before .centers ++ unitVector (rowOf coords d (x .index))) same);
+        distances = rw f (lower ∙ ap (λ (x : Picked). lowered coords d (unitVector (rowOf coords d (x .index))) 0 (before .distances)) same);
+        state-is = rw f (n .state-is ∙ ap (λ (x : Picked). x .state) same);
+      }
+
+pub held-end : (weights coords : List Float) (m k d state c r : ℕ) (s : State) → c ≡ k → length (s .centers) ≡ k * d → Held weights coords m d state c s r
+    → (s .centers ≡ seedsOf weights coords m k d state .centers) × (r ≡ seedsOf weights coords m k d state .state)
+held-end weights coords m k d state c r s e ls g =
+    let h : Held weights coords m d state k s r = subst (λ (n : ℕ). Held weights coords m d state n s r) e g in
+    (sym (take-all (k * d) (s .centers) (omega arith)) ∙ h .centers, h .state-is)

@@ -1,0 +1,5 @@
+pub mod Seeding
+pub mod Lloyd
+pub mod Cohesion
+pub mod Results
+pub mod Areas
