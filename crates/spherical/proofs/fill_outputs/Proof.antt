@@ -1,0 +1,190 @@
+-- The two copies out of the held half, each of as many elements as the region that it reads. Assumes nothing.
+use mathlib.Core.Path.{ap, sym, _∙_}
+use mathlib.Core.List.{List, _++_}
+use Prim.Native.Nat.{ℕ, _+_, _*_, _-_, _≤_}
+use native.Mathlib.Omega.{arith}
+use borrow.Author.Needs.{needs}
+use lib.ListN.{length, drop}
+use lib.Seq.{length-take-le}
+use lib.Ieee.{Float}
+use Rattle.spherical.specs.Halves.{half, heldAt}
+use Rattle.spherical.proofs.Halves.{held-within, alike, labels-at, centers-at}
+use Rattle.spherical.proofs.fill_outputs.Statement.{statement}
+use Rattle.spherical.proofs.fill_outputs.Tie as tie
+
+-- where the held half starts, in both arrays
+marks-held : (c : tie.After-held-at2)
+    → let a = c .before .before .before .before .before .before .args in
+    (c .held-at2 .result + (a .m + a .k) ≤ length (a .marks .now)) × (c .held-at2 .result ≤ a .m + a .k)
+marks-held c =
+    let s = c .before .before .before .before .before .before in
+    held-within (s .args .second) (s .args .m + s .args .k) (length (s .args .marks .now)) _ (s .pre .marks-long) (c .held-at2 .ensures)
+
+work-held : (c : tie.After-held-at2)
+    → let a = c .before .before .before .before .before .before .args in
+    (c .before .held-at .result + half (a .m) (a .k) (a .d) ≤ length (a .work .now)) × (c .before .held-at .result ≤ half (a .m) (a .k) (a .d))
+work-held c =
+    let s = c .before .before .before .before .before .before in
+    held-within (s .args .second) (half (s .args .m) (s .args .k) (s .args .d)) (length (s .args .work .now)) _ (s .pre .work-long) (c .before .held-at .ensures)
+
+mul-kd : tie.Need-mul-kd
+mul-kd c = search needs
+
+mul-n : tie.Need-mul-n
+mul-n c = search needs
+
+add-n : tie.Need-add-n
+add-n c = search needs
+
+add-n-2 : tie.Need-add-n-2
+add-n-2 c = search needs
+
+mul-n-2 : tie.Need-mul-n-2
+mul-n-2 c = search needs
+
+add-n-3 : tie.Need-add-n-3
+add-n-3 c = search needs
+
+mul-n-3 : tie.Need-mul-n-3
+mul-n-3 c = search needs
+
+add-n-4 : tie.Need-add-n-4
+add-n-4 c = search needs
+
+held-at-requires : tie.Need-held-at-requires
+held-at-requires c κs = search needs
+
+add-held-at : tie.Need-add-held-at
+add-held-at c = search needs
+
+held-at-requires-2 : tie.Need-held-at-requires-2
+held-at-requires-2 c κs = search needs
+
+slice-relend-prefix-copy-u32 : tie.Need-slice-relend-prefix-copy-u32
+slice-relend-prefix-copy-u32 c = search needs
+
+slice-aggregate-copy-u32 : tie.Need-slice-aggregate-copy-u32
+slice-aggregate-copy-u32 c =
+    let s = c .before .before .before .before .before .before .before in
+    sym (length-take-le (s .args .m) (s .args .labels .now) (s .pre .labels-long))
+
+add-copy-u32 : tie.Need-add-copy-u32
+add-copy-u32 c =
+    let s = c .before .before .before .before .before .before .before in
+    omega (arith, marks-held (c .before), s .pre .m-small, s .pre .k-small)
+
+mul-copy-u32 : tie.Need-mul-copy-u32
+mul-copy-u32 c =
+    let s = c .before .before .before .before .before .before .before in
+    omega (arith, marks-held (c .before), s .pre .m-small, s .pre .k-small)
+
+sub-copy-u32 : tie.Need-sub-copy-u32
+sub-copy-u32 c = search needs
+
+part-copy-u32-start : tie.Need-part-copy-u32-start
+part-copy-u32-start c = search needs
+
+part-copy-u32-end : tie.Need-part-copy-u32-end
+part-copy-u32-end c =
+    let s = c .before .before .before .before .before .before .before in
+    omega (arith, marks-held (c .before), s .pre .m-small, s .pre .k-small)
+
+copy-u32-requires : tie.Need-copy-u32-requires
+copy-u32-requires c κs =
+    let s = c .before .before .before .before .before .before .before .before in
+    let b = c .before .before .held-at2 .result in
+    let h = marks-held (c .before .before) in
+    alike (s .args .labels .now) (s .args .marks .now) (s .args .m) b (b + s .args .m - b) (omega arith) (s .pre .labels-long) (omega (arith, h .0))
+
+slice-relend-prefix-copy : tie.Need-slice-relend-prefix-copy
+slice-relend-prefix-copy c = search needs
+
+slice-aggregate-copy : tie.Need-slice-aggregate-copy
+slice-aggregate-copy c =
+    let s = c .before .before .before .before .before .before .before .before .before .before .before .before in
+    sym (length-take-le (s .args .k * s .args .d) (s .args .directions .now) (s .pre .directions-long))
+
+add-copy : tie.Need-add-copy
+add-copy c =
+    let s = c .before .before .before .before .before .before .before .before .before .before .before .before in
+    omega (arith, work-held (c .before .before .before .before .before .before), s .pre .m-small, s .pre .k-small, s .pre .mk-small, s .pre .kd-small)
+
+mul-copy : tie.Need-mul-copy
+mul-copy c =
+    let s = c .before .before .before .before .before .before .before .before .before .before .before .before in
+    omega (arith, work-held (c .before .before .before .before .before .before), s .pre .m-small, s .pre .k-small, s .pre .mk-small, s .pre .kd-small)
+
+sub-copy : tie.Need-sub-copy
+sub-copy c = search needs
+
+part-copy-start : tie.Need-part-copy-start
+part-copy-start c = search needs
+
+part-copy-end : tie.Need-part-copy-end
+part-copy-end c =
+    let s = c .before .before .before .before .before .before .before .before .before .before .before .before in
+    omega (arith, work-held (c .before .before .before .before .before .before), s .pre .m-small, s .pre .k-small, s .pre .mk-small, s .pre .kd-small)
+
+copy-requires : tie.Need-copy-requires
+copy-requires c κs =
+    let s = c .before .before .before .before .before .before .before .before .before .before .before .before .before in
+    let b = c .before .before .before .before .before .before .before .before .held-at .result in
+    let h = work-held (c .before .before .before .before .before .before .before) in
+    alike (s .args .directions .now) (s .args .work .now) (s .args .k * s .args .d) b (b + s .args .k * s .args .d - b) (omega arith) (s .pre .directions-long) (omega (arith, h .0))
+
+same-length : tie.Need-same-length
+same-length c = search needs
+
+same-length-2 : tie.Need-same-length-2
+same-length-2 c = search needs
+
+returns : tie.Need-returns
+returns c =
+    let f = c .before .before .before .before .before .before .before in
+    let g = f .before .before .before in
+    let s = g .before .before .before .before .before .before .args in
+    let n = s .k * s .d in
+    let a = heldAt (s .second) (half (s .m) (s .k) (s .d)) in
+    let b = heldAt (s .second) (s .m + s .k) in
+    let from = g .before .held-at .result in
+    let marked = g .held-at2 .result in (
+      ap (λ (l : List ℕ). l ++ drop (s .m) (s .labels .now))
+          (f .copy-u32 .ensures ∙ labels-at (s .m) (s .k) (s .d) (s .work .now) (s .marks .now) a b marked (marked + s .m - marked) (g .held-at2 .ensures) (omega arith)),
+      ap (λ (l : List Float). l ++ drop n (s .directions .now))
+          (c .before .before .copy .ensures ∙ centers-at (s .m) (s .k) (s .d) (s .work .now) (s .marks .now) a b from (from + n - from) (g .before .held-at .ensures) (omega arith)),
+    )
+
+pub fill-outputs-spec : {M : Type 1} → statement M
+fill-outputs-spec =
+    tie.close
+    (tie.spec
+    mul-kd
+    mul-n
+    add-n
+    add-n-2
+    mul-n-2
+    add-n-3
+    mul-n-3
+    add-n-4
+    held-at-requires
+    add-held-at
+    held-at-requires-2
+    slice-relend-prefix-copy-u32
+    slice-aggregate-copy-u32
+    add-copy-u32
+    mul-copy-u32
+    sub-copy-u32
+    part-copy-u32-start
+    part-copy-u32-end
+    copy-u32-requires
+    slice-relend-prefix-copy
+    slice-aggregate-copy
+    add-copy
+    mul-copy
+    sub-copy
+    part-copy-start
+    part-copy-end
+    copy-requires
+    same-length
+    same-length-2
+    returns)

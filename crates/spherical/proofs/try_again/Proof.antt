@@ -1,0 +1,104 @@
+-- A run in the free half, which lies within the arrays by which half is held, and its numbers are small enough to be added. Assumes nothing.
+use Prim.Native.Nat.{_+_}
+use lib.ListN.{length}
+use borrow.Author.Needs.{needs}
+use Rattle.lloyd.specs.Results.{resultOf}
+use Rattle.spherical.specs.Halves.{half, freeAt}
+use Rattle.spherical.proofs.Halves.{free-within, tried-of, addable}
+use Rattle.spherical.proofs.try_again.Statement.{statement}
+use Rattle.spherical.proofs.try_again.Tie as tie
+
+mul-kd : tie.Need-mul-kd
+mul-kd c = search needs
+
+mul-n : tie.Need-mul-n
+mul-n c = search needs
+
+add-n : tie.Need-add-n
+add-n c = search needs
+
+add-n-2 : tie.Need-add-n-2
+add-n-2 c = search needs
+
+mul-n-2 : tie.Need-mul-n-2
+mul-n-2 c = search needs
+
+add-n-3 : tie.Need-add-n-3
+add-n-3 c = search needs
+
+mul-n-3 : tie.Need-mul-n-3
+mul-n-3 c = search needs
+
+add-n-4 : tie.Need-add-n-4
+add-n-4 c = search needs
+
+free-at-requires : tie.Need-free-at-requires
+free-at-requires c κs = search needs
+
+add-free-at : tie.Need-add-free-at
+add-free-at c = search needs
+
+free-at-requires-2 : tie.Need-free-at-requires-2
+free-at-requires-2 c κs = search needs
+
+run-at-requires : tie.Need-run-at-requires
+run-at-requires c κs =
+    let s = c .before .before .before .before .before .before .before .before in
+    let a = s .args in
+    let n = half (a .m) (a .k) (a .d) in (
+      s .pre .0,
+      (
+        free-within (a .h .second) n (length (a .work .now)) (c .before .before .before .free-at .result) (s .pre .0 .work-long) (c .before .before .before .free-at .ensures),
+        free-within (a .h .second) (a .m + a .k) (length (a .marks .now)) (c .before .before .free-at2 .result) (s .pre .0 .marks-long) (c .before .before .free-at2 .ensures),
+      ),
+    )
+
+keep-requires : tie.Need-keep-requires
+keep-requires c κs =
+    let f = c .before .before .before .before in
+    let s = f .before .before .before .before .before .before .before .before .before in
+    let a = s .args in
+    addable _ (a .work .now) (f .run-at .last .0) (a .marks .now) (f .run-at .last .1 .0)
+    (f .before .before .before .before .free-at .result) (f .before .before .before .free-at2 .result) (a .m) (a .k) (a .d) (a .h) (f .run-at .result) (s .pre .1) (f .run-at .ensures)
+
+same-length : tie.Need-same-length
+same-length c = search needs
+
+same-length-2 : tie.Need-same-length-2
+same-length-2 c = search needs
+
+returns : tie.Need-returns
+returns c =
+    let f = c .before .before .before .before .before in
+    let s = f .before .before .before .before .before .before .before .before .before in
+    let a = s .args in
+    let n = half (a .m) (a .k) (a .d) in
+    record {
+      run = f .run-at .result;
+      tried =
+          tried-of (resultOf (a .weights .now) (a .coords .now) (a .m) (a .k) (a .d) (a .rounds) (a .h .state)) (a .work .now) (f .run-at .last .0) (a .marks .now) (f .run-at .last .1 .0)
+          (f .before .before .before .before .free-at .result) (freeAt (a .h .second) n) (f .before .before .before .free-at2 .result) (freeAt (a .h .second) (a .m + a .k)) (a .m) (a .k) (a .d) (f .run-at .result)
+          (f .before .before .before .before .free-at .ensures) (f .before .before .before .free-at2 .ensures) (f .run-at .ensures);
+      kept = c .keep .ensures;
+    }
+
+pub try-again-spec : {M : Type 1} → statement M
+try-again-spec =
+    tie.close
+    (tie.spec
+    mul-kd
+    mul-n
+    add-n
+    add-n-2
+    mul-n-2
+    add-n-3
+    mul-n-3
+    add-n-4
+    free-at-requires
+    add-free-at
+    free-at-requires-2
+    run-at-requires
+    keep-requires
+    same-length
+    same-length-2
+    returns)

@@ -1,0 +1,4 @@
+pub mod Restarts
+pub mod Refusals
+pub mod Outcome
+pub mod Halves
