@@ -1,12 +1,10 @@
 -- How far a rounded value lies from the fraction: |fl x - x| ≤ |x| / 2 ^ prec + half of the smallest value, in whole numbers. Assumes nothing.
-use mathlib.Core.Path.{_≡_, sym, ap, _∙_, subst}
+use mathlib.Core.Path.{_≡_, sym, ap, _∙_}
 use mathlib.Core.Logic.{inl, inr}
 use Prim.Native.Nat.{ℕ, suc, _+_, _-_, _*_, _/_, _%_, _^_, _≤_, _<_, compare, Ordering, Ordering·lt, Ordering·eq, Ordering·gt}
 use native.Mathlib.Nat.{le-trans, le-of-eq, suc-mul, add-mul, mul-one, mul-assoc, mul-comm, mul-left-comm, mul-add, mul-le-mul-right, mul-le-mul-left, mul-pos, div-add-mod', mod-lt, le-div-iff-mul-le, eq-zero-or-pos}
 use native.Mathlib.Omega.{arith}
-use mathlib.Core.Bool.{not}
-use lib.Arith.{lt-of-le-ne}
-use lib.Dec.{T, isLe, isEq, eqb, leb→le, nleb→lt, eqb→eq, eqb-refl, lit≤}
+use lib.Dec.{lit≤}
 use lib.Pow.{pow-add, pow-pos}
 use lib.Ieee.{Format, binary32, binary64, prec, low, nearest, size}
 use lib.Ieee.Digits.{size-reaches}
@@ -14,19 +12,7 @@ use lib.Ieee.Fits.{two}
 use lib.Ieee.Nearest.{closest}
 use lib.Ieee.Order.{drop, kept}
 use lib.Ieee.Scale.{grid}
-
-abbrev Cmp : Ordering → ℕ → ℕ → Type 0
-Cmp Ordering·lt a b = a < b
-Cmp Ordering·eq a b = a ≡ b
-Cmp Ordering·gt a b = b < a
-
-cmp : (a b : ℕ) → Cmp (compare a b) a b
-cmp a b = go (compare a b) (leb→le a b) (nleb→lt a b) (eqb→eq a b) (λ (e : a ≡ b). subst (λ (x : ℕ). T (eqb a x)) e (eqb-refl a))
-  where
-    go : (o : Ordering) → (T (isLe o) → a ≤ b) → (T (not (isLe o)) → b < a) → (T (isEq o) → a ≡ b) → (a ≡ b → T (isEq o)) → Cmp o a b
-    go Ordering·lt h k e n = lt-of-le-ne (h tt) n
-    go Ordering·eq h k e n = e tt
-    go Ordering·gt h k e n = k tt
+use Rattle.float.proofs.Rounding.{Cmp, cmp}
 
 off : (n u q r : ℕ) (o : Ordering) → q * u + r ≡ n → r < u → Cmp o (r * 2) u → (2 * n ≤ 2 * (nearest q o * u) + u) × (2 * (nearest q o * u) ≤ 2 * n + u)
 off n u q r Ordering·lt e l c = (omega arith, omega arith)

@@ -4,7 +4,7 @@ use mathlib.Core.List.{List, [], _∷_}
 use Prim.Native.Nat.{ℕ, suc, _+_, _-_, _*_, _/_, _^_, _≤_, _<_}
 use Prim.{yes, no}
 use native.Mathlib.Decide.{decLe}
-use native.Mathlib.Nat.{le-trans, le-of-eq, lt-of-lt-of-le, lt-of-not-le, not-le-of-lt, mul-comm, mul-assoc, mul-left-comm, mul-right-comm, mul-le-mul-right, mul-lt-mul-of-pos-right, mul-pos, mul-div-cancel, eq-of-mul-eq-mul-right, le-of-mul-le-mul-right, mul-suc, add-mul, mul-mul-mul-comm}
+use native.Mathlib.Nat.{le-trans, le-of-eq, lt-of-lt-of-le, lt-of-not-le, not-le-of-lt, mul-comm, mul-assoc, mul-left-comm, mul-right-comm, mul-le-mul-right, mul-lt-mul-of-pos-right, mul-pos, mul-div-cancel, eq-of-mul-eq-mul-right, le-of-mul-le-mul-right, add-mul, mul-mul-mul-comm}
 use native.Mathlib.Omega.{arith}
 use mathlib.Core.Bool.{Bool, true, false, _&&_, Bool·beq, cond, true≢false}
 use borrow.Author.Tests.{le-ltb}
@@ -19,7 +19,7 @@ use lib.Ieee.Order.{drop, kept}
 use lib.Ieee.Scale.{finite}
 use Rattle.float.proofs.Bound.{Within, held-whole}
 use Rattle.float.specs.Arithmetic.{dotFrom}
-use Rattle.float.proofs.Ranges.{All, within-finite, mul-within, add-within}
+use Rattle.float.proofs.Ranges.{grown, All, within-finite, mul-within, add-within}
 use Rattle.float.proofs.Units.{squaresFrom}
 use Rattle.float.proofs.Scaling.{mul-scale-both, Multiple, Grained, Coarse, scale, shifted, scale-val, mul-scale, add-scale, multiple-mul, multiple-add, multiple-sub, multiple-wider}
 
@@ -168,9 +168,6 @@ dot-scale g h A B S j s (x ∷ a) (y ∷ b) l m m' ws gs wa ga wb gb =
     ap (λ (z : Float). dotFrom (add binary64 (scale j s) z) (scaled j a) b) e₁
     ∙ ap (λ (z : Float). dotFrom z (scaled j a) b) e₂
     ∙ dot-scale g h A B (S + A * B) j (add binary64 s p) a b l (omega arith) (omega arith) wq gq (wa .1) (ga .1) (wb .1) (gb .1)
-  where
-    grown : (S C n : ℕ) → S + C * suc n ≡ S + C + C * n
-    grown S C n = rw (mul-suc C n) (omega arith)
 
 -- ---- a sum of squares
 pub squares-scale : (g A S j : ℕ) (s : Float) (xs : List Float) → Coarse binary64 (g + g)
@@ -200,6 +197,3 @@ squares-scale g A S j s (x ∷ a) l m m' ws gs wa ga =
     ap (λ (z : Float). squaresFrom (add binary64 (scale (j + j) s) z) (scaled j a)) e₁
     ∙ ap (λ (z : Float). squaresFrom z (scaled j a)) e₂
     ∙ squares-scale g A (S + A * A) j (add binary64 s p) a l (omega arith) (omega arith) wq gq (wa .1) (ga .1)
-  where
-    grown : (S C n : ℕ) → S + C * suc n ≡ S + C + C * n
-    grown S C n = rw (mul-suc C n) (omega arith)

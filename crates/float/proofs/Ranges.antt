@@ -100,6 +100,9 @@ abbrev pub All : (Float → Type 0) → List Float → Type 0
 All R [] = Unit {0}
 All R (x ∷ xs) = R x × All R xs
 
+pub grown : (S C n : ℕ) → S + C * suc n ≡ S + C + C * n
+grown S C n = rw (mul-suc C n) (omega arith)
+
 pub dot-within : (A B S : ℕ) (s : Float) (a b : List Float) → S + A * B * length a ≤ 9007199254740992 → Within S 1 s → All (Within A 1) a → All (Within B 1) b → Within (S + A * B * length a) 1 (dotFrom s a b)
 dot-within A B S s [] b l h k j = within-more S (S + A * B * 0) 1 s (omega arith) h
 dot-within A B S s (x ∷ a) [] l h k j = within-more S (S + A * B * suc (length a)) 1 s (omega arith) h
@@ -109,9 +112,6 @@ dot-within A B S s (x ∷ a) (y ∷ b) l h k j =
     let p : Within (A * B) 1 (mul binary64 x y) = mul-within binary64 A 1 B 1 x y (lit< tt) (lit< tt) (held-whole binary64 (A * B) (omega arith)) (k .0) (j .0) in
     let q : Within (S + A * B) 1 (add binary64 s (mul binary64 x y)) = add-within binary64 S (A * B) 1 s (mul binary64 x y) (lit< tt) (held-whole binary64 (S + A * B) (omega arith)) h p in
     rw e (dot-within A B (S + A * B) (add binary64 s (mul binary64 x y)) a b g q (k .1) (j .1))
-  where
-    grown : (S C n : ℕ) → S + C * suc n ≡ S + C + C * n
-    grown S C n = rw (mul-suc C n) (omega arith)
 
 -- 256 elements within ±2: the dot is finite, and within ±1024
 pub dot-256 : (s : Float) (a b : List Float) → length a ≤ 256 → Within 0 1 s → All (Within 2 1) a → All (Within 2 1) b → Within 1024 1 (dotFrom s a b)

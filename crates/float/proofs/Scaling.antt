@@ -4,7 +4,7 @@ use mathlib.Core.Logic.{inl, inr}
 use Prim.Native.Nat.{ℕ, zero, suc, _+_, _-_, _*_, _/_, _^_, _≤_, _<_}
 use Prim.{yes, no}
 use native.Mathlib.Decide.{decLe}
-use native.Mathlib.Nat.{le-trans, le-of-eq, lt-of-lt-of-le, lt-of-le-of-lt, lt-of-not-le, not-le-of-lt, one-mul, zero-mul, mul-comm, mul-assoc, mul-left-comm, mul-right-comm, mul-mul-mul-comm, mul-le-mul-right, mul-le-mul-left, mul-lt-mul-of-pos-right, mul-pos, le-div-iff-mul-le, div-lt-iff-lt-mul, eq-zero-or-pos, add-mul, mul-sub, le-of-mul-le-mul-right, lt-of-mul-lt-mul-right}
+use native.Mathlib.Nat.{le-trans, le-of-eq, lt-of-lt-of-le, lt-of-le-of-lt, lt-of-not-le, one-mul, zero-mul, mul-comm, mul-assoc, mul-left-comm, mul-right-comm, mul-mul-mul-comm, mul-le-mul-right, mul-le-mul-left, mul-lt-mul-of-pos-right, mul-pos, le-div-iff-mul-le, div-lt-iff-lt-mul, eq-zero-or-pos, add-mul, mul-sub, le-of-mul-le-mul-right, lt-of-mul-lt-mul-right}
 use native.Mathlib.Omega.{arith}
 use mathlib.Core.Bool.{Bool, true, false, not, _&&_, Bool·beq, cond, true≢false}
 use borrow.Author.Tests.{le-leb, lt-leb, lt-ltb, le-ltb, ne-eqb}
@@ -19,11 +19,10 @@ use lib.Ieee.Exact.{HasValue, round-exact}
 use lib.Ieee.Nearest.{closest, closest-same}
 use lib.Ieee.Order.{drop, kept}
 use lib.Ieee.Scale.{round-same, finite, normal-of-fraction}
+use Rattle.float.proofs.Pattern.{minus-same}
+use Rattle.float.proofs.Rounding.{size-gt}
 
 -- ---- 2 ^ t times a fraction that is 1 at least has t more digits in its whole part
-size-gt : (n j : ℕ) → 2 ^ j ≤ n → j < size n
-size-gt n j h = lt-of-not-le (λ (g : size n ≤ j). not-le-of-lt (lt-of-lt-of-le (size-lt n) (pow-mono g)) h)
-
 pred-lt : (z : ℕ) → 0 < z → z - 1 < z
 pred-lt z h = omega arith
 
@@ -79,18 +78,6 @@ scale-val (suc m) e j =
     ∙ simp (mul-assoc)
 
 -- ---- a power of two through `odd`, `units` and `round`
-minus-same : (a b c d : ℕ) → a + d ≡ c + b → minus a b ≡ minus c d
-minus-same a b c d e =
-    elim (decLe b a) [
-      | no n ↦
-          let h : a < b = lt-of-not-le n in
-          let k : c < d = omega arith in
-          rw (lt-leb b a h, lt-leb d c k) (ap negsuc (omega arith))
-      | yes h ↦
-          let k : d ≤ c = omega arith in
-          rw (le-leb b a h, le-leb d c k) (ap pos (omega arith))
-    ]
-
 raised-minus : (a l j : ℕ) → raised (minus a l) j ≡ minus (a + j) l
 raised-minus a l j =
     elim (decLe l a) [

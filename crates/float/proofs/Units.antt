@@ -3,7 +3,7 @@ use mathlib.Core.Path.{_≡_, refl, sym, ap, _∙_}
 use mathlib.Core.Logic.{_⊎_, inl, inr}
 use mathlib.Core.List.{List, [], _∷_}
 use Prim.Native.Nat.{ℕ, zero, suc, _+_, _-_, _*_, _%_, _^_, _≤_, _<_}
-use native.Mathlib.Nat.{le-trans, le-of-eq, lt-of-lt-of-le, lt-of-le-of-lt, not-le-of-lt, mul-one, zero-mul, mul-comm, mul-assoc, mul-left-comm, mul-le-mul-right, mul-lt-mul-of-pos-right, mul-pos, mul-suc, lt-of-mul-lt-mul-right, eq-zero-or-pos}
+use native.Mathlib.Nat.{le-trans, le-of-eq, lt-of-lt-of-le, lt-of-le-of-lt, not-le-of-lt, mul-one, zero-mul, mul-comm, mul-assoc, mul-left-comm, mul-le-mul-right, mul-lt-mul-of-pos-right, mul-pos, lt-of-mul-lt-mul-right, eq-zero-or-pos}
 use borrow.Author.Tests.{lt-ltb, le-ltb}
 use native.Mathlib.Omega.{arith}
 use mathlib.Core.Bool.{Bool, true, false, not, _&&_, true≢false}
@@ -18,7 +18,7 @@ use lib.Ieee.Positive.{through}
 use lib.Ieee.Scale.{finite}
 use Rattle.float.specs.Arithmetic.{dotFrom}
 use Rattle.float.proofs.Bound.{Within, Over, Signed, Held, held-whole, round-signed, round-over}
-use Rattle.float.proofs.Ranges.{All, within-more, mul-within, add-within}
+use Rattle.float.proofs.Ranges.{grown, All, within-more, mul-within, add-within}
 use Rattle.float.proofs.Scaling.{Grained}
 
 -- what `fits` says of the digits and of the exponent
@@ -214,9 +214,6 @@ squares-each A S s (x ∷ xs) l g w h =
     let gz : Good z = good-of z (S + C) 1 (sum-signed s y g gy) wz (add-fits binary64 s y) in
     let r = squares-each A (S + C) z xs (omega arith) gz wz (h .1) in
     rw e (record { good = r .good; most = r .most; start = at-most-trans s z (squaresFrom z xs) gz (more-left s y g gy) (r .start); each = (at-most-trans y z (squaresFrom z xs) gz (more-right s y g gy) (r .start), r .each) })
-  where
-    grown : (S C n : ℕ) → S + C * suc n ≡ S + C + C * n
-    grown S C n = rw (mul-suc C n) (omega arith)
 
 -- a sum that starts at -0, as Rust's does, is the one that starts at +0
 pub start-at-zero : (y : Float) → Good y → add binary64 (fin true 0 (pos 0)) y ≡ add binary64 (fin false 0 (pos 0)) y
