@@ -23,8 +23,23 @@ fn main() {
     vmf = replaced(&vmf, "use crate::feature::ClusterFeature;", "use crate::standins::ClusterFeature;", 1);
     vmf = replaced(&vmf, "use crate::mixture::Mixture;", "use crate::standins::Mixture;", 1);
     vmf = replaced(&vmf, "use crate::types::Real;", "use crate::standins::Real;", 1);
+    vmf = counted(&vmf);
     vmf.push_str(PROBES);
     fs::write(out.join("vmf.rs"), vmf).unwrap();
+}
+
+// The counters of document 01, and of the rounds begun, beside the original's own lines.
+fn counted(vmf: &str) -> String {
+    let mut vmf = replaced(vmf, "        // Loosen every bound", "        crate::counts::begun();\n        // Loosen every bound", 1);
+    let skip = ">= BOUND_SLACK {\n                continue;";
+    vmf = replaced(&vmf, skip, ">= BOUND_SLACK {\n                crate::counts::saved(k);\n                continue;", 1);
+    let pass = "            let mut best = 0;\n            let mut best_dot";
+    vmf = replaced(&vmf, pass, &format!("            crate::counts::made(k);\n{pass}"), 1);
+    let update = "        let previous = centers.clone();\n";
+    vmf = replaced(&vmf, update, &format!("{update}        let mut picked: Vec<usize> = Vec::new();\n"), 1);
+    let reseed = "                let worst = argmin(&served);\n";
+    let pick = "                crate::counts::doubled(picked.contains(&worst));\n                picked.push(worst);\n";
+    replaced(&vmf, reseed, &format!("{reseed}{pick}"), 1)
 }
 
 const PROBES: &str = "

@@ -1,11 +1,10 @@
 -- Document 01, 'Spherical k-means': the bounds of a leaf, their shifts (Schubert, Lang and Feher), the two smallest drifts and the skip. Definitions only.
 use mathlib.Core.List.{List}
-use mathlib.Core.Bool.{Bool, _&&_, cond}
+use mathlib.Core.Bool.{Bool, false, _&&_, cond}
 use Prim.Native.Nat.{ℕ, zero, suc}
 use lib.Dec.{eqb, ltb}
 use lib.ListN.{getD}
 use lib.Ieee.{Float, nan, inf, binary64, add, sub, mul, neg, lt, le}
-use mathlib.Core.Bool.{false}
 use Rattle.float.specs.Arithmetic.{f64, number, plusZero, maxOf, clampOf}
 use Rattle.float.specs.Root.{rootOf}
 use Rattle.bounds.specs.declared.Bounds.{Bounds}

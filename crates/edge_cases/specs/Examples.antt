@@ -5,12 +5,14 @@ use mathlib.Core.List.{List, [], _∷_}
 use mathlib.Core.Bool.{true, false}
 use Prim.Native.Nat.{ℕ}
 use lib.IntN.{negsuc}
-use lib.Ieee.{Float, inf, fin, add, sub, mul, div, neg, lt, isNan, ofInt, ofBits, round, size}
-use Rattle.float.specs.Arithmetic.{number, plusZero, minusZero, clampOf}
+use lib.Ieee.{Float, inf, fin, add, sub, mul, div, neg, lt, le, isNan, ofInt, ofBits, round, size}
+use Rattle.float.specs.Arithmetic.{number, plusZero, minusZero, maxOf, clampOf}
 use Rattle.float.specs.Root.{rootOf}
 use Rattle.float.specs.Exponential.{expOf}
 use Rattle.float.specs.Logarithm.{lnOf}
 use Rattle.bessel.specs.Concentration.{estimateOf, kappaMax}
+use Rattle.bounds.specs.declared.Slowest.{Slowest}
+use Rattle.bounds.specs.Shifts.{shiftLower, shiftUpper, slowestUpTo}
 
 -- an answer is one or more values
 pub data Value : Type 0 where
@@ -28,6 +30,20 @@ row g s = record { gives = g; says = s }
 abbrev one : Value → List Value
 one v = v ∷ []
 
+-- 0.5 and 0.25
+abbrev half : Float
+half = fin false 1 (negsuc 0)
+
+abbrev quarter : Float
+quarter = fin false 1 (negsuc 1)
+
+-- the place of the smallest, it, and the next
+abbrev slow : ℕ → Float → Float → List Value
+slow c p q = whole c ∷ float p ∷ float q ∷ []
+
+abbrev slowest : Slowest → List Value
+slowest s = slow (s .at) (s .least) (s .next)
+
 unfoldable pub table : List Row
 table =
     -- root of 4 is 2; of −0 is −0; of 2^−1074 is 2^−537
@@ -40,11 +56,20 @@ table =
     ∷ row (one (float (lnOf (number 1)))) (one (float plusZero))
     ∷ row (one (float (lnOf minusZero))) (one (float (inf true)))
     -- estimate 0.5 at d = 4 is 2.5, at d = 1 is 0.5
-    ∷ row (one (float (estimateOf 4 (fin false 1 (negsuc 0))))) (one (float (fin false 5 (negsuc 0))))
-    ∷ row (one (float (estimateOf 1 (fin false 1 (negsuc 0))))) (one (float (fin false 1 (negsuc 0))))
+    ∷ row (one (float (estimateOf 4 half))) (one (float (fin false 5 (negsuc 0))))
+    ∷ row (one (float (estimateOf 1 half))) (one (float half))
     -- cap at d = 3 is 1e4, at d = 4 is 1e6
     ∷ row (one (float (kappaMax 3))) (one (float (number 10000)))
     ∷ row (one (float (kappaMax 4))) (one (float (number 1000000)))
+    -- lower shift (0.5, −0.75) is −1; (1, 0) is 0
+    ∷ row (one (float (shiftLower half (fin true 3 (negsuc 1))))) (one (float (neg (number 1))))
+    ∷ row (one (float (shiftLower (number 1) plusZero))) (one (float plusZero))
+    -- upper shift (0.5, 0.5) is 1; (0, 1) is 0
+    ∷ row (one (float (shiftUpper half half))) (one (float (number 1)))
+    ∷ row (one (float (shiftUpper plusZero (number 1)))) (one (float plusZero))
+    -- two smallest of 0.5, 0.5, 0.25: index 2, 0.25, 0.5; of 0.5 alone: index 0, 0.5, +infinity
+    ∷ row (slowest (slowestUpTo (half ∷ half ∷ quarter ∷ []) 3)) (slow 2 quarter half)
+    ∷ row (slowest (slowestUpTo (half ∷ []) 1)) (slow 0 half (inf false))
     ∷ []
 
 abbrev allGive : List Row → List (List Value)
@@ -57,5 +82,5 @@ allSay (r ∷ rs) = r .says ∷ allSay rs
 
 -- every definition gives what document 01 says
 pub examples : allGive table ≡ allSay table
-unfolding table rootOf expOf lnOf estimateOf clampOf add sub mul div neg lt isNan ofInt ofBits round size
+unfolding table rootOf expOf lnOf estimateOf shiftLower shiftUpper slowestUpTo maxOf clampOf add sub mul div neg lt le isNan ofInt ofBits round size
 examples = refl

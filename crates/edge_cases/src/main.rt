@@ -1,5 +1,6 @@
 // Document 01's edge examples, run: a line for each, `yes` where the answer is as it says and `NO` where it is not; and
-// SplitMix64's published outputs.
+// SplitMix64's published outputs; and the limits of spherical k-means.
+ghost use Prim.Native.Nat.{_≤_};
 
 fn expect_line(name: &[u8], ok: bool) {
     io::write_all(1, name);
@@ -158,10 +159,283 @@ fn generator_lines() {
     );
 }
 
+// ---- the limits of spherical k-means
+
+// The number of a refusal, or 0.
+fn code(r: spherical::Clustered) -> u32 {
+    match r {
+        spherical::Clustered::Refused(c) => c,
+        spherical::Clustered::Done {
+            cohesion: _,
+            made: _,
+            saved: _,
+            doubled: _,
+        } => 0,
+    }
+}
+
+// What a call with small arrays, all long enough, answers.
+fn answer(
+    weights: &[f64],
+    coords: &[f64],
+    d: usize,
+    k: usize,
+    rounds: usize,
+    restarts: usize,
+) -> u32 {
+    let mut labels = [9u32; 8];
+    let mut directions = [9.0; 16];
+    let mut work = [0.0; 256];
+    let mut marks = [0u32; 32];
+    code(spherical::spherical_kmeans(
+        weights,
+        coords,
+        d,
+        k,
+        rounds,
+        restarts,
+        7,
+        &mut labels,
+        &mut directions,
+        &mut work,
+        &mut marks,
+    ))
+}
+
+fn least(a: usize, b: usize) -> usize
+    ensures { λ r. ⌜ r ≤ b ⌝ }
+{
+    if a < b { a } else { b }
+}
+
+// Three leaves of two coordinates in two groups, with arrays of these lengths: 3, 4, 84 and 10 are enough.
+fn answer_with(labels: usize, directions: usize, work: usize, marks: usize) -> u32 {
+    let weights = [1.0; 3];
+    let coords = [1.0, 0.0, 0.0, 1.0, 1.0, 0.5];
+    let mut a = [9u32; 8];
+    let mut b = [9.0; 16];
+    let mut c = [0.0; 256];
+    let mut e = [0u32; 32];
+    let i = least(labels, 8);
+    let j = least(directions, 16);
+    let n = least(work, 256);
+    let p = least(marks, 32);
+    code(spherical::spherical_kmeans(
+        &weights,
+        &coords,
+        2,
+        2,
+        10,
+        1,
+        7,
+        &mut a[..i],
+        &mut b[..j],
+        &mut c[..n],
+        &mut e[..p],
+    ))
+}
+
+fn array_lines() {
+    expect_line(
+        b"spherical_kmeans: arrays that are just long enough pass",
+        answer_with(3, 4, 84, 10) == 0,
+    );
+    expect_line(
+        b"spherical_kmeans: labels one too short are refused with 4",
+        answer_with(2, 4, 84, 10) == 4,
+    );
+    expect_line(
+        b"spherical_kmeans: directions one too short are refused with 4",
+        answer_with(3, 3, 84, 10) == 4,
+    );
+    expect_line(
+        b"spherical_kmeans: an f64 work array one too short is refused with 4",
+        answer_with(3, 4, 83, 10) == 4,
+    );
+    expect_line(
+        b"spherical_kmeans: a u32 work array one too short is refused with 4",
+        answer_with(3, 4, 84, 9) == 4,
+    );
+}
+
+fn size_lines() {
+    let w = [1.0; 3];
+    let x = [1.0, 0.0, 0.0, 1.0, 1.0, 0.5];
+    expect_line(
+        b"spherical_kmeans: as many groups as leaves pass",
+        answer(&w, &x, 2, 3, 10, 1) == 0,
+    );
+    expect_line(
+        b"spherical_kmeans: one group more than leaves is refused with 2",
+        answer(&w, &x, 2, 4, 10, 1) == 2,
+    );
+    expect_line(
+        b"spherical_kmeans: no group is refused with 2",
+        answer(&w, &x, 2, 0, 10, 1) == 2,
+    );
+    expect_line(
+        b"spherical_kmeans: no dimension is refused with 1",
+        answer(&w, &x, 0, 2, 10, 1) == 1,
+    );
+    expect_line(
+        b"spherical_kmeans: a wrong number of coordinates is refused with 1",
+        answer(&w, &x, 3, 2, 10, 1) == 1,
+    );
+}
+
+fn round_lines() {
+    let w = [1.0; 3];
+    let x = [1.0, 0.0, 0.0, 1.0, 1.0, 0.5];
+    expect_line(
+        b"spherical_kmeans: 10000 rounds pass",
+        answer(&w, &x, 2, 2, 10000, 1) == 0,
+    );
+    expect_line(
+        b"spherical_kmeans: 10001 rounds are refused with 3",
+        answer(&w, &x, 2, 2, 10001, 1) == 3,
+    );
+    expect_line(
+        b"spherical_kmeans: 64 restarts pass",
+        answer(&w, &x, 2, 2, 10, 64) == 0,
+    );
+    expect_line(
+        b"spherical_kmeans: 65 restarts are refused with 3",
+        answer(&w, &x, 2, 2, 10, 65) == 3,
+    );
+    expect_line(
+        b"spherical_kmeans: 0 rounds and 0 restarts pass",
+        answer(&w, &x, 2, 2, 0, 0) == 0,
+    );
+}
+
+fn weight_lines() {
+    let x = [1.0, -0.0];
+    let none = 0.0 / 0.0;
+    let past = float::of_bits(0x4270_0000_0000_0001);
+    expect_line(
+        b"spherical_kmeans: a weight of 2^40 passes",
+        answer(&[1099511627776.0, 1.0], &x, 1, 1, 9, 1) == 0,
+    );
+    expect_line(
+        b"spherical_kmeans: a weight just above 2^40 is refused with 5",
+        answer(&[past, 1.0], &x, 1, 1, 9, 1) == 5,
+    );
+    expect_line(
+        b"spherical_kmeans: weights +0 and -0 pass",
+        answer(&[0.0, -0.0], &x, 1, 1, 9, 1) == 0,
+    );
+    expect_line(
+        b"spherical_kmeans: a NaN weight is refused with 5",
+        answer(&[1.0, none], &x, 1, 1, 9, 1) == 5,
+    );
+    expect_line(
+        b"spherical_kmeans: a weight of -1 is refused with 5",
+        answer(&[-1.0, 1.0], &x, 1, 1, 9, 1) == 5,
+    );
+}
+
+fn coordinate_lines() {
+    let none = 0.0 / 0.0;
+    let two = float::of_bits(0x4000_0000_0000_0001);
+    expect_line(
+        b"spherical_kmeans: coordinates 2 and -2 pass",
+        answer(&[1.0, 1.0], &[2.0, -2.0], 1, 1, 9, 1) == 0,
+    );
+    expect_line(
+        b"spherical_kmeans: a coordinate just above 2 is refused with 6",
+        answer(&[1.0, 1.0], &[two, 1.0], 1, 1, 9, 1) == 6,
+    );
+    expect_line(
+        b"spherical_kmeans: an infinite coordinate is refused with 6",
+        answer(&[1.0, 1.0], &[1.0, 1.0 / 0.0], 1, 1, 9, 1) == 6,
+    );
+    expect_line(
+        b"spherical_kmeans: a NaN coordinate is refused with 6",
+        answer(&[1.0, 1.0], &[1.0, none], 1, 1, 9, 1) == 6,
+    );
+}
+
+// Of several refusals the first in the order 1 to 6.
+fn order_lines() {
+    let x = [1.0, -0.0];
+    let none = 0.0 / 0.0;
+    expect_line(
+        b"spherical_kmeans: a bad weight is refused before a bad coordinate",
+        answer(&[none, 1.0], &[none, 1.0], 1, 1, 9, 1) == 5,
+    );
+    expect_line(
+        b"spherical_kmeans: too many rounds are refused before a bad weight",
+        answer(&[none, 1.0], &x, 1, 1, 10001, 1) == 3,
+    );
+    expect_line(
+        b"spherical_kmeans: too many groups are refused before too many rounds",
+        answer(&[none, 1.0], &x, 1, 3, 10001, 1) == 2,
+    );
+    expect_line(
+        b"spherical_kmeans: a wrong number of coordinates is refused first",
+        answer(&[none, 1.0], &x, 2, 3, 10001, 1) == 1,
+    );
+}
+
+// The same with arrays that are long enough for each of the largest calls below.
+fn answer_large(weights: &[f64], coords: &[f64], d: usize, k: usize) -> u32 {
+    let mut labels = [9u32; 4096];
+    let mut directions = [9.0; 256];
+    let mut work = [0.0; 40980];
+    let mut marks = [0u32; 8194];
+    code(spherical::spherical_kmeans(
+        weights,
+        coords,
+        d,
+        k,
+        10,
+        1,
+        7,
+        &mut labels,
+        &mut directions,
+        &mut work,
+        &mut marks,
+    ))
+}
+
+fn many_lines() {
+    expect_line(
+        b"spherical_kmeans: 4096 leaves pass",
+        answer_large(&[1.0; 4096], &[0.5; 4096], 1, 1) == 0,
+    );
+    expect_line(
+        b"spherical_kmeans: 4097 leaves are refused with 1",
+        answer_large(&[1.0; 4097], &[0.5; 4097], 1, 1) == 1,
+    );
+    expect_line(
+        b"spherical_kmeans: 256 dimensions pass",
+        answer_large(&[1.0], &[0.5; 256], 256, 1) == 0,
+    );
+    expect_line(
+        b"spherical_kmeans: 257 dimensions are refused with 1",
+        answer_large(&[1.0], &[0.5; 257], 257, 1) == 1,
+    );
+    expect_line(
+        b"spherical_kmeans: 64 groups pass",
+        answer_large(&[1.0; 65], &[0.5; 65], 1, 64) == 0,
+    );
+    expect_line(
+        b"spherical_kmeans: 65 groups are refused with 2",
+        answer_large(&[1.0; 65], &[0.5; 65], 1, 65) == 2,
+    );
+}
+
 fn main() {
     root_lines();
     exp_lines();
     ln_lines();
     other_lines();
     generator_lines();
+    array_lines();
+    size_lines();
+    round_lines();
+    weight_lines();
+    coordinate_lines();
+    order_lines();
+    many_lines();
 }

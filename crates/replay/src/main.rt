@@ -229,6 +229,104 @@ fn bessel_agrees(kind: u64, text: &[u8]) -> bool {
     kind == 20 && is_number(bessel::kappa_max(d), text, 1)
 }
 
+// The product of two counts.
+fn times(a: usize, b: usize) -> usize {
+    a % 65536 * (b % 65536)
+}
+
+fn mark(x: u32) -> u64 {
+    x as u64
+}
+
+// Whether the first n of v are the words from word `from` on, and the rest are still 7.
+fn are_marks(v: &[u32], n: usize, text: &[u8], from: usize) -> bool {
+    let mut same = true;
+    let mut j = 0;
+    while j < v.len() {
+        if j < n {
+            same = same & (mark(v[j]) == word(text, plus(from, j)));
+        } else {
+            same = same & (v[j] == 7);
+        }
+        j += 1;
+    }
+    same
+}
+
+// The same of f64, the rest still 7.5.
+fn are_rows(v: &[f64], n: usize, text: &[u8], from: usize) -> bool {
+    let mut same = true;
+    let mut j = 0;
+    while j < v.len() {
+        if j < n {
+            same = same & is_number(v[j], text, plus(from, j));
+        } else {
+            same = same & (v[j] == 7.5);
+        }
+        j += 1;
+    }
+    same
+}
+
+// Whether r is done and has the words from word `at` on.
+fn done_agrees(r: spherical::Clustered, text: &[u8], at: usize) -> bool {
+    match r {
+        spherical::Clustered::Refused(_) => false,
+        spherical::Clustered::Done {
+            cohesion,
+            made,
+            saved,
+            doubled,
+        } => {
+            is_number(cohesion, text, at)
+                && made == word(text, plus(at, 1))
+                && saved == word(text, plus(at, 2))
+                && doubled == word(text, plus(at, 3))
+        }
+    }
+}
+
+// Kind 21 with these leaves; the answer's words are from word `at` on. The outputs are longer than needed, and their rest is
+// looked at too.
+fn groups_agree(text: &[u8], weights: &[f64], coords: &[f64], at: usize) -> bool {
+    let d = word(text, 1) as usize;
+    let k = word(text, 2) as usize;
+    let mut labels = [7u32; 132];
+    let mut directions = [7.5; 640];
+    let mut work = [0.0; 12288];
+    let mut marks = [0u32; 384];
+    let r = spherical::spherical_kmeans(
+        weights,
+        coords,
+        d,
+        k,
+        word(text, 3) as usize,
+        word(text, 4) as usize,
+        word(text, 5),
+        &mut labels,
+        &mut directions,
+        &mut work,
+        &mut marks,
+    );
+    let m = weights.len();
+    done_agrees(r, text, at)
+        && are_marks(&labels, m, text, plus(at, 4))
+        && are_rows(&directions, times(k, d), text, plus(plus(at, 4), m))
+}
+
+// Kind 21, spherical k-means: m, d, k, rounds, restarts, seed, m weights, m * d coordinates; cohesion, made, saved, doubled, the
+// labels, the directions.
+fn spherical_agrees(text: &[u8]) -> bool {
+    let m = word(text, 0) as usize;
+    let n = times(m, word(text, 1) as usize);
+    let mut weights = [0.0; 128];
+    let mut coords = [0.0; 1024];
+    let a = load(&mut weights, text, 6, m);
+    let b = load(&mut coords, text, plus(6, m), n);
+    let at = plus(plus(6, m), n);
+    groups_agree(text, &weights[..a], &coords[..b], at)
+}
+
 fn agrees(kind: u64, text: &[u8], ins: usize) -> bool {
     if kind <= 6 {
         return arithmetic_agrees(kind, text);
@@ -239,7 +337,10 @@ fn agrees(kind: u64, text: &[u8], ins: usize) -> bool {
     if kind <= 16 {
         return vector_agrees(kind, text, ins);
     }
-    bessel_agrees(kind, text)
+    if kind <= 20 {
+        return bessel_agrees(kind, text);
+    }
+    kind == 21 && spherical_agrees(text)
 }
 
 fn print_arithmetic(kind: u64) {
@@ -293,8 +394,14 @@ fn print_bessel(kind: u64) {
         io::write_all(1, b"log_vmf_norm: ");
     } else if kind == 19 {
         io::write_all(1, b"estimate_kappa: ");
-    } else if kind == 20 {
+    } else {
         io::write_all(1, b"kappa_max: ");
+    }
+}
+
+fn print_fit(kind: u64) {
+    if kind == 21 {
+        io::write_all(1, b"spherical_kmeans: ");
     } else {
         io::write_all(1, b"unknown kind: ");
     }
@@ -307,8 +414,10 @@ fn print_kind(kind: u64) {
         print_generator(kind);
     } else if kind <= 16 {
         print_vector(kind);
-    } else {
+    } else if kind <= 20 {
         print_bessel(kind);
+    } else {
+        print_fit(kind);
     }
 }
 

@@ -1,0 +1,37 @@
+// Document 01's three counts and the rounds begun, counted beside the original's own lines.
+use std::cell::Cell;
+
+thread_local! {
+    static MADE: Cell<u64> = const { Cell::new(0) };
+    static SAVED: Cell<u64> = const { Cell::new(0) };
+    static DOUBLED: Cell<u64> = const { Cell::new(0) };
+    static BEGUN: Cell<u64> = const { Cell::new(0) };
+}
+
+pub struct Counts {
+    pub made: u64,
+    pub saved: u64,
+    pub doubled: u64,
+    pub begun: u64,
+}
+
+pub fn made(k: usize) {
+    MADE.set(MADE.get() + k as u64);
+}
+
+pub fn saved(k: usize) {
+    SAVED.set(SAVED.get() + k as u64);
+}
+
+pub fn doubled(again: bool) {
+    DOUBLED.set(DOUBLED.get() + again as u64);
+}
+
+pub fn begun() {
+    BEGUN.set(BEGUN.get() + 1);
+}
+
+// What was counted since the last call.
+pub fn take() -> Counts {
+    Counts { made: MADE.take(), saved: SAVED.take(), doubled: DOUBLED.take(), begun: BEGUN.take() }
+}
