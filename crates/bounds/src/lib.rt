@@ -1,7 +1,8 @@
 // A leaf's bounds and its best centre (vmf.rs; document 01, 'Spherical k-means'): the shifts of the bounds after the centres
 // turned, the two smallest drifts, the skip, and the best of the centres with the next best dot.
 ghost use mathlib.Core.Path.{_≡_};
-ghost use Prim.Native.Nat.{_+_, _*_, _-_, _<_, _≤_};
+ghost use mathlib.Core.Bool.{true, false};
+ghost use Prim.Native.Nat.{ℕ, _+_, _*_, _-_, _<_, _≤_};
 ghost use lib.ListN.{length};
 ghost use Rattle.vector.specs.Rows.{rowOf};
 ghost use Rattle.vector.specs.Vectors.{dotOf};
@@ -108,6 +109,17 @@ pub fn shifted(b: Bounds, own: f64, other: f64, several: bool) -> Bounds
         low: shift_lower(b.low, own),
         high: b.high,
     }
+}
+
+// Whether the shifted bounds of a leaf could still let it be skipped, without their roots; false only where they cannot.
+pub fn may_skip(b: Bounds, own: f64, other: f64) -> bool
+    ensures { λ r. ⌜ (r ≡ false → (it : ℕ) → skips it (shiftedBounds true own other b) ≡ false) ⌝ }
+{
+    let l = float::clamp(b.low, -1.0, 1.0);
+    let p = float::clamp(own, -1.0, 1.0);
+    let u = float::clamp(b.high, -1.0, 1.0);
+    let q = float::clamp(other, -1.0, 1.0);
+    !(l * p - u * q < 1e-12)
 }
 
 // Whether the leaf is skipped in round `it`.

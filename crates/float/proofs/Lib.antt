@@ -19,6 +19,7 @@ pub mod Assemble
 pub mod Parts
 -- ---- the definitions of specs/
 pub mod ClampOf
+pub mod Monotone
 pub mod Floor
 pub mod Exponential
 pub mod Logarithm

@@ -4,6 +4,7 @@ pub mod Sizes
 pub mod Seeds
 pub mod Tallies
 pub mod Passes
+pub mod Fused
 pub mod Sums
 pub mod Updates
 pub mod Rounds

@@ -1,4 +1,4 @@
--- What the calls of a leaf's turn in a shift and in a pass ensure is the definition's step, over plain lists; a shift leaves labels and drifts, a pass keeps
+-- What the calls of a leaf's turn in a shift and in a pass ensure is the definition's step, over plain lists; a shift leaves labels, a pass keeps
 -- labels below k, and its counts are small. By the laws of the regions, and by recursion on the leaves done. Assumes nothing.
 use mathlib.Core.Path.{_≡_, refl, ap, sym, _∙_}
 use mathlib.Core.List.{List, [], _∷_}
@@ -41,24 +41,15 @@ slowest-is m k d w u t g e =
     e ∙ rw (f, drift-are m k d w u, length-drift m k d w u g)
 
 module _ (k : ℕ) (t : Slowest) (s : State) where
-  pub shift-turn : (n : ℕ) (x x' : State) → x ≡ shiftUpTo k t s n → x' ≡ shiftLeaf k t n x → x' ≡ shiftUpTo k t s (n + 1)
-  unfolding shiftUpTo
-  shift-turn n x x' e f = f ∙ rw (e, add-one)
-
   pub shift-labels : (n : ℕ) → shiftUpTo k t s n .labels ≡ s .labels
   unfolding shiftUpTo putBounds
   shift-labels zero = refl
   shift-labels (suc n) = shift-labels n
 
-  pub shift-drift : (n : ℕ) → shiftUpTo k t s n .drift ≡ s .drift
-  unfolding shiftUpTo putBounds
-  shift-drift zero = refl
-  shift-drift (suc n) = shift-drift n
-
 -- the shift is made after the first round
 module _ (m k it : ℕ) (s : State) where
-  pub shift-made : 0 < it → (x : State) → x ≡ shiftUpTo k (slowestUpTo (s .drift) k) s m → x ≡ shiftedFor m k it s
-  shift-made h x e = e ∙ rw (lt-ltb 0 it h)
+  pub shift-made : 0 < it → shiftUpTo k (slowestUpTo (s .drift) k) s m ≡ shiftedFor m k it s
+  shift-made h = rw (lt-ltb 0 it h)
 
   pub shift-left : it ≤ 0 → s ≡ shiftedFor m k it s
   shift-left h = rw (le-ltb 0 it h)

@@ -4,13 +4,15 @@ use mathlib.Core.List.{List, [], _∷_}
 use mathlib.Core.Bool.{Bool, true, false, not, _&&_, _||_, cond}
 use Prim.Native.Nat.{ℕ, zero, suc, _+_, _*_, _≤_, _<_}
 use lib.ListN.{length, getD, set}
-use lib.Ieee.{Float, nan, inf}
+use lib.Ieee.{Float, nan, inf, lt}
 use Rattle.vector.specs.Rows.{part, putPart, cut, rowOf}
 use Rattle.vector.specs.Pick.{pickOf}
 use Rattle.vector.specs.declared.Picked.{Picked}
 use Rattle.vector.specs.Vectors.{dotOf, argminOf, unitVector}
-use lib.Dec.{eqb}
-use Rattle.bounds.specs.Shifts.{skips}
+use lib.Dec.{eqb, ltb}
+use Rattle.float.specs.Arithmetic.{plusZero}
+use Rattle.bounds.specs.declared.Bounds.{Bounds}
+use Rattle.bounds.specs.Shifts.{shiftedBounds, skips}
 use Rattle.lloyd.specs.Seeding.{lowered, chances}
 use Rattle.lloyd.specs.Results.{Result}
 use Rattle.lloyd.specs.Lloyd.{State, Update, Pass, Run, passOf, endsAt, updateOf, boundsAt, bestOf, putBest, addLeaf, countOne, sumsUpTo, countsUpTo, putServed, moveCenter, centerBy, updateUpTo}
@@ -106,6 +108,13 @@ pub record Area (work m k d : ℕ) : Type 0 where
   pub work-long : total m k d ≤ work
 
 -- ---- what a leaf's turn in a pass does, and how it is counted
+
+-- a leaf that no pass skips once its bounds are shifted, and whose new bounds come from its dots alone
+pub record Spent (k : ℕ) (own other : Float) (b : Bounds) : Type 0 where
+  pub several : ltb 1 k ≡ true
+  pub scaled : lt plusZero (b .scale) ≡ true
+  pub stays : (it : ℕ) → skips it (shiftedBounds true own other b) ≡ false
+
 pub record LeafPassed (coords : List Float) (k d it i : ℕ) (s s' : State) (skipped changed : Bool) : Type 0 where
   pub skip : skipped ≡ skips it (boundsAt s i)
   pub change : changed ≡ not (skips it (boundsAt s i)) && not (eqb (getD (s .labels) i 0) (bestOf coords k d s i .index))

@@ -2,7 +2,7 @@
 // and the skip, reseeds, and cohesion. The f64 area holds centres, sums, scale, low, high, served and drift, the u32 area labels
 // and counts, side by side; specs/Areas.antt names the places. m leaves of d coordinates, k groups.
 ghost use mathlib.Core.Path.{_≡_};
-ghost use mathlib.Core.Bool.{cond, not};
+ghost use mathlib.Core.Bool.{true, cond, not};
 ghost use mathlib.Core.List.{List};
 ghost use Prim.Native.Nat.{ℕ, _+_, _*_, _<_, _≤_};
 ghost use lib.Dec.{eqb};
@@ -16,7 +16,7 @@ ghost use Rattle.lloyd.specs.Cohesion.{cohesionOf};
 ghost use Rattle.lloyd.specs.Results.{resultOf};
 ghost use Rattle.float.specs.Arithmetic.{plusZero, sumFrom};
 ghost use Rattle.vector.specs.Vectors.{unitVector};
-ghost use Rattle.lloyd.specs.Areas.{stateIn, sumsIn, countsIn, Sized, LeafOf, GroupOf, Labelled, Area, LeafPassed, tallied, Gains, Gained, Accumulated, serveLeaf, LaterRows, occursUpTo, Reseeded, GroupUpdated, CountsAtMost, Updated, Settled, RoundDone, freshRun, Lloyded, putScale, putLow, putHigh, putCenter, Seeding, SeededNext, Runnable, RunDone};
+ghost use Rattle.lloyd.specs.Areas.{stateIn, sumsIn, countsIn, Sized, LeafOf, GroupOf, Labelled, Area, Spent, LeafPassed, tallied, Gains, Gained, Accumulated, serveLeaf, LaterRows, occursUpTo, Reseeded, GroupUpdated, CountsAtMost, Updated, Settled, RoundDone, freshRun, Lloyded, putScale, putLow, putHigh, putCenter, Seeding, SeededNext, Runnable, RunDone};
 
 // ---- the bounds of a leaf
 
@@ -57,46 +57,16 @@ fn other_drift(t: bounds::Slowest, label: usize) -> f64
     if t.at == label { t.next } else { t.least }
 }
 
-// Leaf i's bounds shifted by how far the centres turned.
-fn shift_leaf(
-    work: &mut [f64],
-    marks: &[u32],
-    t: bounds::Slowest,
-    i: usize,
-    m: usize,
-    k: usize,
-    d: usize,
-)
-    requires { ⌜ Sized (length (now work)) (length (now marks)) (m * d) m k d ⌝ }
-    requires { ⌜ (LeafOf i m d) × (getD (now marks) i 0 < k) ⌝ }
-    ensures { λ _. ⌜ stateIn m k d (now (work .exit)) (now (marks .entry)) ≡ shiftLeaf k t i (stateIn m k d (now (work .entry)) (now (marks .entry))) ⌝ }
+// Whether the leaf is given new bounds from its dots however its own are shifted.
+fn is_spent(b: bounds::Bounds, own: f64, other: f64, k: usize) -> bool
+    ensures { λ r. ⌜ (r ≡ true → Spent k own other b) ⌝ }
 {
-    let label = marks[i] as usize;
-    let kd = k * d;
-    let drift = kd + kd + m + m + m + m;
-    let own = work[drift + label];
-    let other = other_drift(t, label);
-    let b = bounds_at(work, i, m, k, d);
-    let s = bounds::shifted(b, own, other, k > 1);
-    put_bounds(work, i, s, m, k, d);
-}
-
-// Every leaf's bounds shifted.
-fn shift_all(work: &mut [f64], marks: &[u32], m: usize, k: usize, d: usize)
-    requires { ⌜ Sized (length (now work)) (length (now marks)) (m * d) m k d ⌝ }
-    requires { ⌜ Labelled m k (stateIn m k d (now work) (now marks)) ⌝ }
-    ensures { λ _. ⌜ stateIn m k d (now (work .exit)) (now (marks .entry))
-        ≡ shiftUpTo k (slowestUpTo (stateIn m k d (now (work .entry)) (now (marks .entry)) .drift) k) (stateIn m k d (now (work .entry)) (now (marks .entry))) m ⌝ }
-{
-    let kd = k * d;
-    let drift = kd + kd + m + m + m + m;
-    let s = &work[..];
-    let t = bounds::two_smallest(&s[drift..drift + k]);
-    let mut i = 0;
-    while i < m {
-        shift_leaf(work, marks, t, i, m, k, d);
-        i += 1;
+    if k > 1 {
+        if b.scale > 0.0 {
+            return !bounds::may_skip(b, own, other);
+        }
     }
+    false
 }
 
 // ---- the assignment pass
@@ -186,6 +156,39 @@ fn assign_leaf(
     }
 }
 
+// Leaf i in a pass after the first round: its bounds are shifted by how far the centres turned, unless it gets new ones anyway.
+fn turn_leaf(
+    work: &mut [f64],
+    marks: &mut [u32],
+    coords: &[f64],
+    t: bounds::Slowest,
+    it: usize,
+    i: usize,
+    m: usize,
+    k: usize,
+    d: usize,
+) -> Turn
+    requires { ⌜ Sized (length (now work)) (length (now marks)) (length (now coords)) m k d ⌝ }
+    requires { ⌜ (LeafOf i m d) × (getD (now marks) i 0 < k) ⌝ }
+    ensures { λ r. ⌜ LeafPassed (now (coords .entry)) k d it i (shiftLeaf k t i (stateIn m k d (now (work .entry)) (now (marks .entry)))) (stateIn m k d (now (work .exit)) (now (marks .exit))) (r .skipped) (r .changed) ⌝ }
+{
+    let label = marks[i] as usize;
+    let kd = k * d;
+    let drift = kd + kd + m + m + m + m;
+    let own = work[drift + label];
+    let other = other_drift(t, label);
+    let b = bounds_at(work, i, m, k, d);
+    if is_spent(b, own, other, k) {
+        return Turn {
+            skipped: false,
+            changed: place_leaf(work, marks, coords, i, m, k, d),
+        };
+    }
+    let s = bounds::shifted(b, own, other, k > 1);
+    put_bounds(work, i, s, m, k, d);
+    assign_leaf(work, marks, coords, it, i, m, k, d)
+}
+
 // What a pass answers: whether a label changed, and the products made and saved.
 pub struct Passed {
     pub changed: bool,
@@ -212,7 +215,7 @@ fn tally(p: Passed, t: Turn, k: usize) -> Passed
     }
 }
 
-// The pass of round `it`.
+// The pass of round `it` over the bounds as they are.
 fn assign(
     work: &mut [f64],
     marks: &mut [u32],
@@ -236,6 +239,40 @@ fn assign(
     while i < m {
         let t = assign_leaf(work, marks, coords, it, i, m, k, d);
         p = tally(p, t, k);
+        i += 1;
+    }
+    p
+}
+
+// The pass of round `it` after the first, with the shift of the bounds, leaf by leaf.
+fn shift_and_assign(
+    work: &mut [f64],
+    marks: &mut [u32],
+    coords: &[f64],
+    it: usize,
+    m: usize,
+    k: usize,
+    d: usize,
+) -> Passed
+    requires { ⌜ Sized (length (now work)) (length (now marks)) (length (now coords)) m k d ⌝ }
+    requires { ⌜ Labelled m k (stateIn m k d (now work) (now marks)) ⌝ }
+    ensures { λ r. ⌜ _≡_ {A = Pass} (record { state = stateIn m k d (now (work .exit)) (now (marks .exit)); changed = r .changed; made = r .made; saved = r .saved })
+        (passUpTo (now (coords .entry)) k d it (shiftUpTo k (slowestUpTo (stateIn m k d (now (work .entry)) (now (marks .entry)) .drift) k) (stateIn m k d (now (work .entry)) (now (marks .entry))) m) m) ⌝ }
+    ensures { λ r. ⌜ (r .made ≤ 262144) × (r .saved ≤ 262144) ⌝ }
+{
+    let kd = k * d;
+    let drift = kd + kd + m + m + m + m;
+    let s = &work[..];
+    let t = bounds::two_smallest(&s[drift..drift + k]);
+    let mut p = Passed {
+        changed: false,
+        made: 0,
+        saved: 0,
+    };
+    let mut i = 0;
+    while i < m {
+        let turn = turn_leaf(work, marks, coords, t, it, i, m, k, d);
+        p = tally(p, turn, k);
         i += 1;
     }
     p
@@ -508,7 +545,7 @@ fn settle(
     update(work, marks, coords, m, k, d)
 }
 
-// The shift after the first round, and the pass.
+// The pass, after the first round with the shift.
 fn pass(
     work: &mut [f64],
     marks: &mut [u32],
@@ -525,7 +562,7 @@ fn pass(
     ensures { λ r. ⌜ (r .made ≤ 262144) × (r .saved ≤ 262144) ⌝ }
 {
     if it > 0 {
-        shift_all(work, marks, m, k, d);
+        return shift_and_assign(work, marks, coords, it, m, k, d);
     }
     assign(work, marks, coords, it, m, k, d)
 }

@@ -1,46 +1,17 @@
--- `lloyd::pass` meets its contract: the pass over the state that the shift left, or over the first one in the first round. Assumes nothing.
-use mathlib.Core.Path.{_≡_, refl, ap, _∙_}
-use mathlib.Core.List.{List}
-use mathlib.Core.Logic.{⊎-elim}
-use lib.ListN.{length}
-use lib.Ieee.{Float}
-use Rattle.lloyd.specs.Lloyd.{State, shiftedFor, passUpTo}
+-- `lloyd::pass` meets its contract: the pass with the shift, or over the first state in the first round. Assumes nothing.
+use mathlib.Core.Path.{ap, _∙_}
+use Rattle.lloyd.specs.Lloyd.{State, passUpTo}
 use Rattle.lloyd.specs.Areas.{stateIn}
-use Rattle.lloyd.proofs.Sizes.{sized-of}
 use Rattle.lloyd.proofs.Passes.{shift-made, shift-left}
 use borrow.Author.Needs.{needs}
 use Rattle.lloyd.proofs.pass.Statement.{statement}
 use Rattle.lloyd.proofs.pass.Tie as tie
 
--- where the two ways meet
-shifted-at : (c : tie.Joined1) → let a = c .before .before .before .before .args in
-    (length (c .if1 .work) ≡ length (a .work .now))
-    × (stateIn (a .m) (a .k) (a .d) (c .if1 .work) (a .marks .now) ≡ shiftedFor (a .m) (a .k) (a .it) (stateIn (a .m) (a .k) (a .d) (a .work .now) (a .marks .now)))
-shifted-at c =
-    let a = c .before .before .before .before .args in
-    let s = stateIn (a .m) (a .k) (a .d) (a .work .now) (a .marks .now) in
-    ⊎-elim
-    (λ w. (
-      ap length (w .6) ∙ w .3 .kept .0,
-      ap (λ (l : List Float). stateIn (a .m) (a .k) (a .d) l (a .marks .now)) (w .6) ∙ shift-made (a .m) (a .k) (a .it) s (w .0 .taken) _ (w .3 .ensures),
-    ))
-    (λ w. (
-      ap length (w .1),
-      ap (λ (l : List Float). stateIn (a .m) (a .k) (a .d) l (a .marks .now)) (w .1) ∙ shift-left (a .m) (a .k) (a .it) s (w .0 .left),
-    ))
-    (c .if1 .came)
-
-shift-all-requires : tie.Need-shift-all-requires
-shift-all-requires c κs = search needs
-
-assign-requires : tie.Need-assign-requires
-assign-requires c κs =
-    let j = c .before .before in
-    let s = j .before .before .before .before in
-    sized-of _ _ _ _ (length (s .args .coords .now)) (s .args .m) (s .args .k) (s .args .d) (shifted-at j .0) refl (s .pre .0)
+shift-and-assign-requires : tie.Need-shift-and-assign-requires
+shift-and-assign-requires c κs = search needs
 
 same-length : tie.Need-same-length
-same-length c = c .before .before .before .before .assign .kept .0 ∙ shifted-at (c .before .before .before .before .before .before .before) .0
+same-length c = search needs
 
 same-length-2 : tie.Need-same-length-2
 same-length-2 c = search needs
@@ -49,8 +20,40 @@ returns : tie.Need-returns
 returns c =
     let f = c .before .before .before .before in
     let a = f .before .before .before .before .before .before .before .args in
-    (f .assign .ensures .0 ∙ ap (λ (x : State). passUpTo (a .coords .now) (a .k) (a .d) (a .it) x (a .m)) (shifted-at (f .before .before .before) .1), f .assign .ensures .1)
+    let s = stateIn (a .m) (a .k) (a .d) (a .work .now) (a .marks .now) in (
+      f .shift-and-assign .ensures .0
+          ∙ ap (λ (x : State). passUpTo (a .coords .now) (a .k) (a .d) (a .it) x (a .m)) (shift-made (a .m) (a .k) (a .it) s (f .before .before .before .if1 .taken)),
+      f .shift-and-assign .ensures .1,
+    )
+
+assign-requires : tie.Need-assign-requires
+assign-requires c κs = search needs
+
+same-length-3 : tie.Need-same-length-3
+same-length-3 c = search needs
+
+same-length-4 : tie.Need-same-length-4
+same-length-4 c = search needs
+
+returns-2 : tie.Need-returns-2
+returns-2 c =
+    let f = c .before .before .before .before in
+    let a = f .before .before .before .before .before .before .before .args in
+    let s = stateIn (a .m) (a .k) (a .d) (a .work .now) (a .marks .now) in (
+      f .assign .ensures .0
+          ∙ ap (λ (x : State). passUpTo (a .coords .now) (a .k) (a .d) (a .it) x (a .m)) (shift-left (a .m) (a .k) (a .it) s (f .before .before .before .if1 .left)),
+      f .assign .ensures .1,
+    )
 
 pub pass-spec : {M : Type 1} → statement M
 pass-spec =
-    tie.close (tie.spec shift-all-requires assign-requires same-length same-length-2 returns)
+    tie.close
+    (tie.spec
+    shift-and-assign-requires
+    same-length
+    same-length-2
+    returns
+    assign-requires
+    same-length-3
+    same-length-4
+    returns-2)
