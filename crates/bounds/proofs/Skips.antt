@@ -12,6 +12,9 @@ use Rattle.float.proofs.Bound.{Within}
 use Rattle.float.proofs.Ranges.{within-finite}
 use Rattle.float.proofs.Order.{nan-below, no-nan, nlt-of-le, le-trans}
 use Rattle.float.proofs.Monotone.{sub-mono, sub-below, add-above, add-numbers, sub-numbers, mul-numbers, root-not-negative, unit-in, unit-clamp, unit-mul}
+use borrow.Author.Tests.{not-false}
+use Rattle.float.proofs.Tests.{of-true}
+use Rattle.bounds.specs.Products.{maySkip}
 use Rattle.bounds.specs.Shifts.{cosine, sinesOf, shiftLower, shiftUpper, shiftedBounds, skips}
 use Rattle.bounds.specs.declared.Bounds.{Bounds}
 
@@ -73,9 +76,15 @@ apart z l p u q h k =
     (sub-mono binary64 (shiftLower l p) (turned l p) (shiftUpper u q) (turned u q) g′ g (lower-below l p (n .0) (n′ .0)) (upper-above u q (n .1) (n′ .1))))
     h
 
-pub cannot-skip : (it : ℕ) (b : Bounds) (own other : Float) → T (lt (sub binary64 (mul binary64 (cosine (b .low)) (cosine own)) (mul binary64 (cosine (b .high)) (cosine other))) (f64 0x3D719799812DEA11))
+cannot-skip : (it : ℕ) (b : Bounds) (own other : Float) → T (lt (sub binary64 (mul binary64 (cosine (b .low)) (cosine own)) (mul binary64 (cosine (b .high)) (cosine other))) (f64 0x3D719799812DEA11))
     → skips it (shiftedBounds true own other b) ≡ false
 cannot-skip it b own other h =
     let d = le (f64 0x3D719799812DEA11) (sub binary64 (shiftLower (b .low) own) (shiftUpper (b .high) other)) in
     let s = lt plusZero (b .scale) in
     is-false (ltb 0 it && (s && d)) (not-T (ltb 0 it && (s && d)) (λ k. apart (f64 0x3D719799812DEA11) (b .low) own (b .high) other h (and-r s d (and-r (ltb 0 it) (s && d) k))))
+
+-- a leaf whose products are less than the slack apart is not skipped, in no round
+pub no-skip : (b : Bounds) (own other : Float) → maySkip own other b ≡ false → (it : ℕ) → skips it (shiftedBounds true own other b) ≡ false
+no-skip b own other e it =
+    let t = lt (sub binary64 (mul binary64 (cosine (b .low)) (cosine own)) (mul binary64 (cosine (b .high)) (cosine other))) (f64 0x3D719799812DEA11) in
+    cannot-skip it b own other (of-true t (not-false t e))

@@ -1,2 +1,3 @@
 pub mod Shifts
 pub mod Nearest
+pub mod Products

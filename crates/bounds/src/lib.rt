@@ -1,12 +1,13 @@
 // A leaf's bounds and its best centre (vmf.rs; document 01, 'Spherical k-means'): the shifts of the bounds after the centres
 // turned, the two smallest drifts, the skip, and the best of the centres with the next best dot.
 ghost use mathlib.Core.Path.{_≡_};
-ghost use mathlib.Core.Bool.{true, false};
-ghost use Prim.Native.Nat.{ℕ, _+_, _*_, _-_, _<_, _≤_};
+ghost use mathlib.Core.Bool.{false};
+ghost use Prim.Native.Nat.{_+_, _*_, _-_, _<_, _≤_};
 ghost use lib.ListN.{length};
 ghost use Rattle.vector.specs.Rows.{rowOf};
 ghost use Rattle.vector.specs.Vectors.{dotOf};
 ghost use Rattle.bounds.specs.Shifts.{sinesOf, shiftLower, shiftUpper, slowerOf, slowestUpTo, shiftedBounds, skips};
+ghost use Rattle.bounds.specs.Products.{maySkip};
 ghost use Rattle.bounds.specs.Nearest.{betterOf, bestTo, rowDots, Centers};
 
 // The sines of two angles multiplied, from their cosines.
@@ -113,7 +114,7 @@ pub fn shifted(b: Bounds, own: f64, other: f64, several: bool) -> Bounds
 
 // Whether the shifted bounds of a leaf could still let it be skipped, without their roots; false only where they cannot.
 pub fn may_skip(b: Bounds, own: f64, other: f64) -> bool
-    ensures { λ r. ⌜ (r ≡ false → (it : ℕ) → skips it (shiftedBounds true own other b) ≡ false) ⌝ }
+    ensures { λ r. ⌜ r ≡ maySkip own other b ⌝ }
 {
     let l = float::clamp(b.low, -1.0, 1.0);
     let p = float::clamp(own, -1.0, 1.0);

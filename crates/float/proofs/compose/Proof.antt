@@ -1,9 +1,8 @@
+-- `float::compose` meets its contract: 53 digits and an exponent put side by side are the pattern of that number. Assumes nothing.
 use Rattle.float.proofs.Assemble.{composed, composed-no-nan}
 use borrow.Author.Needs.{needs}
 use Rattle.float.proofs.compose.Statement.{statement}
 use Rattle.float.proofs.compose.Tie as tie
-use Rattle.float.proofs.compose.Reads as reads
-use Rattle.float.proofs.compose.Lts as lts
 
 mul-result : tie.Need-mul-result
 mul-result c = search needs

@@ -10,8 +10,6 @@ use lib.Ieee.{binary64, fits}
 use Rattle.float.proofs.Fields.{positive-no-nan, bits-under, normal-split, subnormal-split, subnormal-pos}
 use Rattle.float.proofs.split.Statement.{statement}
 use Rattle.float.proofs.split.Tie as tie
-use Rattle.float.proofs.split.Reads as reads
-use Rattle.float.proofs.split.Lts as lts
 
 abbrev Inv-loop : tie.InvT-loop
 Inv-loop x b f t m₀ e₀ m e = (m * 2 ^ e ≡ t * 2 ^ 52) × (m < 2 ^ 53) × (0 < t) × (e ≤ 52)
