@@ -18,6 +18,7 @@ cosine x = clampOf x (neg (number 1)) (number 1)
 abbrev pub sinesOf : Float → Float → Float
 sinesOf a p = rootOf (maxOf (mul binary64 (sub binary64 (number 1) (mul binary64 a a)) (sub binary64 (number 1) (mul binary64 p p))) plusZero)
 
+-- the two shifts of a bound and a drift that are cosines already
 abbrev pub lowerBy : Float → Float → Float
 lowerBy l p = cond (lt l (neg p)) (neg (number 1)) (sub binary64 (mul binary64 l p) (sinesOf l p))
 

@@ -30,12 +30,8 @@ abbrev pub cut : {A : Type 0} → List ℕ → List A → List (List A)
 cut [] w = []
 cut (n ∷ ns) w = take n w ∷ cut ns (drop n w)
 
--- where region r starts, and how long the regions are together
+-- where region r starts
 abbrev pub startOf : List ℕ → ℕ → ℕ
 startOf ns zero = 0
 startOf [] (suc r) = 0
 startOf (n ∷ ns) (suc r) = n + startOf ns r
-
-abbrev pub lengthOf : List ℕ → ℕ
-lengthOf [] = 0
-lengthOf (n ∷ ns) = n + lengthOf ns
