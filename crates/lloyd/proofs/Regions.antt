@@ -146,10 +146,6 @@ module _ (m k d : ℕ) (w : List Float) (u : List ℕ) where
   unfolding stateIn
   get-high i z h = cut-get (lengths m k d) w 4 (highAt m k d + i) i z (omega arith) h
 
-  pub get-served : (i : ℕ) (z : Float) → i < m → getD w (servedAt m k d + i) z ≡ getD (stateIn m k d w u .served) i z
-  unfolding stateIn
-  get-served i z h = cut-get (lengths m k d) w 5 (servedAt m k d + i) i z (omega arith) h
-
   pub get-drift : (i : ℕ) (z : Float) → i < k → getD w (driftAt m k d + i) z ≡ getD (stateIn m k d w u .drift) i z
   unfolding stateIn
   get-drift i z h = cut-get (lengths m k d) w 6 (driftAt m k d + i) i z (omega arith) h
@@ -189,14 +185,6 @@ module _ (m k d : ℕ) (w : List Float) (u : List ℕ) where
   unfolding stateIn
   centers-are = refl
 
-  pub scale-are : part w (scaleAt m k d) m ≡ stateIn m k d w u .scale
-  unfolding stateIn
-  scale-are = cut-whole (lengths m k d) w 2 (scaleAt m k d) m (omega arith) (omega arith) refl
-
-  pub low-are : part w (lowAt m k d) m ≡ stateIn m k d w u .low
-  unfolding stateIn
-  low-are = cut-whole (lengths m k d) w 3 (lowAt m k d) m (omega arith) (omega arith) refl
-
   pub high-are : part w (highAt m k d) m ≡ stateIn m k d w u .high
   unfolding stateIn
   high-are = cut-whole (lengths m k d) w 4 (highAt m k d) m (omega arith) (omega arith) refl
@@ -214,14 +202,6 @@ module _ (m k d : ℕ) (w : List Float) (u : List ℕ) where
   labels-are = refl
 
   -- a whole region written
-  pub put-centers-all : (v : List Float) → length v ≡ k * d → total m k d ≤ length w → stateIn m k d (putPart w 0 (k * d) v) u ≡ withCenters v (stateIn m k d w u)
-  unfolding stateIn
-  put-centers-all v e g = in-work (cut-put-whole (lengths m k d) w 0 0 (k * d) v refl refl e (omega arith))
-
-  pub put-scale-all : (v : List Float) → length v ≡ m → total m k d ≤ length w → stateIn m k d (putPart w (scaleAt m k d) m v) u ≡ withScale v (stateIn m k d w u)
-  unfolding stateIn
-  put-scale-all v e g = in-work (cut-put-whole (lengths m k d) w 2 (scaleAt m k d) m v (omega arith) refl e (omega arith))
-
   pub put-low-all : (v : List Float) → length v ≡ m → total m k d ≤ length w → stateIn m k d (putPart w (lowAt m k d) m v) u ≡ withLow v (stateIn m k d w u)
   unfolding stateIn
   put-low-all v e g = in-work (cut-put-whole (lengths m k d) w 3 (lowAt m k d) m v (omega arith) refl e (omega arith))
@@ -275,10 +255,6 @@ module _ (m k d : ℕ) (w : List Float) (u : List ℕ) where
   unfolding stateIn
   length-drift g = cut-length (lengths m k d) w 6 (omega arith)
 
-  pub length-labels : m + k ≤ length u → length (stateIn m k d w u .labels) ≡ m
-  unfolding stateIn
-  length-labels g = cut-length (markLengths m k) u 0 (omega arith)
-
 -- the sums
 module _ (m k d : ℕ) (w : List Float) where
   in-sums : {a b : List (List Float)} → a ≡ b → _≡_ {A = List Float} (getD a 1 []) (getD b 1 [])
@@ -305,16 +281,6 @@ module _ (m k d : ℕ) (w : List Float) where
   length-sums g = cut-length (lengths m k d) w 1 (omega arith)
 
   -- what leaves them
-
-  pub set-scale-sums : (i : ℕ) (x : Float) → i < m → sumsIn k d (set w (scaleAt m k d + i) x) ≡ sumsIn k d w
-  set-scale-sums i x h = in-sums (cut-set (lengths m k d) w 2 (scaleAt m k d + i) i x (omega arith) h)
-
-  pub set-low-sums : (i : ℕ) (x : Float) → i < m → sumsIn k d (set w (lowAt m k d + i) x) ≡ sumsIn k d w
-  set-low-sums i x h = in-sums (cut-set (lengths m k d) w 3 (lowAt m k d + i) i x (omega arith) h)
-
-  pub set-high-sums : (i : ℕ) (x : Float) → i < m → sumsIn k d (set w (highAt m k d + i) x) ≡ sumsIn k d w
-  set-high-sums i x h = in-sums (cut-set (lengths m k d) w 4 (highAt m k d + i) i x (omega arith) h)
-
   pub set-served-sums : (i : ℕ) (x : Float) → i < m → sumsIn k d (set w (servedAt m k d + i) x) ≡ sumsIn k d w
   set-served-sums i x h = in-sums (cut-set (lengths m k d) w 5 (servedAt m k d + i) i x (omega arith) h)
 
@@ -326,24 +292,6 @@ module _ (m k d : ℕ) (w : List Float) where
 
   pub put-row-centers-sums : (c : ℕ) (v : List Float) → length v ≡ d → c < k → total m k d ≤ length w → sumsIn k d (putPart w (c * d) d v) ≡ sumsIn k d w
   put-row-centers-sums c v e h g = put-centers-sums (c * d) d v e (row-within c k d h) g
-
-  pub put-centers-all-sums : (v : List Float) → length v ≡ k * d → total m k d ≤ length w → sumsIn k d (putPart w 0 (k * d) v) ≡ sumsIn k d w
-  put-centers-all-sums v e g = in-sums (cut-put-whole (lengths m k d) w 0 0 (k * d) v refl refl e (omega arith))
-
-  pub put-scale-all-sums : (v : List Float) → length v ≡ m → total m k d ≤ length w → sumsIn k d (putPart w (scaleAt m k d) m v) ≡ sumsIn k d w
-  put-scale-all-sums v e g = in-sums (cut-put-whole (lengths m k d) w 2 (scaleAt m k d) m v (omega arith) refl e (omega arith))
-
-  pub put-low-all-sums : (v : List Float) → length v ≡ m → total m k d ≤ length w → sumsIn k d (putPart w (lowAt m k d) m v) ≡ sumsIn k d w
-  put-low-all-sums v e g = in-sums (cut-put-whole (lengths m k d) w 3 (lowAt m k d) m v (omega arith) refl e (omega arith))
-
-  pub put-high-all-sums : (v : List Float) → length v ≡ m → total m k d ≤ length w → sumsIn k d (putPart w (highAt m k d) m v) ≡ sumsIn k d w
-  put-high-all-sums v e g = in-sums (cut-put-whole (lengths m k d) w 4 (highAt m k d) m v (omega arith) refl e (omega arith))
-
-  pub put-served-all-sums : (v : List Float) → length v ≡ m → total m k d ≤ length w → sumsIn k d (putPart w (servedAt m k d) m v) ≡ sumsIn k d w
-  put-served-all-sums v e g = in-sums (cut-put-whole (lengths m k d) w 5 (servedAt m k d) m v (omega arith) refl e (omega arith))
-
-  pub put-drift-all-sums : (v : List Float) → length v ≡ k → total m k d ≤ length w → sumsIn k d (putPart w (driftAt m k d) k v) ≡ sumsIn k d w
-  put-drift-all-sums v e g = in-sums (cut-put-whole (lengths m k d) w 6 (driftAt m k d) k v (omega arith) refl e (omega arith))
 
 -- the counts
 module _ (m k : ℕ) (u : List ℕ) where
@@ -361,13 +309,6 @@ module _ (m k : ℕ) (u : List ℕ) where
 
   pub length-counts : m + k ≤ length u → length (countsIn m k u) ≡ k
   length-counts g = cut-length (markLengths m k) u 1 (omega arith)
-
-  -- what leaves them
-  pub set-labels-counts : (i x : ℕ) → i < m → countsIn m k (set u i x) ≡ countsIn m k u
-  set-labels-counts i x h = in-counts (cut-set (markLengths m k) u 0 i i x (omega arith) h)
-
-  pub put-labels-all-counts : (v : List ℕ) → length v ≡ m → m + k ≤ length u → countsIn m k (putPart u 0 m v) ≡ countsIn m k u
-  put-labels-all-counts v e g = in-counts (cut-put-whole (markLengths m k) u 0 0 m v refl refl e (omega arith))
 
 -- what a leaf's turn reads and stores
 module _ (m k d : ℕ) (w : List Float) (u : List ℕ) (i : ℕ) (h : i < m) where

@@ -1,16 +1,16 @@
 -- A whole run from its parts: seeds, start, rounds and cohesion, each by what its function promises; and its counts, made + saved = k·m·rounds begun.
 -- Assumes nothing.
-use mathlib.Core.Path.{_≡_, refl, ap, _∙_}
+use mathlib.Core.Path.{_≡_, refl, ap, sym, _∙_}
 use mathlib.Core.List.{List}
 use Prim.Native.Nat.{ℕ, zero, suc, _+_, _*_, _<_}
 use native.Mathlib.Omega.{arith}
 use lib.ListN.{getD, replicate}
 use lib.Ieee.{Float}
 use Rattle.lloyd.specs.Seeding.{seedsOf}
-use Rattle.lloyd.specs.Lloyd.{State, Run, startedFrom, roundsFrom, lloydOf}
+use Rattle.lloyd.specs.Lloyd.{State, Run, startedFrom, roundsFrom, lloydOf, sumsUpTo}
 use Rattle.lloyd.specs.Cohesion.{cohesionOf}
 use Rattle.lloyd.specs.Results.{resultOf}
-use Rattle.lloyd.specs.Areas.{freshRun, Labelled, Lloyded, RunDone}
+use Rattle.lloyd.specs.Areas.{freshRun, Labelled, Lloyded, RunDone, RunLeft, stateIn, sumsIn}
 use Rattle.lloyd.specs.declared.Counts.{Counts}
 use Rattle.lloyd.proofs.Tallies.{counts-of-rounds}
 use Rattle.lloyd.proofs.Rounds.{labelled-after-rounds, labelled-of}
@@ -70,3 +70,12 @@ pub rounds-labelled : (weights coords : List Float) (m k d rounds : ℕ) (s₂ s
 rounds-labelled weights coords m k d rounds s₂ s₃ seeds c h e l =
     labelled-of m k (roundsFrom weights coords m k d rounds 0 (freshRun s₂) .state) s₃ (ap (λ (x : State). x .labels) (l .state))
     (labelled-after-rounds weights coords m k d h rounds 0 (freshRun s₂) (started-labelled coords m k d s₂ seeds h e))
+
+-- ---- what the run leaves
+pub run-left : (weights coords : List Float) (m k d : ℕ) (w : List Float) (u : List ℕ) (s : State) → Labelled m k s → stateIn m k d w u ≡ s
+    → sumsIn k d w ≡ sumsUpTo weights coords (s .labels) k d m → RunLeft weights coords m k d w u
+run-left weights coords m k d w u s l e g =
+    record {
+      labelled = labelled-of m k s (stateIn m k d w u) (ap (λ (x : State). x .labels) e) l;
+      sums = g ∙ ap (λ (x : State). sumsUpTo weights coords (x .labels) k d m) (sym e);
+    }

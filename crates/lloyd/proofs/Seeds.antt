@@ -40,13 +40,13 @@ seeding-area work work' weights coords m k d e s =
 
 -- what is done, before what was held from place i on: one place more, the place after it, and the end
 module _ (p l : List Float) (i : ℕ) (e : length p ≡ i) where
-  front-turn : (v : Float) → i < length l → set (p ++ drop i l) i v ≡ (p ++ (v ∷ [])) ++ drop (i + 1) l
+  pub front-turn : (v : Float) → i < length l → set (p ++ drop i l) i v ≡ (p ++ (v ∷ [])) ++ drop (i + 1) l
   front-turn v h = rw (add-one, drop-cons l i nan, append-assoc) (set-at p (getD l i nan) (drop (suc i) l) v i e)
 
   front-next : i < length l → getD (p ++ drop i l) i nan ≡ getD l i nan
   front-next h = rw (drop-cons l i nan) (getD-at p (getD l i nan) (drop (suc i) l) nan i e)
 
-front-end : (p l : List Float) (m : ℕ) → length l ≡ m → p ++ drop m l ≡ p
+pub front-end : (p l : List Float) (m : ℕ) → length l ≡ m → p ++ drop m l ≡ p
 front-end p l m e = let h : length l ≤ m = omega arith in rw (drop-of-length-le l h, append-nil)
 
 -- the same of a region of the state
@@ -70,7 +70,7 @@ module _ (m k d : ℕ) (w : List Float) (u : List ℕ) (s : State) (p : List Flo
       set-high m k d w u i v h ∙ ap (λ (t : State). withHigh (set (t .high) i v) t) f ∙ ap (λ (x : List Float). putHigh x s) (front-turn p (s .high) i e v (omega arith))
 
 -- ---- the norms, by which the scales are written
-norms-length : (rows : List Float) (d n : ℕ) → length (normsUpTo rows d n) ≡ n
+pub norms-length : (rows : List Float) (d n : ℕ) → length (normsUpTo rows d n) ≡ n
 unfolding normsUpTo
 norms-length rows d zero = refl
 norms-length rows d (suc n) = length-append (normsUpTo rows d n) (normOf (rowOf rows d n) ∷ []) ∙ omega (arith, norms-length rows d n)

@@ -24,7 +24,7 @@ use Rattle.lloyd.proofs.Regions.{withCenters, set-drift, set-drift-sums
 use Rattle.lloyd.proofs.Sizes.{leaf-of}
 
 -- a list whose part is put in its own place
-put-same : (l : List Float) (at n : ℕ) → putPart l at n (part l at n) ≡ l
+pub put-same : (l : List Float) (at n : ℕ) → putPart l at n (part l at n) ≡ l
 put-same l at n = rw (take-append-drop, take-append-drop)
 
 -- what stands after a part that was replaced

@@ -288,3 +288,8 @@ pub record RunDone (result : Result) (s : State) (r : Ran) : Type 0 where
   pub made-small : r .made ≤ 2621440000
   pub saved-small : r .saved ≤ 2621440000
   pub doubled-small : r .doubled ≤ 640000
+
+-- what a run leaves beside its result: labels below k, and the sums of the groups that they make
+pub record RunLeft (weights coords : List Float) (m k d : ℕ) (w : List Float) (u : List ℕ) : Type 0 where
+  pub labelled : Labelled m k (stateIn m k d w u)
+  pub sums : sumsIn k d w ≡ sumsUpTo weights coords (stateIn m k d w u .labels) k d m

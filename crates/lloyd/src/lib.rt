@@ -10,13 +10,13 @@ ghost use lib.ListN.{length, getD, replicate};
 ghost use lib.Ieee.{lt};
 ghost use Rattle.vector.specs.Rows.{rowOf, putPart};
 ghost use Rattle.bounds.specs.Shifts.{slowestUpTo, otherThan};
-ghost use Rattle.lloyd.specs.Lloyd.{Pass, boundsAt, putBounds, shiftLeaf, shiftUpTo, boundsBy, bestOf, putBest, passUpTo, emptyUpTo, servedUpTo, putServed, moveCenter, centerBy, passOf, roundsFrom, startedFrom, normsUpTo};
+ghost use Rattle.lloyd.specs.Lloyd.{Pass, boundsAt, putBounds, shiftLeaf, shiftUpTo, boundsBy, bestOf, putBest, passUpTo, emptyUpTo, servedUpTo, putServed, moveCenter, centerBy, passOf, roundsFrom, startedFrom, normsUpTo, sumsUpTo};
 ghost use Rattle.lloyd.specs.Seeding.{angleOf, anglesUpTo, lowered, chances, seedsOf};
 ghost use Rattle.lloyd.specs.Cohesion.{cohesionOf};
 ghost use Rattle.lloyd.specs.Results.{resultOf};
 ghost use Rattle.float.specs.Arithmetic.{plusZero, sumFrom};
 ghost use Rattle.vector.specs.Vectors.{unitVector};
-ghost use Rattle.lloyd.specs.Areas.{stateIn, sumsIn, countsIn, Sized, LeafOf, GroupOf, Labelled, Area, Spent, LeafPassed, tallied, Gains, Gained, Accumulated, serveLeaf, LaterRows, occursUpTo, Reseeded, GroupUpdated, CountsAtMost, Updated, Settled, RoundDone, freshRun, Lloyded, putScale, putLow, putHigh, putCenter, Seeding, SeededNext, Runnable, RunDone};
+ghost use Rattle.lloyd.specs.Areas.{stateIn, sumsIn, countsIn, Sized, LeafOf, GroupOf, Labelled, Area, Spent, LeafPassed, tallied, Gains, Gained, Accumulated, serveLeaf, LaterRows, occursUpTo, Reseeded, GroupUpdated, CountsAtMost, Updated, Settled, RoundDone, freshRun, Lloyded, putScale, putLow, putHigh, putCenter, Seeding, SeededNext, Runnable, RunDone, RunLeft};
 
 // ---- the bounds of a leaf
 
@@ -853,7 +853,8 @@ fn cohesion_of(
     requires { ⌜ Sized (length (now work)) (length (now marks)) (length (now coords)) m k d ⌝ }
     requires { ⌜ (length (now weights) ≡ m) × Labelled m k (stateIn m k d (now work) (now marks)) ⌝ }
     ensures { λ r. ⌜ (r ≡ cohesionOf (now (weights .entry)) (now (coords .entry)) (stateIn m k d (now (work .entry)) (now (marks .entry)) .labels) m k d)
-        × (stateIn m k d (now (work .exit)) (now (marks .exit)) ≡ stateIn m k d (now (work .entry)) (now (marks .entry))) ⌝ }
+        × (stateIn m k d (now (work .exit)) (now (marks .exit)) ≡ stateIn m k d (now (work .entry)) (now (marks .entry)))
+        × (sumsIn k d (now (work .exit)) ≡ sumsUpTo (now (weights .entry)) (now (coords .entry)) (stateIn m k d (now (work .entry)) (now (marks .entry)) .labels) k d m) ⌝ }
 {
     accumulate(work, marks, weights, coords, m, k, d);
     add_norms(work, m, k, d)
@@ -868,7 +869,7 @@ pub struct Ran {
     pub state: u64,
 }
 
-// One run of spherical k-means: seeding, rounds and cohesion. Labels and centres stay in the areas.
+// One run of spherical k-means: seeding, rounds and cohesion. Labels, centres and the sums of the groups stay in the areas.
 pub fn run(
     work: &mut [f64],
     marks: &mut [u32],
@@ -882,6 +883,7 @@ pub fn run(
 ) -> Ran
     requires { ⌜ Runnable (length (now work)) (length (now marks)) (length (now weights)) (length (now coords)) m k d rounds ⌝ }
     ensures { λ r. ⌜ RunDone (resultOf (now (weights .entry)) (now (coords .entry)) m k d rounds state) (stateIn m k d (now (work .exit)) (now (marks .exit))) r ⌝ }
+    ensures { λ _. ⌜ RunLeft (now (weights .entry)) (now (coords .entry)) m k d (now (work .exit)) (now (marks .exit)) ⌝ }
 {
     let next = seed(work, weights, coords, state, m, k, d);
     start(work, marks, coords, m, k, d);

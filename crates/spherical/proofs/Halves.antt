@@ -74,7 +74,7 @@ runnable m k d rounds a b q p weights coords w u eq ep hw hu r =
     }
 
 -- a part that came back
-put-there : {A : Type 0} (w x : List A) (a n q : ℕ) → q ≡ n → length x ≡ length (take q (drop a w)) → a + n ≤ length w
+pub put-there : {A : Type 0} (w x : List A) (a n q : ℕ) → q ≡ n → length x ≡ length (take q (drop a w)) → a + n ≤ length w
     → (part (putPart w a q x) a n ≡ x) × (take a (putPart w a q x) ≡ take a w) × (drop (a + n) (putPart w a q x) ≡ drop (a + n) w)
 put-there w x a n q e l h =
     let lx : length x ≡ n = rw e at l ∙ length-part w a n h in

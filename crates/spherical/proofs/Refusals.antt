@@ -22,11 +22,11 @@ module _ (ok : Float → Bool) (xs : List Float) (j : ℕ) where
   every-end h = rw (drop-of-length-le xs h)
 
 -- ---- what the tests say
-both : (a b : Bool) → (a && b) ≡ true → (a ≡ true) × (b ≡ true)
+pub both : (a b : Bool) → (a && b) ≡ true → (a ≡ true) × (b ≡ true)
 both true b e = (refl, e)
 both false b e = absurd (subst T (sym e) tt)
 
-met : (t : Bool) (code rest : ℕ) → need t (suc code) rest ≡ 0 → (t ≡ true) × (rest ≡ 0)
+pub met : (t : Bool) (code rest : ℕ) → need t (suc code) rest ≡ 0 → (t ≡ true) × (rest ≡ 0)
 met true code rest e = (refl, e)
 met false code rest e = absurd (omega (arith, e))
 

@@ -188,14 +188,14 @@ pub struct Held {
 }
 
 // Where the free half starts, n being a half's length.
-fn free_at(second: bool, n: usize) -> usize
+pub fn free_at(second: bool, n: usize) -> usize
     ensures { λ r. ⌜ r ≡ freeAt second n ⌝ }
 {
     if second { 0 } else { n }
 }
 
 // Where the held half starts.
-fn held_at(second: bool, n: usize) -> usize
+pub fn held_at(second: bool, n: usize) -> usize
     ensures { λ r. ⌜ r ≡ heldAt second n ⌝ }
 {
     if second { n } else { 0 }

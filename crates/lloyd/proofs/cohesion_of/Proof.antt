@@ -28,6 +28,7 @@ returns c =
     let a = c .before .before .before .before .before .before .before .before .before .before .before .before .before .args in (
       cohesion-done (a .weights .now) (a .coords .now) (a .m) (a .k) (a .d) (a .work .now) _ (a .marks .now) _ (c .add-norms .result) (g .accumulate .ensures) (c .add-norms .ensures),
       g .accumulate .ensures .state,
+      g .accumulate .ensures .sums,
     )
 
 pub cohesion-of-spec : {M : Type 1} → statement M

@@ -3,7 +3,7 @@ use mathlib.Core.Path.{_∙_}
 use lib.ListN.{length}
 use borrow.Author.Needs.{needs}
 use Rattle.lloyd.proofs.Sizes.{sized-of}
-use Rattle.lloyd.proofs.Runs.{started-labelled, rounds-labelled, run-done}
+use Rattle.lloyd.proofs.Runs.{started-labelled, rounds-labelled, run-done, run-left}
 use Rattle.lloyd.proofs.run.Statement.{statement}
 use Rattle.lloyd.proofs.run.Tie as tie
 
@@ -50,9 +50,12 @@ returns c =
     let g = l .before .before .before .before .before .before .before in
     let f = g .before .before .before .before .before in
     let s = f .before .before .before .before .before .before in
-    let a = s .args in
-    run-done (a .weights .now) (a .coords .now) (a .m) (a .k) (a .d) (a .rounds) (a .state) _ _ _ _ (f .seed .result) (l .lloyd .result) (h .cohesion-of .result)
-    (f .seed .ensures (a .marks .now) .0) (f .seed .ensures (a .marks .now) .1) (g .start .ensures) (l .lloyd .ensures) (h .cohesion-of .ensures .0) (h .cohesion-of .ensures .1)
+    let a = s .args in (
+      run-done (a .weights .now) (a .coords .now) (a .m) (a .k) (a .d) (a .rounds) (a .state) _ _ _ _ (f .seed .result) (l .lloyd .result) (h .cohesion-of .result)
+          (f .seed .ensures (a .marks .now) .0) (f .seed .ensures (a .marks .now) .1) (g .start .ensures) (l .lloyd .ensures) (h .cohesion-of .ensures .0) (h .cohesion-of .ensures .1),
+      run-left (a .weights .now) (a .coords .now) (a .m) (a .k) (a .d) _ _ _
+          (rounds-labelled (a .weights .now) (a .coords .now) (a .m) (a .k) (a .d) (a .rounds) _ _ _ _ (s .pre .sized .k-some) (g .start .ensures) (l .lloyd .ensures)) (h .cohesion-of .ensures .1) (h .cohesion-of .ensures .2),
+    )
 
 pub run-spec : {M : Type 1} → statement M
 run-spec =

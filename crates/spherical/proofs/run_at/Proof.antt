@@ -88,7 +88,7 @@ returns c =
     let n = half (a .m) (a .k) (a .d) in
     try-done (a .m) (a .k) (a .d) (a .a) (a .b) (a .a + n - a .a) (a .b + (a .m + a .k) - a .b) (a .work .now) (f .run .last .0) (a .marks .now) (f .run .last .1 .0)
     (resultOf (a .weights .now) (a .coords .now) (a .m) (a .k) (a .d) (a .rounds) (a .state)) (f .run .result) (omega arith) (omega arith) (f .run .kept .0) (f .run .kept .1 .0)
-    (s .pre .1 .0) (s .pre .1 .1) (f .run .ensures)
+    (s .pre .1 .0) (s .pre .1 .1) (f .run .ensures .0)
 
 pub run-at-spec : {M : Type 1} → statement M
 run-at-spec =
