@@ -4,10 +4,10 @@ use mathlib.Core.Bool.{true, cond}
 use mathlib.Core.Path.{_≡_}
 use Prim.Native.Nat.{ℕ, zero, suc, _+_, _*_, _≤_, _<_}
 use lib.Ieee.{Float, inf, lt}
+use Rattle.float.specs.declared.Four.{Four}
 use Rattle.vector.specs.Rows.{rowOf}
 use Rattle.vector.specs.Vectors.{dotOf}
 use Rattle.vector.specs.Fours.{dotsOf}
-use Rattle.vector.specs.declared.Four.{Four}
 use Rattle.bounds.specs.declared.Best.{Best}
 
 -- with centre c, whose dot is v

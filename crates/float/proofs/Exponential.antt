@@ -10,8 +10,8 @@ use lib.Ieee.Fits.{and-i, and-l, and-r}
 use Rattle.float.specs.Arithmetic.{number, plusZero}
 use Rattle.float.specs.Exponential.{floorOf, turnsOf, expBy, expOf}
 use Rattle.float.specs.Steps.{inside, raised, powerOf}
-use Rattle.float.proofs.Order.{le-of-nlt, nlt-of-le, no-nan}
-use Rattle.float.proofs.Tests.{is-nan, is-number, of-false}
+use Rattle.float.proofs.Order.{lt-trans, le-of-nlt, nlt-of-le, nan-below, no-nan}
+use Rattle.float.proofs.Tests.{is-nan, is-number, of-true, of-false}
 
 ends : T (not (isNan (number 709))) × T (not (isNan (neg (number 708))))
 unfolding ofInt neg isNan
@@ -25,9 +25,16 @@ pub by-high : (x : Float) → ne x x ≡ false → lt (number 709) x ≡ true �
 unfolding expOf
 by-high x h k = rw (is-number x h, k)
 
-pub by-low : (x : Float) → ne x x ≡ false → lt (number 709) x ≡ false → lt x (neg (number 708)) ≡ true → plusZero ≡ expOf x
-unfolding expOf
-by-low x h k l = rw (is-number x h, k, l)
+-- by this test alone: what is below −708 is no NaN and not above 709
+pub by-low : (x : Float) → lt x (neg (number 708)) ≡ true → plusZero ≡ expOf x
+unfolding expOf lt ofInt neg
+by-low x l =
+    let h = of-true (lt x (neg (number 708))) l in
+    rw (
+      is-false (isNan x) (not-T (isNan x) (λ n. nan-below x (neg (number 708)) n h)),
+      is-false (lt (number 709) x) (not-T (lt (number 709) x) (λ k. lt-trans (number 709) x (neg (number 708)) k h)),
+      l,
+    )
 
 pub is-inside : (x : Float) → ne x x ≡ false → lt (number 709) x ≡ false → lt x (neg (number 708)) ≡ false → T (inside x)
 is-inside x h k l =

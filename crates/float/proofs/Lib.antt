@@ -22,6 +22,7 @@ pub mod ClampOf
 pub mod Monotone
 pub mod Floor
 pub mod Exponential
+pub mod Fours
 pub mod Logarithm
 pub mod Roots
 pub mod RootOf

@@ -1,13 +1,15 @@
 -- What the inner functions of this crate promise one another: the parts of a float, the places of a whole root, the field of a power of two.
--- No definition of document 01 stands on this file; the public promises cite Arithmetic, Root, Exponential and Logarithm alone. Definitions only.
+-- No definition of document 01 stands on this file; the public promises cite Arithmetic, Root, Exponential, Logarithm and Fours alone. Definitions only.
 use mathlib.Core.Path.{_≡_}
 use mathlib.Core.Bool.{Bool, false, _&&_}
 use Prim.Native.Nat.{ℕ, _+_, _*_, _-_, _/_, _^_, _<_, _≤_}
+use lib.Dec.{T}
 use lib.IntN.{ℤ}
-use lib.Ieee.{Float, fin, binary64, minus, round, mul, neg, le}
+use lib.Ieee.{Float, fin, binary64, minus, round, add, mul, div, neg, le}
 use lib.Ieee.Positive.{num, den}
-use Rattle.float.specs.Arithmetic.{number}
+use Rattle.float.specs.Arithmetic.{f64, number}
 use Rattle.float.specs.Exponential.{expFrom, leftOf}
+use Rattle.float.specs.declared.Four.{Four}
 
 -- ---- a positive float taken apart and put together
 
@@ -66,3 +68,25 @@ pub record FieldOf (n : ℤ) (b : ℕ) : Type 0 where
 -- the series at the rest of x, n being a whole number as a float, times w
 abbrev pub raised : Float → Float → Float → Float
 raised x n w = mul binary64 (expFrom 13 (leftOf x n) (number 1)) w
+
+-- ---- four exponentials at once
+
+-- 1 + (r·p)/j
+abbrev pub stepped : Float → Float → Float → Float
+stepped r p j = add binary64 (f64 0x3FF0000000000000) (div binary64 (mul binary64 r p) j)
+
+abbrev pub steppedFour : Four → Four → Float → Four
+steppedFour r p j = record { a = stepped (r .a) (p .a) j; b = stepped (r .b) (p .b) j; c = stepped (r .c) (p .c) j; e = stepped (r .e) (p .e) j }
+
+abbrev pub leftFour : Four → Four → Four
+leftFour x n = record { a = leftOf (x .a) (n .a); b = leftOf (x .b) (n .b); c = leftOf (x .c) (n .c); e = leftOf (x .e) (n .e) }
+
+abbrev pub raisedFour : Four → Four → Four → Four
+raisedFour x n w =
+    record { a = raised (x .a) (n .a) (w .a); b = raised (x .b) (n .b) (w .b); c = raised (x .c) (n .c) (w .c); e = raised (x .e) (n .e) (w .e) }
+
+pub record AllInside (x : Four) : Type 0 where
+  pub at-a : T (inside (x .a))
+  pub at-b : T (inside (x .b))
+  pub at-c : T (inside (x .c))
+  pub at-e : T (inside (x .e))

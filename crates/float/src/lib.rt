@@ -10,7 +10,8 @@ ghost use Rattle.float.specs.Arithmetic.{maxOf, clampOf, absOf};
 ghost use Rattle.float.specs.Root.{rootOf, positiveRoot};
 ghost use Rattle.float.specs.Exponential.{expOf, expBy, floorOf, turnsOf};
 ghost use Rattle.float.specs.Logarithm.{lnOf, lnBy, lnAt, exponentOf, fractionOf};
-ghost use Rattle.float.specs.Steps.{Rooted, joined, Placed, Nearest, SplitOf, valueOf, powerOf, raised, inside, FieldOf};
+ghost use Rattle.float.specs.Fours.{exponentials};
+ghost use Rattle.float.specs.Steps.{Rooted, joined, Placed, Nearest, SplitOf, valueOf, powerOf, raised, inside, FieldOf, steppedFour, leftFour, raisedFour, AllInside};
 
 // The greater of two; with one NaN the other operand.
 pub fn max(x: f64, y: f64) -> f64
@@ -241,6 +242,124 @@ pub fn exp(x: f64) -> f64
         return 0.0;
     }
     inner_exp(x)
+}
+
+// Four floats, for what is computed of four at once.
+pub struct Four {
+    pub a: f64,
+    pub b: f64,
+    pub c: f64,
+    pub e: f64,
+}
+
+// Whether x is from -708 to 709.
+fn is_inside(x: f64) -> bool
+    ensures { λ r. ⌜ r ≡ inside x ⌝ }
+{
+    (-708.0 <= x) & (x <= 709.0)
+}
+
+// One step of the series, four times.
+fn step4(r: Four, p: Four, j: f64) -> Four
+    ensures { λ q. ⌜ q ≡ steppedFour r p j ⌝ }
+{
+    Four {
+        a: 1.0 + (r.a * p.a) / j,
+        b: 1.0 + (r.b * p.b) / j,
+        c: 1.0 + (r.c * p.c) / j,
+        e: 1.0 + (r.e * p.e) / j,
+    }
+}
+
+// What is left of each x past its n.
+fn left4(x: Four, n: Four) -> Four
+    ensures { λ q. ⌜ q ≡ leftFour x n ⌝ }
+{
+    Four {
+        a: (x.a - n.a * 0.6931471803691238) - n.a * 1.9082149292705877e-10,
+        b: (x.b - n.b * 0.6931471803691238) - n.b * 1.9082149292705877e-10,
+        c: (x.c - n.c * 0.6931471803691238) - n.c * 1.9082149292705877e-10,
+        e: (x.e - n.e * 0.6931471803691238) - n.e * 1.9082149292705877e-10,
+    }
+}
+
+// As raise, four times.
+fn raise4(x: Four, n: Four, w: Four) -> Four
+    ensures { λ q. ⌜ q ≡ raisedFour x n w ⌝ }
+{
+    let r = left4(x, n);
+    let p = Four {
+        a: 1.0,
+        b: 1.0,
+        c: 1.0,
+        e: 1.0,
+    };
+    let p = step4(r, p, 13.0);
+    let p = step4(r, p, 12.0);
+    let p = step4(r, p, 11.0);
+    let p = step4(r, p, 10.0);
+    let p = step4(r, p, 9.0);
+    let p = step4(r, p, 8.0);
+    let p = step4(r, p, 7.0);
+    let p = step4(r, p, 6.0);
+    let p = step4(r, p, 5.0);
+    let p = step4(r, p, 4.0);
+    let p = step4(r, p, 3.0);
+    let p = step4(r, p, 2.0);
+    let p = step4(r, p, 1.0);
+    Four {
+        a: p.a * w.a,
+        b: p.b * w.b,
+        c: p.c * w.c,
+        e: p.e * w.e,
+    }
+}
+
+// Four exponentials between their borders.
+fn inner_exp4(x: Four) -> Four
+    requires { ⌜ AllInside x ⌝ }
+    ensures { λ r. ⌜ r ≡ exponentials x ⌝ }
+{
+    let i = field(x.a);
+    let j = field(x.b);
+    let k = field(x.c);
+    let l = field(x.e);
+    let n = Four {
+        a: unbiased(i),
+        b: unbiased(j),
+        c: unbiased(k),
+        e: unbiased(l),
+    };
+    let w = Four {
+        a: pow2(i),
+        b: pow2(j),
+        c: pow2(k),
+        e: pow2(l),
+    };
+    raise4(x, n, w)
+}
+
+// Four exponentials: zeros where all are below -708, side by side where all are between the borders, else one by one.
+pub fn exp4(x: Four) -> Four
+    ensures { λ r. ⌜ r ≡ exponentials x ⌝ }
+{
+    if (x.a < -708.0) & (x.b < -708.0) & (x.c < -708.0) & (x.e < -708.0) {
+        return Four {
+            a: 0.0,
+            b: 0.0,
+            c: 0.0,
+            e: 0.0,
+        };
+    }
+    if is_inside(x.a) & is_inside(x.b) & is_inside(x.c) & is_inside(x.e) {
+        return inner_exp4(x);
+    }
+    Four {
+        a: exp(x.a),
+        b: exp(x.b),
+        c: exp(x.c),
+        e: exp(x.e),
+    }
 }
 
 // The logarithm of 2^e * f, straight on.

@@ -7,9 +7,9 @@ use native.Mathlib.Omega.{arith}
 use lib.ListN.{length, getD, drop}
 use lib.Ieee.{Float, nan, binary64, add, mul}
 use Rattle.float.specs.Arithmetic.{minusZero, dotFrom}
+use Rattle.float.specs.declared.Four.{Four}
 use Rattle.vector.specs.Vectors.{dotOf}
 use Rattle.vector.specs.Fours.{FourRows, dotsOf}
-use Rattle.vector.specs.declared.Four.{Four}
 use Rattle.vector.proofs.Vectors.{dot-turn, dot-end}
 
 module _ (x p q r s : List Float) where

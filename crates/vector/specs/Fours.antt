@@ -3,8 +3,8 @@ use mathlib.Core.Path.{_≡_}
 use mathlib.Core.List.{List}
 use lib.ListN.{length}
 use lib.Ieee.{Float}
+use Rattle.float.specs.declared.Four.{Four}
 use Rattle.vector.specs.Vectors.{dotOf}
-use Rattle.vector.specs.declared.Four.{Four}
 
 -- what the four dots at once ask: vectors of one length
 pub record FourRows (p q r s : List Float) : Type 0 where

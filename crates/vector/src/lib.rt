@@ -31,16 +31,8 @@ pub fn dot(a: &[f64], b: &[f64]) -> f64
     s
 }
 
-// The dots with four vectors.
-pub struct Four {
-    pub a: f64,
-    pub b: f64,
-    pub c: f64,
-    pub e: f64,
-}
-
 // The dots of x with four vectors of one length, in four accumulators.
-pub fn dot4(x: &[f64], p: &[f64], q: &[f64], r: &[f64], s: &[f64]) -> Four
+pub fn dot4(x: &[f64], p: &[f64], q: &[f64], r: &[f64], s: &[f64]) -> float::Four
     requires { ⌜ FourRows (now p) (now q) (now r) (now s) ⌝ }
     ensures { λ f. ⌜ f ≡ dotsOf (now (x .entry)) (now (p .entry)) (now (q .entry)) (now (r .entry)) (now (s .entry)) ⌝ }
 {
@@ -58,7 +50,7 @@ pub fn dot4(x: &[f64], p: &[f64], q: &[f64], r: &[f64], s: &[f64]) -> Four
         e = e + v * s[j];
         j += 1;
     }
-    Four { a, b, c, e }
+    float::Four { a, b, c, e }
 }
 
 // The root of the sum of the squares.

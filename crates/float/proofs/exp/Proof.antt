@@ -14,7 +14,7 @@ returns-2 c = by-high (c .before .before .args .x) (c .before .if1 .left) (c .if
 
 returns-3 : tie.Need-returns-3
 unfolding ofBits ofInt
-returns-3 c = by-low (c .before .before .before .args .x) (c .before .before .if1 .left) (c .before .if2 .left) (c .if3 .taken)
+returns-3 c = by-low (c .before .before .before .args .x) (c .if3 .taken)
 
 inner-exp-requires : tie.Need-inner-exp-requires
 unfolding ofBits ofInt

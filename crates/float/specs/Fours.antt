@@ -1,0 +1,7 @@
+-- Four exponentials at once. Definitions only.
+use Rattle.float.specs.Exponential.{expOf}
+use Rattle.float.specs.declared.Four.{Four}
+
+-- the exponential of each of the four
+abbrev pub exponentials : Four → Four
+exponentials x = record { a = expOf (x .a); b = expOf (x .b); c = expOf (x .c); e = expOf (x .e) }
