@@ -1,0 +1,129 @@
+-- Laws of what the groups gather from the leaves, over plain lists and the parts of an area: what one group gains is two stores, and each definition grows by one
+-- group or one leaf a turn. By the laws of the regions. Assumes nothing.
+use mathlib.Core.Path.{_≡_, refl, ap, sym, _∙_}
+use mathlib.Core.List.{List, _++_}
+use Prim.Native.Nat.{ℕ, _+_, _*_, _-_, _≤_, _<_}
+use native.Mathlib.Numerals.{add-one}
+use native.Mathlib.Omega.{arith}
+use lib.ListN.{length, getD, take, drop, set, replicate, length-set, length-append, length-replicate, take-append-drop}
+use lib.Seq.{getD-take, getD-drop, length-front}
+use lib.Ieee.{Float, nan, binary64, add, mul}
+use Rattle.float.specs.Arithmetic.{plusZero}
+use Rattle.vector.specs.Rows.{part, putPart, rowOf}
+use Rattle.vector.specs.Vectors.{addScaled}
+use Rattle.vector.proofs.Rows.{length-part}
+use Rattle.vector.proofs.Vectors.{add-scaled-length}
+use Rattle.mixture.specs.Mixture.{gatherGroup, gatherLeaf, gatherUpTo}
+use Rattle.mixture.specs.Areas.{Parts, partsIn, gatheredOf, withSums, withTotals, withGathered, Area, LeafOf, GroupOf, total}
+use Rattle.mixture.proofs.Regions.{sumsR, totalsR, respR, set-in, get-in, part-in, put-in, length-in}
+use Rattle.mixture.proofs.Groups.{fill-in}
+
+-- a part replaced by one as long
+put-length : (l v : List Float) (at n : ℕ) → length v ≡ length (part l at n) → length (putPart l at n v) ≡ length l
+put-length l v at n e =
+    length-append (take at l) (v ++ drop n (drop at l))
+    ∙ ap (λ (x : ℕ). length (take at l) + x) (length-front (drop at l) v n e) ∙ sym (length-append (take at l) (drop at l)) ∙ ap length (take-append-drop at l)
+
+-- an element of a row
+row-get : (l : List Float) (d i c : ℕ) (z : Float) → c < d → getD (rowOf l d i) c z ≡ getD l (i * d + c) z
+row-get l d i c z h = getD-take d (drop (i * d) l) c z h ∙ getD-drop (i * d) l c z
+
+-- ---- group c gains leaf i: its whole weight is stored, then its row of the sums
+module _ (m k d : ℕ) (w coords : List Float) (weight : Float) (i c : ℕ) (area : Area (length w) m k d) (leaf : LeafOf i m k d) (group : GroupOf c k d) where
+  abbrev totalAt : ℕ
+  totalAt = k * d + k * d + k + k + k + c
+
+  abbrev gained : Float
+  gained = mul binary64 weight (getD w (k * d + k * d + k + k + k + k + k + i * k + c) nan)
+
+  abbrev stored : List Float
+  stored = set w totalAt (add binary64 (getD w totalAt nan) gained)
+
+  pub group-length : (r : List Float) → length r ≡ length (part stored (k * d + c * d) (k * d + c * d + d - (k * d + c * d)))
+      → length (putPart stored (k * d + c * d) (k * d + c * d + d - (k * d + c * d)) r) ≡ length w
+  group-length r e = put-length stored r (k * d + c * d) (k * d + c * d + d - (k * d + c * d)) e ∙ length-set w totalAt (add binary64 (getD w totalAt nan) gained)
+
+  pub group-done : (r : List Float)
+      → r ≡ addScaled gained (part stored (k * d + c * d) (k * d + c * d + d - (k * d + c * d))) (part coords (i * d) (i * d + d - i * d))
+      → partsIn m k d (putPart stored (k * d + c * d) (k * d + c * d + d - (k * d + c * d)) r)
+      ≡ withGathered (gatherGroup d (mul binary64 weight (getD (rowOf (partsIn m k d w .resp) k i) c nan)) (rowOf coords d i) c (gatheredOf (partsIn m k d w))) (partsIn m k d w)
+  group-done r e =
+      let p = partsIn m k d w in
+      let at = k * d + c * d in
+      let f : at + d - at ≡ d = omega arith in
+      let g : i * d + d - i * d ≡ d = omega arith in
+      let t : total m k d ≤ length stored = rw length-set (area .work-long) in
+      let share : getD w (k * d + k * d + k + k + k + k + k + i * k + c) nan ≡ getD (rowOf (p .resp) k i) c nan =
+      get-in respR m k d w _ (i * k + c) nan (omega arith) (omega (arith, leaf .shares, group .below)) ∙ sym (row-get (p .resp) k i c nan (group .below)) in
+      let g₁ = mul binary64 weight (getD (rowOf (p .resp) k i) c nan) in
+      let eg : gained ≡ g₁ = ap (λ (x : Float). mul binary64 weight x) share in
+      let et : getD w totalAt nan ≡ getD (p .totals) c nan = get-in totalsR m k d w totalAt c nan (omega arith) (group .below) in
+      let p₁ = withTotals (set (p .totals) c (add binary64 (getD (p .totals) c nan) g₁)) p in
+      let e₁ : partsIn m k d stored ≡ p₁ =
+      set-in totalsR m k d w totalAt c _ (omega arith) (group .below) ∙ ap (λ (x : Float). withTotals (set (p .totals) c x) p) (rw (et, eg)) in
+      let v = addScaled g₁ (rowOf (p .sums) d c) (rowOf coords d i) in
+      let row : part stored at d ≡ rowOf (p .sums) d c =
+      part-in sumsR m k d stored at (c * d) d (omega arith) (omega (arith, group .row)) ∙ ap (λ (q : Parts). rowOf (q .sums) d c) e₁ in
+      let er : r ≡ v = e ∙ rw (f, g, row, eg) in
+      let lv : length v ≡ d =
+      add-scaled-length g₁ (rowOf (p .sums) d c) (rowOf coords d i)
+      ∙ length-part (p .sums) (c * d) d (omega (arith, length-in sumsR m k d w (area .work-long), group .row)) in
+      rw (f, er)
+      (put-in sumsR m k d stored at (c * d) d v lv (omega arith) (omega (arith, group .row)) t ∙ ap (λ (q : Parts). withSums (putPart (q .sums) (c * d) d v) q) e₁)
+
+-- ---- every group gains leaf i
+module _ (k d i : ℕ) (weight : Float) (x : List Float) (p₀ : Parts) where
+  abbrev pub leafDone : ℕ → Parts
+  leafDone c = withGathered (gatherLeaf d weight (rowOf (p₀ .resp) k i) x (gatheredOf p₀) c) p₀
+
+  pub leaf-start : p₀ ≡ leafDone 0
+  unfolding gatherLeaf
+  leaf-start = refl
+
+  pub leaf-turn : (p p' : Parts) (c : ℕ) → p ≡ leafDone c
+      → p' ≡ withGathered (gatherGroup d (mul binary64 weight (getD (rowOf (p .resp) k i) c nan)) x c (gatheredOf p)) p → p' ≡ leafDone (c + 1)
+  unfolding gatherLeaf
+  leaf-turn p p' c e f =
+      rw add-one (f ∙ ap (λ (q : Parts). withGathered (gatherGroup d (mul binary64 weight (getD (rowOf (q .resp) k i) c nan)) x c (gatheredOf q)) q) e)
+
+-- ---- the groups gain every leaf
+module _ (weights coords : List Float) (k d : ℕ) (p₀ : Parts) where
+  abbrev pub leavesDone : ℕ → Parts
+  leavesDone i = withGathered (gatherUpTo weights coords (p₀ .resp) k d i) p₀
+
+  pub leaves-turn : (p p' : Parts) (i : ℕ) → p ≡ leavesDone i
+      → p' ≡ withGathered (gatherLeaf d (getD weights i nan) (rowOf (p .resp) k i) (rowOf coords d i) (gatheredOf p) k) p
+      → p' ≡ leavesDone (i + 1)
+  unfolding gatherUpTo
+  leaves-turn p p' i e f =
+      rw add-one (f ∙ ap (λ (q : Parts). withGathered (gatherLeaf d (getD weights i nan) (rowOf (q .resp) k i) (rowOf coords d i) (gatheredOf q) k) q) e)
+
+-- where the loop begins, the sums and the whole weights are cleared
+module _ (k d : ℕ) (w r s : List Float) where
+  abbrev totalsAt : ℕ
+  totalsAt = k * d + k * d + k + k + k
+
+  abbrev clearedSums : List Float
+  clearedSums = putPart w (k * d) (k * d + k * d - k * d) r
+
+  abbrev pub clearedBoth : List Float
+  clearedBoth = putPart clearedSums totalsAt (totalsAt + k - totalsAt) s
+
+  pub cleared : (weights coords : List Float) (m : ℕ) → Area (length w) m k d → r ≡ replicate (length (part w (k * d) (k * d + k * d - k * d))) plusZero
+      → s ≡ replicate (length (part clearedSums totalsAt (totalsAt + k - totalsAt))) plusZero
+      → partsIn m k d clearedBoth ≡ leavesDone weights coords k d (partsIn m k d w) 0
+  unfolding gatherUpTo
+  cleared weights coords m area er es =
+      let l : length clearedSums ≡ length w =
+      put-length w r (k * d) (k * d + k * d - k * d) (ap length er ∙ length-replicate (length (part w (k * d) (k * d + k * d - k * d))) plusZero) in
+      let t : total m k d ≤ length clearedSums = omega (arith, area .work-long) in
+      fill-in totalsR m k d clearedSums s totalsAt k plusZero (omega arith) refl t es
+      ∙ ap (withTotals (replicate k plusZero)) (fill-in sumsR m k d w r (k * d) (k * d) plusZero (omega arith) refl (area .work-long) er)
+
+-- the start, and the end from the parts before the clearing
+module _ (weights coords : List Float) (k d : ℕ) (p₀ p₁ : Parts) (e : p₁ ≡ leavesDone weights coords k d p₀ 0) where
+  pub leaves-start : p₁ ≡ leavesDone weights coords k d p₁ 0
+  leaves-start = e ∙ ap (λ (q : Parts). leavesDone weights coords k d q 0) (sym e)
+
+  pub leaves-end : (p : Parts) (i m : ℕ) → i ≡ m → p ≡ leavesDone weights coords k d p₁ i → p ≡ leavesDone weights coords k d p₀ m
+  leaves-end p i m f g = g ∙ ap (λ (n : ℕ). leavesDone weights coords k d p₁ n) f ∙ ap (λ (q : Parts). leavesDone weights coords k d q m) e

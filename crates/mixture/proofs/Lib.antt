@@ -1,0 +1,9 @@
+pub mod Sizes
+pub mod Regions
+pub mod Groups
+pub mod Expected
+pub mod Gathered
+pub mod Directions
+pub mod LabelTotals
+pub mod Rounds
+pub mod Runs

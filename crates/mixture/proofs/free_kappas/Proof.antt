@@ -1,0 +1,137 @@
+-- `mixture::free_kappas` meets its contract. The loop's invariant: the concentrations of the first c groups stand before what was there. Assumes nothing.
+use mathlib.Core.Path.{_≡_, refl, ap₂, _∙_}
+use Prim.Native.Nat.{_+_, _*_, _-_, _≤_, _<_}
+use native.Mathlib.Omega.{arith}
+use lib.ListN.{length}
+use lib.Ieee.{Float}
+use Rattle.bessel.specs.Concentration.{estimateOf}
+use Rattle.mixture.specs.Kappas.{meanLength, kappaAt}
+use Rattle.mixture.specs.Areas.{partsIn}
+use Rattle.mixture.proofs.Regions.{kappasR, totalsR, normsR}
+use Rattle.mixture.proofs.Groups.{Written, written-start, written-read, written-turn, written-end}
+use borrow.Author.Needs.{needs}
+use Rattle.mixture.proofs.free_kappas.Statement.{statement}
+use Rattle.mixture.proofs.free_kappas.Tie as tie
+
+abbrev Inv-loop : tie.InvT-loop
+Inv-loop work₀ m k d kd kappas totals norms c₀ work c =
+    (c ≤ k) × (length work ≡ length work₀) × Written kappasR (kappaAt d (partsIn m k d work₀ .norms) (partsIn m k d work₀ .totals)) m k d work₀ c work
+
+abbrev μ-loop : tie.MeasureT-loop
+μ-loop work₀ m k d kd kappas totals norms c₀ work c = k - c
+
+mul-kd : tie.Need-mul-kd Inv-loop μ-loop
+mul-kd c = search needs
+
+add-kappas : tie.Need-add-kappas Inv-loop μ-loop
+add-kappas c = search needs
+
+add-kappas-2 : tie.Need-add-kappas-2 Inv-loop μ-loop
+add-kappas-2 c = search needs
+
+add-totals : tie.Need-add-totals Inv-loop μ-loop
+add-totals c = search needs
+
+add-totals-2 : tie.Need-add-totals-2 Inv-loop μ-loop
+add-totals-2 c = search needs
+
+add-norms : tie.Need-add-norms Inv-loop μ-loop
+add-norms c = search needs
+
+loop-holds : tie.Need-loop-holds Inv-loop μ-loop
+loop-holds c =
+    let a = c .before .args in
+    let p = partsIn (a .m) (a .k) (a .d) (a .work .now) in
+    (omega arith, refl, written-start kappasR (kappaAt (a .d) (p .norms) (p .totals)) (a .m) (a .k) (a .d) (a .work .now))
+
+add-kappa-by : tie.Need-add-kappa-by Inv-loop μ-loop
+add-kappa-by c = search needs
+
+mul-kappa-by : tie.Need-mul-kappa-by Inv-loop μ-loop
+mul-kappa-by c = search needs
+
+slice-read-kappa-by : tie.Need-slice-read-kappa-by Inv-loop μ-loop
+slice-read-kappa-by c = search needs
+
+add-kappa-by-2 : tie.Need-add-kappa-by-2 Inv-loop μ-loop
+add-kappa-by-2 c = search needs
+
+mul-kappa-by-2 : tie.Need-mul-kappa-by-2 Inv-loop μ-loop
+mul-kappa-by-2 c = search needs
+
+slice-read-kappa-by-2 : tie.Need-slice-read-kappa-by-2 Inv-loop μ-loop
+slice-read-kappa-by-2 c = search needs
+
+kappa-by-requires : tie.Need-kappa-by-requires Inv-loop μ-loop
+kappa-by-requires c κs = search needs
+
+add-work : tie.Need-add-work Inv-loop μ-loop
+add-work c = search needs
+
+mul-work : tie.Need-mul-work Inv-loop μ-loop
+mul-work c = search needs
+
+slice-write-work : tie.Need-slice-write-work Inv-loop μ-loop
+slice-write-work c = search needs
+
+add-c : tie.Need-add-c Inv-loop μ-loop
+add-c c = search needs
+
+loop-less : tie.Need-loop-less Inv-loop μ-loop
+loop-less c = search needs
+
+loop-again : tie.Need-loop-again Inv-loop μ-loop
+loop-again c =
+    let l = c .before .before .before .before .loop in
+    let b = c .before .before .before .before .before .before in
+    let a = b .args in
+    let p = partsIn (a .m) (a .k) (a .d) (a .work .now) in
+    let at = a .k * a .d + a .k * a .d in
+    let f = kappaAt (a .d) (p .norms) (p .totals) in
+    let h : l .c < a .k = omega arith in
+    let o = l .inv .2 in
+    let r₁ = written-read kappasR f (a .m) (a .k) (a .d) (a .work .now) normsR (λ x p. refl) (l .work) (at + a .k + a .k + a .k + a .k + l .c) (l .c) (omega arith) h o in
+    let r₂ = written-read kappasR f (a .m) (a .k) (a .d) (a .work .now) totalsR (λ x p. refl) (l .work) (at + a .k + a .k + a .k + l .c) (l .c) (omega arith) h o in
+    let e : c .kappa-by .result ≡ f (l .c) = c .kappa-by .ensures ∙ ap₂ (λ (x y : Float). estimateOf (a .d) (meanLength x y)) r₁ r₂ in
+    let more = written-turn kappasR f (a .m) (a .k) (a .d) (a .work .now) (l .work) (at + a .k + l .c) (l .c) (c .kappa-by .result) (omega arith) h (b .pre .work-long) e o in
+    (omega arith, search needs, more)
+
+same-length : tie.Need-same-length Inv-loop μ-loop
+same-length c = search needs
+
+returns : tie.Need-returns Inv-loop μ-loop
+returns c =
+    let l = c .before .loop in
+    let b = c .before .before .before in
+    let a = b .args in
+    let p = partsIn (a .m) (a .k) (a .d) (a .work .now) in
+    written-end kappasR (kappaAt (a .d) (p .norms) (p .totals)) (a .m) (a .k) (a .d) (a .work .now) (l .work) (l .c) (a .k) (omega arith) refl (b .pre .work-long) (l .inv .2)
+
+pub free-kappas-spec : {M : Type 1} → statement M
+free-kappas-spec =
+    tie.close
+    (tie.spec
+    Inv-loop
+    μ-loop
+    mul-kd
+    add-kappas
+    add-kappas-2
+    add-totals
+    add-totals-2
+    add-norms
+    loop-holds
+    add-kappa-by
+    mul-kappa-by
+    slice-read-kappa-by
+    add-kappa-by-2
+    mul-kappa-by-2
+    slice-read-kappa-by-2
+    kappa-by-requires
+    add-work
+    mul-work
+    slice-write-work
+    add-c
+    loop-less
+    loop-again
+    same-length
+    returns)

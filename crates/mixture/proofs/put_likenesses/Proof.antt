@@ -1,0 +1,231 @@
+-- `mixture::put_likenesses` meets its contract. The loops' invariant: the first c likenesses of leaf i stand at the front of its row of the responsibilities; of the
+-- second loop, where the first ones stood there when it began. Assumes nothing.
+use mathlib.Core.Path.{_≡_, refl, ap, _∙_}
+use Prim.Native.Nat.{ℕ, _+_, _*_, _≤_, _-_}
+use native.Mathlib.Nat.{mul-le-mul-right}
+use native.Mathlib.Omega.{arith}
+use lib.ListN.{length, length-set}
+use Rattle.mixture.specs.Areas.{partsIn}
+use Rattle.mixture.proofs.Sizes.{area-of, group-of}
+use Rattle.mixture.proofs.Expected.{liked, liked-start, liked-turn, liked-four, LikedFrom}
+use borrow.Author.Needs.{needs}
+use Rattle.mixture.proofs.put_likenesses.Statement.{statement}
+use Rattle.mixture.proofs.put_likenesses.Tie as tie
+
+abbrev Inv-loop : tie.InvT-loop
+Inv-loop work₀ coords i m k d kd resp c₀ work c = (c ≤ k) × (length work ≡ length work₀) × (partsIn m k d work ≡ liked m k d work₀ coords i c)
+
+abbrev μ-loop : tie.MeasureT-loop
+μ-loop work₀ coords i m k d kd resp c₀ work c = k - c
+
+abbrev Inv-loop2 : tie.InvT-loop2
+Inv-loop2 work₀ coords i m k d kd resp c₀ work c = (c ≤ k) × (length work ≡ length work₀) × LikedFrom m k d work₀ coords i c₀ work c
+
+abbrev μ-loop2 : tie.MeasureT-loop2
+μ-loop2 work₀ coords i m k d kd resp c₀ work c = k - c
+
+mul-kd : tie.Need-mul-kd Inv-loop μ-loop Inv-loop2 μ-loop2
+mul-kd c = search needs
+
+add-resp : tie.Need-add-resp Inv-loop μ-loop Inv-loop2 μ-loop2
+add-resp c = search needs
+
+add-resp-2 : tie.Need-add-resp-2 Inv-loop μ-loop Inv-loop2 μ-loop2
+add-resp-2 c = search needs
+
+add-resp-3 : tie.Need-add-resp-3 Inv-loop μ-loop Inv-loop2 μ-loop2
+add-resp-3 c = search needs
+
+add-resp-4 : tie.Need-add-resp-4 Inv-loop μ-loop Inv-loop2 μ-loop2
+add-resp-4 c = search needs
+
+add-resp-5 : tie.Need-add-resp-5 Inv-loop μ-loop Inv-loop2 μ-loop2
+add-resp-5 c = search needs
+
+add-resp-6 : tie.Need-add-resp-6 Inv-loop μ-loop Inv-loop2 μ-loop2
+add-resp-6 c = search needs
+
+mul-resp : tie.Need-mul-resp Inv-loop μ-loop Inv-loop2 μ-loop2
+mul-resp c = search needs
+
+add-resp-7 : tie.Need-add-resp-7 Inv-loop μ-loop Inv-loop2 μ-loop2
+add-resp-7 c = search needs
+
+loop-holds : tie.Need-loop-holds Inv-loop μ-loop Inv-loop2 μ-loop2
+loop-holds c =
+    let a = c .before .before .args in
+    (search needs, refl, liked-start (a .m) (a .k) (a .d) (a .work .now) (a .coords .now) (a .i))
+
+sub-loop : tie.Need-sub-loop Inv-loop μ-loop Inv-loop2 μ-loop2
+sub-loop c = search needs
+
+four-likenesses-requires : tie.Need-four-likenesses-requires Inv-loop μ-loop Inv-loop2 μ-loop2
+four-likenesses-requires c κs =
+    let l = c .before .before .loop in
+    let b = c .before .before .before .before .before in
+    let a = b .args in
+    let h : l .c + 4 ≤ a .k = omega (arith, c .before .loop-test .taken, l .inv .0) in (
+      area-of (length (a .work .now)) (length (l .work)) (a .m) (a .k) (a .d) (l .inv .1) (b .pre .0),
+      (b .pre .1 .0, b .pre .1 .1, b .pre .1 .2, h, mul-le-mul-right (a .d) h),
+    )
+
+add-at : tie.Need-add-at Inv-loop μ-loop Inv-loop2 μ-loop2
+add-at c = search needs
+
+mul-work : tie.Need-mul-work Inv-loop μ-loop Inv-loop2 μ-loop2
+mul-work c = search needs
+
+slice-write-work : tie.Need-slice-write-work Inv-loop μ-loop Inv-loop2 μ-loop2
+slice-write-work c = search needs
+
+add-work : tie.Need-add-work Inv-loop μ-loop Inv-loop2 μ-loop2
+add-work c = search needs
+
+mul-work-2 : tie.Need-mul-work-2 Inv-loop μ-loop Inv-loop2 μ-loop2
+mul-work-2 c = search needs
+
+slice-write-work-2 : tie.Need-slice-write-work-2 Inv-loop μ-loop Inv-loop2 μ-loop2
+slice-write-work-2 c =
+    let l = c .before .before .before .loop in
+    let b = c .before .before .before .before .before .before in
+    simp length-set (omega (arith, c .before .before .loop-test .taken, l .inv .0, l .inv .1, b .pre .1 .2 .shares, b .pre .0 .work-long))
+
+add-work-2 : tie.Need-add-work-2 Inv-loop μ-loop Inv-loop2 μ-loop2
+add-work-2 c = search needs
+
+mul-work-3 : tie.Need-mul-work-3 Inv-loop μ-loop Inv-loop2 μ-loop2
+mul-work-3 c = search needs
+
+slice-write-work-3 : tie.Need-slice-write-work-3 Inv-loop μ-loop Inv-loop2 μ-loop2
+slice-write-work-3 c =
+    let l = c .before .before .before .loop in
+    let b = c .before .before .before .before .before .before in
+    simp length-set (omega (arith, c .before .before .loop-test .taken, l .inv .0, l .inv .1, b .pre .1 .2 .shares, b .pre .0 .work-long))
+
+add-work-3 : tie.Need-add-work-3 Inv-loop μ-loop Inv-loop2 μ-loop2
+add-work-3 c = search needs
+
+mul-work-4 : tie.Need-mul-work-4 Inv-loop μ-loop Inv-loop2 μ-loop2
+mul-work-4 c = search needs
+
+slice-write-work-4 : tie.Need-slice-write-work-4 Inv-loop μ-loop Inv-loop2 μ-loop2
+slice-write-work-4 c =
+    let l = c .before .before .before .loop in
+    let b = c .before .before .before .before .before .before in
+    simp length-set (omega (arith, c .before .before .loop-test .taken, l .inv .0, l .inv .1, b .pre .1 .2 .shares, b .pre .0 .work-long))
+
+add-c : tie.Need-add-c Inv-loop μ-loop Inv-loop2 μ-loop2
+add-c c = search needs
+
+loop-less : tie.Need-loop-less Inv-loop μ-loop Inv-loop2 μ-loop2
+loop-less c = search needs
+
+loop-again : tie.Need-loop-again Inv-loop μ-loop Inv-loop2 μ-loop2
+loop-again c =
+    let l = c .before .before .before .loop in
+    let b = c .before .before .before .before .before .before in
+    let a = b .args in
+    let h : l .c + 4 ≤ a .k = omega (arith, c .before .before .loop-test .taken, l .inv .0) in
+    let at = a .k * a .d + a .k * a .d + a .k + a .k + a .k + a .k + a .k + a .i * a .k + l .c in (
+      h,
+      simp length-set (l .inv .1),
+      liked-four (a .m) (a .k) (a .d) (a .work .now) (a .coords .now) (a .i) (b .pre .1 .2 .shares) (b .pre .0 .work-long) (l .work) at (l .c) (c .four-likenesses .result) refl h
+          (c .four-likenesses .ensures) (l .inv .2),
+    )
+
+loop2-holds : tie.Need-loop2-holds Inv-loop μ-loop Inv-loop2 μ-loop2
+loop2-holds c =
+    (c .before .loop .inv .0, refl, λ w₀ e f. f)
+
+likeness-requires : tie.Need-likeness-requires Inv-loop μ-loop Inv-loop2 μ-loop2
+likeness-requires c κs =
+    let l = c .before .before .loop2 in
+    let b = c .before .before .before .before .before .before .before in
+    let a = b .args in (
+      area-of (length (a .work .now)) (length (l .work)) (a .m) (a .k) (a .d) (l .inv .1 ∙ c .before .before .before .before .loop .inv .1) (b .pre .0),
+      (b .pre .1 .0, b .pre .1 .1, b .pre .1 .2, group-of (l .c) (a .k) (a .d) (c .before .loop2-test .taken)),
+    )
+
+add-work-4 : tie.Need-add-work-4 Inv-loop μ-loop Inv-loop2 μ-loop2
+add-work-4 c = search needs
+
+mul-work-5 : tie.Need-mul-work-5 Inv-loop μ-loop Inv-loop2 μ-loop2
+mul-work-5 c = search needs
+
+slice-write-work-5 : tie.Need-slice-write-work-5 Inv-loop μ-loop Inv-loop2 μ-loop2
+slice-write-work-5 c = search needs
+
+add-c-2 : tie.Need-add-c-2 Inv-loop μ-loop Inv-loop2 μ-loop2
+add-c-2 c = search needs
+
+loop2-less : tie.Need-loop2-less Inv-loop μ-loop Inv-loop2 μ-loop2
+loop2-less c = search needs
+
+loop2-again : tie.Need-loop2-again Inv-loop μ-loop Inv-loop2 μ-loop2
+loop2-again c =
+    let l = c .before .before .before .loop2 in
+    let u = c .before .before .before .before .before .loop in
+    let b = c .before .before .before .before .before .before .before .before in
+    let a = b .args in (
+      omega arith,
+      search needs,
+      λ w₀ e f. liked-turn (a .m) (a .k) (a .d) w₀ (a .coords .now) (a .i) (b .pre .1 .2 .shares) (omega (arith, b .pre .0 .work-long, u .inv .1, e)) (l .work) (l .c)
+          (c .likeness .result) (omega arith) (c .likeness .ensures) (l .inv .2 w₀ e f),
+    )
+
+same-length : tie.Need-same-length Inv-loop μ-loop Inv-loop2 μ-loop2
+same-length c = search needs
+
+returns : tie.Need-returns Inv-loop μ-loop Inv-loop2 μ-loop2
+returns c =
+    let l = c .before .loop2 in
+    let u = c .before .before .before .loop in
+    let a = c .before .before .before .before .before .before .args in
+    let e : l .c ≡ a .k = omega arith in
+    l .inv .2 (a .work .now) (u .inv .1) (u .inv .2) ∙ ap (λ (n : ℕ). liked (a .m) (a .k) (a .d) (a .work .now) (a .coords .now) (a .i) n) e
+
+pub put-likenesses-spec : {M : Type 1} → statement M
+put-likenesses-spec =
+    tie.close
+    (tie.spec
+    Inv-loop
+    μ-loop
+    Inv-loop2
+    μ-loop2
+    mul-kd
+    add-resp
+    add-resp-2
+    add-resp-3
+    add-resp-4
+    add-resp-5
+    add-resp-6
+    mul-resp
+    add-resp-7
+    loop-holds
+    sub-loop
+    four-likenesses-requires
+    add-at
+    mul-work
+    slice-write-work
+    add-work
+    mul-work-2
+    slice-write-work-2
+    add-work-2
+    mul-work-3
+    slice-write-work-3
+    add-work-3
+    mul-work-4
+    slice-write-work-4
+    add-c
+    loop-less
+    loop-again
+    loop2-holds
+    likeness-requires
+    add-work-4
+    mul-work-5
+    slice-write-work-5
+    add-c-2
+    loop2-less
+    loop2-again
+    same-length
+    returns)

@@ -1,0 +1,19 @@
+-- `mixture::weight_by` meets its contract: a case of `weightBy` for each answer, by the one test. Assumes nothing.
+use borrow.Author.Needs.{needs}
+use lib.Ieee.{ofBits}
+use Rattle.mixture.proofs.weight_by.Statement.{statement}
+use Rattle.mixture.proofs.weight_by.Tie as tie
+
+returns : tie.Need-returns
+unfolding ofBits
+returns c = rw (c .if1 .taken)
+
+even-weight-requires : tie.Need-even-weight-requires
+even-weight-requires c κs = search needs
+
+returns-2 : tie.Need-returns-2
+unfolding ofBits
+returns-2 c = rw (c .before .if1 .left) (c .even-weight .ensures)
+
+pub weight-by-spec : {M : Type 1} → statement M
+weight-by-spec = tie.close (tie.spec returns even-weight-requires returns-2)

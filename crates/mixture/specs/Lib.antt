@@ -1,0 +1,4 @@
+pub mod Kappas
+pub mod Mixture
+pub mod Fits
+pub mod Areas
