@@ -1,0 +1,4 @@
+pub mod Halves
+pub mod Refusals
+pub mod Outputs
+pub mod Outcomes

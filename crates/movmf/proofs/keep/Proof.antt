@@ -1,0 +1,29 @@
+-- The sums fit by what is asked, and each return is the definition at the way that the test went. Assumes nothing.
+use mathlib.Core.Path.{ap, sym}
+use mathlib.Core.Bool.{Bool}
+use Rattle.movmf.specs.Halves.{keptBy}
+use borrow.Author.Needs.{needs}
+use Rattle.movmf.proofs.keep.Statement.{statement}
+use Rattle.movmf.proofs.keep.Tie as tie
+
+add-made : tie.Need-add-made
+add-made c = search needs
+
+add-saved : tie.Need-add-saved
+add-saved c = search needs
+
+add-doubled : tie.Need-add-doubled
+add-doubled c = search needs
+
+returns : tie.Need-returns
+returns c =
+    let a = c .before .before .before .before .before .before .before .before .before .args in
+    ap (λ (t : Bool). keptBy t (a .h) (a .r)) (sym (c .if1 .taken))
+
+returns-2 : tie.Need-returns-2
+returns-2 c =
+    let a = c .before .before .before .before .before .before .before .before .before .before .args in
+    ap (λ (t : Bool). keptBy t (a .h) (a .r)) (sym (c .before .if1 .left))
+
+pub keep-spec : {M : Type 1} → statement M
+keep-spec = tie.close (tie.spec add-made add-saved add-doubled returns returns-2)

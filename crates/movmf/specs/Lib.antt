@@ -1,0 +1,4 @@
+pub mod Keeper
+pub mod Refusals
+pub mod Outcome
+pub mod Halves
