@@ -1,0 +1,6 @@
+pub mod Refusals
+pub mod Choices
+pub mod Counts
+pub mod Bests
+pub mod Numbers
+pub mod Outcomes

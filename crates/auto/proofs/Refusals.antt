@@ -1,0 +1,95 @@
+-- The refusals of the automatic fit: where nothing is refused there is room for the greatest number of groups, and with it for every lesser one. Assumes nothing.
+use mathlib.Core.Path.{_≡_, refl}
+use mathlib.Core.List.{List}
+use mathlib.Core.Bool.{Bool}
+use Prim.Native.Nat.{ℕ, _*_, _≤_}
+use native.Mathlib.Nat.{mul-le-mul}
+use native.Mathlib.Omega.{arith}
+use lib.Dec.{leb}
+use lib.ListN.{length}
+use lib.Ieee.{Float}
+use borrow.Author.Tests.{leb-true}
+use Rattle.spherical.specs.Refusals.{need, weightOk, coordinateOk, every, sizesOk, roundsOk}
+use Rattle.spherical.proofs.Refusals.{met, sizes-met}
+use Rattle.movmf.specs.Refusals.{arraysOk}
+use Rattle.movmf.specs.Halves.{Roomy}
+use Rattle.movmf.specs.declared.Lengths.{Lengths}
+use Rattle.movmf.proofs.Refusals.{arrays-met, roomy-by}
+use Rattle.movmf.proofs.Outcomes.{fillable}
+use Rattle.auto.specs.Refusals.{refusalOf}
+use Rattle.auto.specs.Tries.{Ready}
+
+module _ (weights coords : List Float) (d hi rounds : ℕ) (l : Lengths) where
+  pub ready : refusalOf weights coords d hi rounds l ≡ 0 → 1 ≤ hi → Ready (length weights) (length coords) (length weights) hi d rounds l
+  unfolding refusalOf
+  ready e some =
+      let m = length weights in
+      let e1 = met (sizesOk m d (length coords)) 0 _ e in
+      let e2 = met (leb hi 64) 1 _ (e1 .1) in
+      let e3 = met (roundsOk rounds) 2 _ (e2 .1) in
+      let e4 = met (arraysOk m hi d l) 3 _ (e3 .1) in
+      let a = arrays-met m hi d l (e4 .0) in
+      let r = roomy-by m hi d rounds (length coords) l (sizes-met m d (length coords) (e1 .0)) some (leb-true _ _ (e2 .0)) (leb-true _ _ (e3 .0)) a in
+      record { roomy = r; fillable = fillable (l .work) m (length coords) m hi d rounds l refl r a }
+
+  -- the first refusal by what each test answered
+  pub refusal-by : (sizes groups within arrays ws xs : Bool) → sizesOk (length weights) d (length coords) ≡ sizes → leb hi 64 ≡ groups
+      → roundsOk rounds ≡ within → arraysOk (length weights) hi d l ≡ arrays → every weightOk weights ≡ ws → every coordinateOk coords ≡ xs
+      → refusalOf weights coords d hi rounds l ≡ need sizes 1 (need groups 2 (need within 3 (need arrays 4 (need ws 5 (need xs 6 0)))))
+  unfolding refusalOf
+  refusal-by sizes groups within arrays ws xs e1 e2 e3 e4 e5 e6 = rw (e1, e2, e3, e4, e5, e6)
+
+-- room for a lesser number of groups
+module _ (weights coords m hi k d rounds : ℕ) (l : Lengths) (some : 1 ≤ k) (most : k ≤ hi) (v : Ready weights coords m hi d rounds l) where
+  rows : m * k ≤ m * hi
+  rows = let h : m ≤ m = omega arith in mul-le-mul h most
+
+  groups : k * d ≤ hi * d
+  groups = let h : d ≤ d = omega arith in mul-le-mul most h
+
+  roomy-below : Roomy (l .work) (l .marks) weights coords m k d rounds
+  roomy-below =
+      let r = v .roomy in
+      record {
+        m-some = r .m-some;
+        m-small = r .m-small;
+        k-some = some;
+        k-small = omega (arith, r .k-small);
+        d-some = r .d-some;
+        d-small = r .d-small;
+        mk-small = omega (arith, r .mk-small, rows);
+        kd-small = omega (arith, r .kd-small, groups);
+        md-small = r .md-small;
+        work-long = omega (arith, r .work-long, rows, groups);
+        marks-long = omega (arith, r .marks-long);
+        weights-long = r .weights-long;
+        coords-long = r .coords-long;
+        rounds-small = r .rounds-small;
+      }
+
+  pub ready-below : Ready weights coords m k d rounds l
+  ready-below =
+      let r = roomy-below in
+      let f = v .fillable in
+      record {
+        roomy = r;
+        fillable =
+            record {
+              k-some = some;
+              d-some = r .d-some;
+              d-small = r .d-small;
+              halved = record { m-small = r .m-small; k-small = r .k-small; mk-small = r .mk-small; kd-small = r .kd-small; work-long = r .work-long };
+              leaves = record { labels-long = f .leaves .labels-long; responsibilities-long = omega (arith, f .leaves .responsibilities-long, rows) };
+              groups =
+                  record {
+                    weights-long = omega (arith, f .groups .weights-long);
+                    directions-long = omega (arith, f .groups .directions-long, groups);
+                    concentrations-long = omega (arith, f .groups .concentrations-long);
+                    logw-long = omega (arith, f .groups .logw-long);
+                  };
+            };
+      }
+
+-- the same room by other names of the lengths
+pub ready-of : (weights coords m k d rounds : ℕ) (l l' : Lengths) → l' ≡ l → Ready weights coords m k d rounds l → Ready weights coords m k d rounds l'
+ready-of weights coords m k d rounds l l' e v = rw e v

@@ -1,0 +1,47 @@
+-- Document 01, 'Choosing the number of groups': the clamped range, the score and the choice. Definitions only.
+use mathlib.Core.List.{List}
+use mathlib.Core.Bool.{Bool, true, false}
+use Prim.Native.Nat.{ℕ, zero, suc, _+_, min, max}
+use lib.Ieee.{Float, inf, binary64, add, mul, neg, lt}
+use Rattle.float.specs.Arithmetic.{number, minusZero, sumFrom}
+use Rattle.float.specs.Logarithm.{lnOf}
+use Rattle.mixture.specs.Kappas.{parametersOf}
+use Rattle.mixture.specs.declared.Kappa.{Kappa}
+use Rattle.auto.specs.declared.Choice.{Choice}
+use Rattle.auto.specs.declared.Choice.the-variants.{Number, Nothing}
+
+-- k_hi = max(1, min(k_max, m)), k_lo = min(max(k_min, 1), k_hi)
+abbrev pub highest : ℕ → ℕ → ℕ
+highest kMax m = max 1 (min kMax m)
+
+abbrev pub lowest : ℕ → ℕ → ℕ
+lowest kMin hi = min (max kMin 1) hi
+
+-- the weights summed from −0, in leaf order
+abbrev pub totalOf : List Float → Float
+totalOf weights = sumFrom minusZero weights
+
+-- −2·loglik + p·ln(total weight)
+abbrev pub scoreBy : ℕ → Float → Float → Float
+scoreBy p loglik total = add binary64 (mul binary64 (neg (number 2)) loglik) (mul binary64 (number p) (lnOf total))
+
+abbrev pub scoreOf : Kappa → ℕ → ℕ → List Float → Float → Float
+scoreOf kappa k d weights loglik = scoreBy (parametersOf kappa k d) loglik (totalOf weights)
+
+-- the score held, +infinity where there is none
+abbrev pub heldScore : Choice → Float
+heldScore Nothing = inf false
+heldScore (Number k score) = score
+
+abbrev pub chooseBy : Bool → Choice → Choice → Choice
+chooseBy true new held = new
+chooseBy false new held = held
+
+-- a number is kept where its score beats the one held; NaN beats nothing
+abbrev pub choose : Choice → ℕ → Float → Choice
+choose held k score = chooseBy (lt score (heldScore held)) (Number k score) held
+
+-- among the first n numbers from lo on
+unfoldable pub chosen : (ℕ → Float) → ℕ → ℕ → Choice
+chosen score lo zero = Nothing
+chosen score lo (suc n) = choose (chosen score lo n) (lo + n) (score (lo + n))

@@ -1,0 +1,5 @@
+pub mod Choice
+pub mod Refusals
+pub mod Outcome
+pub mod Best
+pub mod Tries
