@@ -1,11 +1,13 @@
 // Writes the list of cases that crates/replay runs: bit patterns and answers of the original and of document 01's
-// exponential and logarithm; with the arguments `many SEED` a list of 4,000 random fits. README.md beside this folder's
-// Cargo.toml says how a list is made and what it holds.
+// exponential and logarithm; with the arguments `many SEED`, `mixtures SEED` or `choices SEED` a list of random fits. README.md beside this
+// folder's Cargo.toml says how a list is made and what it holds.
+mod auto;
 mod bessel;
 mod cases;
 mod counts;
 mod document;
 mod leaves;
+mod mixture;
 mod spherical;
 #[allow(dead_code)]
 mod standins;
@@ -21,10 +23,17 @@ mod vmf {
 }
 
 fn main() {
+    // the original panics where no number is kept, which is a case of its own
+    std::panic::set_hook(Box::new(|_| {}));
     let mut list = cases::List::new(std::io::stdout().lock());
     let args: Vec<String> = std::env::args().collect();
-    if args.len() == 3 && args[1] == "many" {
-        spherical::many(&mut list, args[2].parse().expect("many SEED"));
+    if args.len() == 3 {
+        let seed = args[2].parse().expect("many SEED, mixtures SEED or choices SEED");
+        match args[1].as_str() {
+            "many" => spherical::many(&mut list, seed),
+            "mixtures" => mixture::many(&mut list, seed),
+            _ => auto::many(&mut list, seed),
+        }
         list.end();
         return;
     }
@@ -33,5 +42,7 @@ fn main() {
     vectors::vector(&mut list);
     bessel::bessel(&mut list);
     spherical::spherical(&mut list);
+    mixture::mixture(&mut list);
+    auto::auto(&mut list);
     list.end();
 }

@@ -3,9 +3,10 @@
 use mathlib.Core.Path.{_≡_, refl}
 use mathlib.Core.List.{List, [], _∷_}
 use mathlib.Core.Bool.{true, false}
-use Prim.Native.Nat.{ℕ}
+use Prim.Native.Nat.{ℕ, _-_}
 use lib.IntN.{negsuc}
-use lib.Ieee.{Float, inf, fin, add, sub, mul, div, neg, lt, le, isNan, ofInt, ofBits, round, size}
+use lib.ListN.{getD}
+use lib.Ieee.{Float, nan, inf, fin, add, sub, mul, div, neg, lt, le, isNan, ofInt, ofBits, round, size}
 use Rattle.float.specs.Arithmetic.{number, plusZero, minusZero, maxOf, clampOf}
 use Rattle.float.specs.Root.{rootOf}
 use Rattle.float.specs.Exponential.{expOf}
@@ -13,6 +14,9 @@ use Rattle.float.specs.Logarithm.{lnOf}
 use Rattle.bessel.specs.Concentration.{estimateOf, kappaMax}
 use Rattle.bounds.specs.declared.Slowest.{Slowest}
 use Rattle.bounds.specs.Shifts.{shiftLower, shiftUpper, slowestUpTo}
+use Rattle.auto.specs.Choice.{chosen}
+use Rattle.auto.specs.declared.Choice.{Choice}
+use Rattle.auto.specs.declared.Choice.the-variants.{Number, Nothing}
 
 -- an answer is one or more values
 pub data Value : Type 0 where
@@ -44,6 +48,14 @@ slow c p q = whole c ∷ float p ∷ float q ∷ []
 abbrev slowest : Slowest → List Value
 slowest s = slow (s .at) (s .least) (s .next)
 
+-- a choice: the number and its score, or nothing; and scores from number lo on
+abbrev choice : Choice → List Value
+choice Nothing = one none
+choice (Number k score) = whole k ∷ float score ∷ []
+
+abbrev scored : List Float → ℕ → ℕ → Float
+scored scores lo k = getD scores (k - lo) nan
+
 unfoldable pub table : List Row
 table =
     -- root of 4 is 2; of −0 is −0; of 2^−1074 is 2^−537
@@ -70,6 +82,9 @@ table =
     -- two smallest of 0.5, 0.5, 0.25: index 2, 0.25, 0.5; of 0.5 alone: index 0, 0.5, +infinity
     ∷ row (slowest (slowestUpTo (half ∷ half ∷ quarter ∷ []) 3)) (slow 2 quarter half)
     ∷ row (slowest (slowestUpTo (half ∷ []) 1)) (slow 0 half (inf false))
+    -- scores 3, NaN, 1, 1 from k_lo 2 choose 4; NaN, +infinity choose none
+    ∷ row (choice (chosen (scored (number 3 ∷ nan ∷ number 1 ∷ number 1 ∷ []) 2) 2 4)) (whole 4 ∷ float (number 1) ∷ [])
+    ∷ row (choice (chosen (scored (nan ∷ inf false ∷ []) 1) 1 2)) (one none)
     ∷ []
 
 abbrev allGive : List Row → List (List Value)
@@ -82,5 +97,5 @@ allSay (r ∷ rs) = r .says ∷ allSay rs
 
 -- every definition gives what document 01 says
 pub examples : allGive table ≡ allSay table
-unfolding table rootOf expOf lnOf estimateOf shiftLower shiftUpper slowestUpTo maxOf clampOf add sub mul div neg lt le isNan ofInt ofBits round size
+unfolding table rootOf expOf lnOf estimateOf shiftLower shiftUpper slowestUpTo chosen maxOf clampOf add sub mul div neg lt le isNan ofInt ofBits round size
 examples = refl

@@ -1,5 +1,6 @@
 // Document 01's edge examples, run: a line for each, `yes` where the answer is as it says and `NO` where it is not; and
-// SplitMix64's published outputs; and the limits of spherical k-means.
+// SplitMix64's published outputs; and the limits of spherical k-means, of the mixture fit
+// and of the automatic fit.
 ghost use Prim.Native.Nat.{_≤_};
 
 fn expect_line(name: &[u8], ok: bool) {
@@ -425,6 +426,331 @@ fn many_lines() {
     );
 }
 
+// ---- the limits of the mixture fit
+
+fn fit_code(r: movmf::Fitted) -> u32 {
+    match r {
+        movmf::Fitted::Refused(c) => c,
+        movmf::Fitted::Done {
+            k: _,
+            loglik: _,
+            made: _,
+            saved: _,
+            doubled: _,
+        } => 0,
+    }
+}
+
+fn settings(rounds: usize) -> mixture::Settings {
+    mixture::Settings {
+        rounds,
+        seed: 7,
+        kappa: mixture::Kappa::Free,
+    }
+}
+
+// What a mixture fit with small arrays, all long enough, answers.
+fn fit(weights: &[f64], coords: &[f64], d: usize, k: usize, rounds: usize) -> u32 {
+    let mut labels = [9u32; 8];
+    let mut responsibilities = [9.0; 32];
+    let mut group_weights = [9.0; 8];
+    let mut directions = [9.0; 16];
+    let mut concentrations = [9.0; 8];
+    let mut logw = [9.0; 8];
+    let mut work = [0.0; 256];
+    let mut marks = [0u32; 32];
+    fit_code(movmf::movmf_with(
+        weights,
+        coords,
+        d,
+        k,
+        settings(rounds),
+        &mut labels,
+        &mut responsibilities,
+        &mut group_weights,
+        &mut directions,
+        &mut concentrations,
+        &mut logw,
+        &mut work,
+        &mut marks,
+    ))
+}
+
+// n, or one less.
+fn shortened(n: usize, less: bool) -> usize {
+    if less && n > 0 { n - 1 } else { n }
+}
+
+// Arrays that are just long enough for three leaves of two coordinates in two groups, but for the one that `short` names,
+// which is one too short.
+fn lengths(short: usize) -> movmf::Lengths {
+    movmf::Lengths {
+        labels: shortened(3, short == 1),
+        responsibilities: shortened(6, short == 2),
+        weights: shortened(2, short == 3),
+        directions: shortened(4, short == 4),
+        concentrations: shortened(2, short == 5),
+        logw: shortened(2, short == 6),
+        work: shortened(84, short == 7),
+        marks: shortened(10, short == 8),
+    }
+}
+
+// What the fit with such arrays answers.
+fn fit_with(short: usize) -> u32 {
+    let n = lengths(short);
+    let mut labels = [9u32; 3];
+    let mut responsibilities = [9.0; 6];
+    let mut group_weights = [9.0; 2];
+    let mut directions = [9.0; 4];
+    let mut concentrations = [9.0; 2];
+    let mut logw = [9.0; 2];
+    let mut work = [0.0; 84];
+    let mut marks = [0u32; 10];
+    let a = least(n.labels, 3);
+    let b = least(n.responsibilities, 6);
+    let c = least(n.weights, 2);
+    let d = least(n.directions, 4);
+    let e = least(n.concentrations, 2);
+    let f = least(n.logw, 2);
+    let g = least(n.work, 84);
+    let h = least(n.marks, 10);
+    fit_code(movmf::movmf_with(
+        &[1.0; 3],
+        &[1.0, 0.0, 0.0, 1.0, 1.0, 0.5],
+        2,
+        2,
+        settings(10),
+        &mut labels[..a],
+        &mut responsibilities[..b],
+        &mut group_weights[..c],
+        &mut directions[..d],
+        &mut concentrations[..e],
+        &mut logw[..f],
+        &mut work[..g],
+        &mut marks[..h],
+    ))
+}
+
+fn fit_array_lines() {
+    expect_line(
+        b"movmf_with: arrays that are just long enough pass",
+        fit_with(0) == 0,
+    );
+    expect_line(
+        b"movmf_with: labels one too short are refused with 4",
+        fit_with(1) == 4,
+    );
+    expect_line(
+        b"movmf_with: responsibilities one too short are refused with 4",
+        fit_with(2) == 4,
+    );
+    expect_line(
+        b"movmf_with: weights one too short are refused with 4",
+        fit_with(3) == 4,
+    );
+    expect_line(
+        b"movmf_with: directions one too short are refused with 4",
+        fit_with(4) == 4,
+    );
+    expect_line(
+        b"movmf_with: concentrations one too short are refused with 4",
+        fit_with(5) == 4,
+    );
+    expect_line(
+        b"movmf_with: logw one too short is refused with 4",
+        fit_with(6) == 4,
+    );
+    expect_line(
+        b"movmf_with: an f64 work array one too short is refused with 4",
+        fit_with(7) == 4,
+    );
+    expect_line(
+        b"movmf_with: a u32 work array one too short is refused with 4",
+        fit_with(8) == 4,
+    );
+}
+
+fn fit_lines() {
+    let x = [1.0, -0.0];
+    let none = 0.0 / 0.0;
+    expect_line(
+        b"movmf_with: as many groups as leaves and 10000 rounds pass",
+        fit(&[1.0, 0.0], &x, 1, 2, 10000) == 0,
+    );
+    expect_line(
+        b"movmf_with: no rounds pass",
+        fit(&[1.0, 0.0], &x, 1, 2, 0) == 0,
+    );
+    expect_line(
+        b"movmf_with: a bad weight is refused before a bad coordinate",
+        fit(&[none, 1.0], &[none, 1.0], 1, 1, 9) == 5,
+    );
+    expect_line(
+        b"movmf_with: a bad coordinate is refused with 6",
+        fit(&[1.0, 1.0], &[none, 1.0], 1, 1, 9) == 6,
+    );
+    expect_line(
+        b"movmf_with: too many rounds are refused before a bad weight",
+        fit(&[none, 1.0], &x, 1, 1, 10001) == 3,
+    );
+    expect_line(
+        b"movmf_with: too many groups are refused before too many rounds",
+        fit(&[none, 1.0], &x, 1, 3, 10001) == 2,
+    );
+    expect_line(
+        b"movmf_with: a wrong number of coordinates is refused first",
+        fit(&[none, 1.0], &x, 2, 3, 10001) == 1,
+    );
+}
+
+// ---- the automatic fit
+
+// The number kept, or 100 and the number of the refusal.
+fn kept(r: auto::Chosen) -> u64 {
+    match r {
+        auto::Chosen::Refused(c) => 100 + number(c) % 100,
+        auto::Chosen::Unscored {
+            made: _,
+            saved: _,
+            doubled: _,
+        } => 107,
+        auto::Chosen::Done {
+            k,
+            loglik: _,
+            score: _,
+            made: _,
+            saved: _,
+            doubled: _,
+        } => k as u64,
+    }
+}
+
+fn number(c: u32) -> u64 {
+    c as u64
+}
+
+// Whether number k is kept at a score of -infinity.
+fn is_lowest(r: auto::Chosen, number: usize) -> bool {
+    match r {
+        auto::Chosen::Refused(_) => false,
+        auto::Chosen::Unscored {
+            made: _,
+            saved: _,
+            doubled: _,
+        } => false,
+        auto::Chosen::Done {
+            k,
+            loglik: _,
+            score,
+            made: _,
+            saved: _,
+            doubled: _,
+        } => k == number && is(score, 0xFFF0_0000_0000_0000),
+    }
+}
+
+// Whether 7 comes with these counts.
+fn is_seven(r: auto::Chosen, all: u64, skipped: u64) -> bool {
+    match r {
+        auto::Chosen::Refused(_) => false,
+        auto::Chosen::Unscored {
+            made,
+            saved,
+            doubled: _,
+        } => made == all && saved == skipped,
+        auto::Chosen::Done {
+            k: _,
+            loglik: _,
+            score: _,
+            made: _,
+            saved: _,
+            doubled: _,
+        } => false,
+    }
+}
+
+// What an automatic fit with small arrays answers.
+fn choose(
+    weights: &[f64],
+    coords: &[f64],
+    d: usize,
+    k_min: usize,
+    k_max: usize,
+    rounds: usize,
+) -> auto::Chosen {
+    let mut labels = [9u32; 8];
+    let mut responsibilities = [9.0; 32];
+    let mut group_weights = [9.0; 8];
+    let mut directions = [9.0; 16];
+    let mut concentrations = [9.0; 8];
+    let mut logw = [9.0; 8];
+    let mut work = [0.0; 256];
+    let mut marks = [0u32; 32];
+    auto::movmf_auto_with(
+        weights,
+        coords,
+        d,
+        k_min,
+        k_max,
+        settings(rounds),
+        &mut labels,
+        &mut responsibilities,
+        &mut group_weights,
+        &mut directions,
+        &mut concentrations,
+        &mut logw,
+        &mut work,
+        &mut marks,
+    )
+}
+
+fn range_lines() {
+    let w = [1.0; 3];
+    let x = [1.0, 0.0, 0.0, 1.0, 1.0, 0.5];
+    expect_line(
+        b"movmf_auto_with: k_min 3 and k_max 2 fit 2",
+        kept(choose(&w, &x, 2, 3, 2, 10)) == 2,
+    );
+    expect_line(
+        b"movmf_auto_with: k_max 0 fits 1",
+        kept(choose(&w, &x, 2, 2, 0, 10)) == 1,
+    );
+    expect_line(
+        b"movmf_auto_with: k_min 9 with three leaves fits 3",
+        kept(choose(&w, &x, 2, 9, 12, 10)) == 3,
+    );
+    expect_line(
+        b"movmf_auto_with: weights that are all zero keep the lowest number at -infinity",
+        is_lowest(choose(&[0.0, -0.0, 0.0], &x, 2, 2, 3, 10), 2),
+    );
+}
+
+fn auto_lines() {
+    let one = [1.0];
+    let none = 0.0 / 0.0;
+    expect_line(
+        b"movmf_auto_with: no rounds are refused with 7, with made 4 and saved 4",
+        is_seven(choose(&one, &one, 1, 1, 4, 0), 4, 4),
+    );
+    expect_line(
+        b"movmf_auto_with: 64 is the greatest number, 65 leaves with k_max 65 are refused with 2",
+        kept(choose(&[1.0; 65], &[0.5; 65], 1, 1, 65, 10)) == 102,
+    );
+    expect_line(
+        b"movmf_auto_with: too many rounds are refused before a bad weight",
+        kept(choose(&[none], &one, 1, 1, 1, 10001)) == 103,
+    );
+    expect_line(
+        b"movmf_auto_with: arrays too short for the greatest number are refused before a bad weight",
+        kept(choose(&[none; 8], &[0.5; 8], 1, 1, 8, 10)) == 104,
+    );
+    expect_line(
+        b"movmf_auto_with: a bad weight is refused before a bad coordinate",
+        kept(choose(&[none], &[none], 1, 1, 1, 10)) == 105,
+    );
+}
+
 fn main() {
     root_lines();
     exp_lines();
@@ -438,4 +764,8 @@ fn main() {
     coordinate_lines();
     order_lines();
     many_lines();
+    fit_array_lines();
+    fit_lines();
+    range_lines();
+    auto_lines();
 }

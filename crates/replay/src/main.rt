@@ -327,6 +327,264 @@ fn spherical_agrees(text: &[u8]) -> bool {
     groups_agree(text, &weights[..a], &coords[..b], at)
 }
 
+// ---- the mixture
+
+fn kappa_of(x: u64) -> mixture::Kappa {
+    if x == 0 {
+        mixture::Kappa::Free
+    } else {
+        mixture::Kappa::Shared
+    }
+}
+
+// Whether r is done and has the words from word `at` on.
+fn fit_agrees(r: movmf::Fitted, k: usize, text: &[u8], at: usize) -> bool {
+    match r {
+        movmf::Fitted::Refused(_) => false,
+        movmf::Fitted::Done {
+            k: groups,
+            loglik,
+            made,
+            saved,
+            doubled,
+        } => {
+            groups == k
+                && is_number(loglik, text, at)
+                && made == word(text, plus(at, 1))
+                && saved == word(text, plus(at, 2))
+                && doubled == word(text, plus(at, 3))
+        }
+    }
+}
+
+// What an output is compared with: its words from word `at` on, or the digest of them at word `at`.
+struct Place {
+    at: usize,
+    digest: bool,
+}
+
+// The place after n words more, or after one digest more.
+fn past(p: Place, n: usize) -> Place {
+    if p.digest {
+        Place {
+            at: plus(p.at, 1),
+            digest: true,
+        }
+    } else {
+        Place {
+            at: plus(p.at, n),
+            digest: false,
+        }
+    }
+}
+
+// A digest with one word more.
+fn digested(h: u64, w: u64) -> u64 {
+    rng::mix(std::num::wrapping_add_u64(h, w))
+}
+
+// Whether the digest of the first n of v is word `at`, and the rest are still 7.
+fn are_marks_by_digest(v: &[u32], n: usize, text: &[u8], at: usize) -> bool {
+    let mut h: u64 = 0;
+    let mut same = true;
+    let mut j = 0;
+    while j < v.len() {
+        if j < n {
+            h = digested(h, mark(v[j]));
+        } else {
+            same = same & (v[j] == 7);
+        }
+        j += 1;
+    }
+    same & (h == word(text, at))
+}
+
+// The same of f64, the rest still 7.5.
+fn are_rows_by_digest(v: &[f64], n: usize, text: &[u8], at: usize) -> bool {
+    let mut h: u64 = 0;
+    let mut same = true;
+    let mut j = 0;
+    while j < v.len() {
+        if j < n {
+            h = digested(h, float::bits_of(v[j]));
+        } else {
+            same = same & (v[j] == 7.5);
+        }
+        j += 1;
+    }
+    same & (h == word(text, at))
+}
+
+fn marks_agree(v: &[u32], n: usize, text: &[u8], p: Place) -> bool {
+    if p.digest {
+        return are_marks_by_digest(v, n, text, p.at);
+    }
+    are_marks(v, n, text, p.at)
+}
+
+fn rows_agree(v: &[f64], n: usize, text: &[u8], p: Place) -> bool {
+    if p.digest {
+        return are_rows_by_digest(v, n, text, p.at);
+    }
+    are_rows(v, n, text, p.at)
+}
+
+// Kinds 22 and 23 with these leaves; the answer's words are from word `at` on. The outputs are longer than needed, and their
+// rest is looked at too.
+fn mixture_agrees(text: &[u8], weights: &[f64], coords: &[f64], at: usize, digest: bool) -> bool {
+    let d = word(text, 1) as usize;
+    let k = word(text, 2) as usize;
+    let s = mixture::Settings {
+        rounds: word(text, 3) as usize,
+        seed: word(text, 4),
+        kappa: kappa_of(word(text, 5)),
+    };
+    let mut labels = [7u32; 132];
+    let mut responsibilities = [7.5; 6500];
+    let mut group_weights = [7.5; 68];
+    let mut directions = [7.5; 1100];
+    let mut concentrations = [7.5; 65];
+    let mut logw = [7.5; 66];
+    let mut work = [0.0; 18432];
+    let mut marks = [0u32; 384];
+    let r = movmf::movmf_with(
+        weights,
+        coords,
+        d,
+        k,
+        s,
+        &mut labels,
+        &mut responsibilities,
+        &mut group_weights,
+        &mut directions,
+        &mut concentrations,
+        &mut logw,
+        &mut work,
+        &mut marks,
+    );
+    let m = weights.len();
+    let p1 = Place {
+        at: plus(at, 4),
+        digest,
+    };
+    let p2 = past(p1, m);
+    let p3 = past(p2, times(m, k));
+    let p4 = past(p3, k);
+    let p5 = past(p4, times(k, d));
+    let p6 = past(p5, k);
+    fit_agrees(r, k, text, at)
+        && marks_agree(&labels, m, text, p1)
+        && rows_agree(&responsibilities, times(m, k), text, p2)
+        && rows_agree(&group_weights, k, text, p3)
+        && rows_agree(&directions, times(k, d), text, p4)
+        && rows_agree(&concentrations, k, text, p5)
+        && rows_agree(&logw, k, text, p6)
+}
+
+// Kinds 22 and 23, the mixture fit: m, d, k, rounds, seed, Kappa, m weights, m * d coordinates; the log-likelihood, made, saved,
+// doubled, and the six outputs, or in kind 23 a digest of each.
+fn mixtures_agree(text: &[u8], digest: bool) -> bool {
+    let m = word(text, 0) as usize;
+    let n = times(m, word(text, 1) as usize);
+    let mut weights = [0.0; 128];
+    let mut coords = [0.0; 1024];
+    let a = load(&mut weights, text, 6, m);
+    let b = load(&mut coords, text, plus(6, m), n);
+    let at = plus(plus(6, m), n);
+    mixture_agrees(text, &weights[..a], &coords[..b], at, digest)
+}
+
+// ---- the automatic fit
+
+// Whether r is what the words from word `at` on say: the number, 0 where none is kept, its log-likelihood and score, and the
+// counts.
+fn choice_agrees(r: auto::Chosen, text: &[u8], at: usize) -> bool {
+    match r {
+        auto::Chosen::Refused(_) => false,
+        auto::Chosen::Unscored {
+            made,
+            saved,
+            doubled,
+        } => {
+            word(text, at) == 0
+                && made == word(text, plus(at, 3))
+                && saved == word(text, plus(at, 4))
+                && doubled == word(text, plus(at, 5))
+        }
+        auto::Chosen::Done {
+            k,
+            loglik,
+            score,
+            made,
+            saved,
+            doubled,
+        } => {
+            k as u64 == word(text, at)
+                && is_number(loglik, text, plus(at, 1))
+                && is_number(score, text, plus(at, 2))
+                && made == word(text, plus(at, 3))
+                && saved == word(text, plus(at, 4))
+                && doubled == word(text, plus(at, 5))
+        }
+    }
+}
+
+// Kind 24 with these leaves; the answer's words are from word `at` on.
+fn auto_agrees(text: &[u8], weights: &[f64], coords: &[f64], at: usize) -> bool {
+    let d = word(text, 1) as usize;
+    let s = mixture::Settings {
+        rounds: word(text, 4) as usize,
+        seed: word(text, 5),
+        kappa: kappa_of(word(text, 6)),
+    };
+    let mut labels = [7u32; 132];
+    let mut responsibilities = [7.5; 1024];
+    let mut group_weights = [7.5; 68];
+    let mut directions = [7.5; 1100];
+    let mut concentrations = [7.5; 65];
+    let mut logw = [7.5; 66];
+    let mut work = [0.0; 8192];
+    let mut marks = [0u32; 384];
+    let r = auto::movmf_auto_with(
+        weights,
+        coords,
+        d,
+        word(text, 2) as usize,
+        word(text, 3) as usize,
+        s,
+        &mut labels,
+        &mut responsibilities,
+        &mut group_weights,
+        &mut directions,
+        &mut concentrations,
+        &mut logw,
+        &mut work,
+        &mut marks,
+    );
+    let k = word(text, at) as usize;
+    let m = if k == 0 { 0 } else { weights.len() };
+    choice_agrees(r, text, at)
+        && are_marks_by_digest(&labels, m, text, plus(at, 6))
+        && are_rows_by_digest(&responsibilities, times(m, k), text, plus(at, 7))
+        && are_rows_by_digest(&group_weights, k, text, plus(at, 8))
+        && are_rows_by_digest(&directions, times(k, d), text, plus(at, 9))
+        && are_rows_by_digest(&concentrations, k, text, plus(at, 10))
+        && are_rows_by_digest(&logw, k, text, plus(at, 11))
+}
+
+// Kind 24, the automatic fit: m, d, k_min, k_max, rounds, seed, Kappa, m weights, m * d coordinates; the number, the
+// log-likelihood, the score, made, saved, doubled, and a digest of each output.
+fn choices_agree(text: &[u8]) -> bool {
+    let m = word(text, 0) as usize;
+    let n = times(m, word(text, 1) as usize);
+    let mut weights = [0.0; 128];
+    let mut coords = [0.0; 1024];
+    let a = load(&mut weights, text, 7, m);
+    let b = load(&mut coords, text, plus(7, m), n);
+    let at = plus(plus(7, m), n);
+    auto_agrees(text, &weights[..a], &coords[..b], at)
+}
+
 fn agrees(kind: u64, text: &[u8], ins: usize) -> bool {
     if kind <= 6 {
         return arithmetic_agrees(kind, text);
@@ -340,7 +598,16 @@ fn agrees(kind: u64, text: &[u8], ins: usize) -> bool {
     if kind <= 20 {
         return bessel_agrees(kind, text);
     }
-    kind == 21 && spherical_agrees(text)
+    if kind == 21 {
+        return spherical_agrees(text);
+    }
+    if kind == 22 {
+        return mixtures_agree(text, false);
+    }
+    if kind == 23 {
+        return mixtures_agree(text, true);
+    }
+    kind == 24 && choices_agree(text)
 }
 
 fn print_arithmetic(kind: u64) {
@@ -402,6 +669,12 @@ fn print_bessel(kind: u64) {
 fn print_fit(kind: u64) {
     if kind == 21 {
         io::write_all(1, b"spherical_kmeans: ");
+    } else if kind == 22 {
+        io::write_all(1, b"movmf_with: ");
+    } else if kind == 23 {
+        io::write_all(1, b"movmf_with, by digests: ");
+    } else if kind == 24 {
+        io::write_all(1, b"movmf_auto_with: ");
     } else {
         io::write_all(1, b"unknown kind: ");
     }
