@@ -23,9 +23,9 @@ use Rattle.movmf.specs.Outcome.{Outputs, written, lengthsOf}
 use Rattle.movmf.specs.Halves.{Both, keptPart, keptLoglik, keptEm, Fillable}
 use Rattle.movmf.specs.declared.Runs.{Runs}
 use Rattle.movmf.proofs.Outcomes.{kept-area, fit-em, fit-counts}
-use Rattle.auto.specs.Choice.{totalOf, heldScore}
+use Rattle.auto.specs.Choice.{totalOf, scoreBy, heldScore}
 use Rattle.auto.specs.Outcome.{Auto, tallyBy, outputsBy, lone, score, tryNumber, autoUpTo}
-use Rattle.auto.specs.Tries.{scoreAt, TallySmall, RunsSmall, keptTally, leftTally, Full, Tails, TriedNumber}
+use Rattle.auto.specs.Tries.{TallySmall, RunsSmall, keptTally, leftTally, Full, Tails, TriedNumber}
 use Rattle.auto.specs.declared.Tally.{Tally}
 
 -- ---- the counts stay small
@@ -70,12 +70,12 @@ module _ (weights coords : List Float) (d k : ℕ) (s : Settings) (w : List Floa
       subst (Full m k d) (fit-em s weights coords m k d w r b) e
 
   module _ (o o' : Outputs) (t q : Tally) (loglik lnTotal x h : Float) (el : loglik ≡ keptLoglik (r .held) (r .last)) (en : lnTotal ≡ lnOf (totalOf weights))
-      (ex : x ≡ scoreAt (s .kappa) k d loglik lnTotal) (eh : h ≡ heldScore (t .choice)) where
+      (ex : x ≡ scoreBy (s .kappa) k d loglik lnTotal) (eh : h ≡ heldScore (t .choice)) where
     loglik-is : loglik ≡ found .loglik
     loglik-is = el ∙ ap (λ (y : Em). y .loglik) (fit-em s weights coords m k d w r b)
 
     score-is : x ≡ score o weights coords d s k
-    score-is = ex ∙ ap₂ (scoreAt (s .kappa) k d) loglik-is en
+    score-is = ex ∙ ap₂ (scoreBy (s .kappa) k d) loglik-is en
 
     test-is : (y : Bool) → lt x h ≡ y → lt (score o weights coords d s k) (heldScore (t .choice)) ≡ y
     test-is y e = ap₂ lt (sym score-is) (sym eh) ∙ e

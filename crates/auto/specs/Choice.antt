@@ -21,12 +21,12 @@ lowest kMin hi = min (max kMin 1) hi
 abbrev pub totalOf : List Float → Float
 totalOf weights = sumFrom minusZero weights
 
--- −2·loglik + p·ln(total weight)
-abbrev pub scoreBy : ℕ → Float → Float → Float
-scoreBy p loglik total = add binary64 (mul binary64 (neg (number 2)) loglik) (mul binary64 (number p) (lnOf total))
+-- −2·loglik + p·ln(total weight), with the logarithm at hand, and of these weights
+abbrev pub scoreBy : Kappa → ℕ → ℕ → Float → Float → Float
+scoreBy kappa k d loglik lnTotal = add binary64 (mul binary64 (neg (number 2)) loglik) (mul binary64 (number (parametersOf kappa k d)) lnTotal)
 
 abbrev pub scoreOf : Kappa → ℕ → ℕ → List Float → Float → Float
-scoreOf kappa k d weights loglik = scoreBy (parametersOf kappa k d) loglik (totalOf weights)
+scoreOf kappa k d weights loglik = scoreBy kappa k d loglik (lnOf (totalOf weights))
 
 -- the score held, +infinity where there is none
 abbrev pub heldScore : Choice → Float

@@ -4,11 +4,8 @@ use mathlib.Core.Path.{_≡_}
 use mathlib.Core.List.{List}
 use Prim.Native.Nat.{ℕ, _+_, _*_, _≤_}
 use lib.ListN.{length, drop}
-use lib.Ieee.{Float, binary64, add, mul, neg, lt}
-use Rattle.float.specs.Arithmetic.{number}
-use Rattle.mixture.specs.Kappas.{parametersOf}
+use lib.Ieee.{Float, lt}
 use Rattle.mixture.specs.Mixture.{Em}
-use Rattle.mixture.specs.declared.Kappa.{Kappa}
 use Rattle.mixture.specs.declared.Settings.{Settings}
 use Rattle.movmf.specs.Outcome.{Outputs, written}
 use Rattle.movmf.specs.Halves.{Roomy, Fillable}
@@ -18,10 +15,6 @@ use Rattle.auto.specs.Choice.{heldScore}
 use Rattle.auto.specs.Outcome.{lone, score, tallyBy, outputsBy}
 use Rattle.auto.specs.declared.Choice.the-variants.{Number}
 use Rattle.auto.specs.declared.Tally.{Tally}
-
--- −2·loglik + p·ln(total weight), the logarithm at hand
-abbrev pub scoreAt : Kappa → ℕ → ℕ → Float → Float → Float
-scoreAt kappa k d loglik lnTotal = add binary64 (mul binary64 (neg (number 2)) loglik) (mul binary64 (number (parametersOf kappa k d)) lnTotal)
 
 -- the counts after n numbers are far from the end of a u64
 pub record TallySmall (t : Tally) (n : ℕ) : Type 0 where

@@ -6,11 +6,11 @@ ghost use lib.ListN.{length};
 ghost use Rattle.float.specs.Logarithm.{lnOf};
 ghost use Rattle.mixture.specs.declared.Kappa.the-variants.{Free};
 ghost use Rattle.movmf.specs.Outcome.{arrays, lengthsOf};
-ghost use Rattle.auto.specs.Choice.{highest, lowest, totalOf, heldScore};
+ghost use Rattle.auto.specs.Choice.{highest, lowest, totalOf, scoreBy, heldScore};
 ghost use Rattle.auto.specs.Refusals.{refusalOf};
 ghost use Rattle.auto.specs.Outcome.{Auto, Outcome, answerBy, autoUpTo, outcome};
 ghost use Rattle.auto.specs.Best.{Best};
-ghost use Rattle.auto.specs.Tries.{scoreAt, TallySmall, RunsSmall, keptTally, leftTally, Ready, TriedNumber};
+ghost use Rattle.auto.specs.Tries.{TallySmall, RunsSmall, keptTally, leftTally, Ready, TriedNumber};
 
 // ---- the range, the score and the choice
 
@@ -49,7 +49,7 @@ fn held_score(c: Choice) -> f64
 // The score of k groups; ln_total is the logarithm of the whole weight.
 fn score_at(kappa: mixture::Kappa, k: usize, d: usize, loglik: f64, ln_total: f64) -> f64
     requires { ⌜ (1 ≤ k) × (k ≤ 64) × (k * d ≤ 16384) ⌝ }
-    ensures { λ r. ⌜ r ≡ scoreAt kappa k d loglik «ln_total» ⌝ }
+    ensures { λ r. ⌜ r ≡ scoreBy kappa k d loglik «ln_total» ⌝ }
 {
     -2.0 * loglik + mixture::parameters(kappa, k, d) as f64 * ln_total
 }

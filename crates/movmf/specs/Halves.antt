@@ -14,7 +14,7 @@ use Rattle.mixture.specs.declared.Ran.{Ran}
 use Rattle.movmf.specs.declared.Held.{Held}
 use Rattle.movmf.specs.declared.Runs.{Runs}
 
--- the smaller area that a run leaves its findings in: directions, resultants, five numbers a group, responsibilities
+-- what the run found whose half starts at place a
 abbrev pub emAt : ℕ → ℕ → ℕ → List Float → ℕ → Float → Em
 emAt m k d w a loglik = emOf (partsIn m k d (part w a (half m k d))) loglik
 
