@@ -1,0 +1,114 @@
+-- `leaf_file::fit_sized` meets its contract: the fronts of the two arrays are the numbers read. Assumes nothing.
+use mathlib.Core.Path.{sym, ap, _∙_}
+use Prim.Native.Nat.{ℕ, _+_, _*_}
+use native.Mathlib.Omega.{arith}
+use lib.ListN.{length}
+use lib.Seq.{length-take-le}
+use lib.Ieee.{Float}
+use Rattle.mixture.proofs.Regions.{tabulate-length}
+use Rattle.leaf_file.specs.LeafFile.{f64At}
+use Rattle.leaf_file.proofs.Fits.{fit-read, front-read}
+use borrow.Author.Needs.{needs}
+use Rattle.leaf_file.proofs.fit_sized.Statement.{statement}
+use Rattle.leaf_file.proofs.fit_sized.Tie as tie
+
+mul-n : tie.Need-mul-n
+mul-n c = search needs
+
+slice-relend-prefix-load : tie.Need-slice-relend-prefix-load
+slice-relend-prefix-load c = search needs
+
+slice-aggregate-load : tie.Need-slice-aggregate-load
+slice-aggregate-load c =
+    let s = c .before .before .before .before .before in
+    sym (length-take-le (s .args .m) (s .args .weights .now) (s .pre .leaves))
+
+load-requires : tie.Need-load-requires
+load-requires c κs =
+    let s = c .before .before .before .before .before in
+    omega (arith, s .pre .whole, length-take-le (s .args .m) (s .args .weights .now) (s .pre .leaves))
+
+slice-relend-prefix-load-2 : tie.Need-slice-relend-prefix-load-2
+slice-relend-prefix-load-2 c = search needs
+
+slice-aggregate-load-2 : tie.Need-slice-aggregate-load-2
+slice-aggregate-load-2 c =
+    let s = c .before .before .before .before .before .before .before .before .before in
+    sym (length-take-le (s .args .m * s .args .d) (s .args .coords .now) (s .pre .numbers))
+
+mul-load : tie.Need-mul-load
+mul-load c = search needs
+
+add-load : tie.Need-add-load
+add-load c = search needs
+
+load-requires-2 : tie.Need-load-requires-2
+load-requires-2 c κs =
+    let s = c .before .before .before .before .before .before .before .before .before in
+    omega (arith, s .pre .whole, length-take-le (s .args .m * s .args .d) (s .args .coords .now) (s .pre .numbers))
+
+slice-reshare-prefix-fit-leaves : tie.Need-slice-reshare-prefix-fit-leaves
+slice-reshare-prefix-fit-leaves c = search needs
+
+slice-aggregate-fit-leaves : tie.Need-slice-aggregate-fit-leaves
+slice-aggregate-fit-leaves c =
+    let s = c .before .before .before .before .before .before .before .before .before .before .before .before .before in
+    let a = s .args in
+    let f : ℕ → Float = λ (i : ℕ). f64At (a .bytes .now) (8 + 8 * i) in
+    sym (ap length (front-read f (a .weights .now) _ (a .m) (s .pre .leaves) (c .before .before .before .before .before .before .before .load .ensures)) ∙ tabulate-length f (a .m))
+
+slice-reshare-prefix-fit-leaves-2 : tie.Need-slice-reshare-prefix-fit-leaves-2
+slice-reshare-prefix-fit-leaves-2 c = search needs
+
+slice-aggregate-fit-leaves-2 : tie.Need-slice-aggregate-fit-leaves-2
+slice-aggregate-fit-leaves-2 c =
+    let s = c .before .before .before .before .before .before .before .before .before .before .before .before .before .before in
+    let a = s .args in
+    let g : ℕ → Float = λ (i : ℕ). f64At (a .bytes .now) (8 + 8 * a .m + 8 * i) in
+    sym (ap length (front-read g (a .coords .now) _ (a .m * a .d) (s .pre .numbers) (c .before .before .before .before .load2 .ensures)) ∙ tabulate-length g (a .m * a .d))
+
+fit-leaves-requires : tie.Need-fit-leaves-requires
+fit-leaves-requires c κs = search needs
+
+same-length : tie.Need-same-length
+same-length c = search needs
+
+same-length-2 : tie.Need-same-length-2
+same-length-2 c = search needs
+
+same-length-3 : tie.Need-same-length-3
+same-length-3 c = search needs
+
+returns : tie.Need-returns
+returns c =
+    let s = c .before .before .before .before .before .before .before .before .before .before .before .before .before .before .before .before .before .before in
+    let a = s .args in
+    let f : ℕ → Float = λ (i : ℕ). f64At (a .bytes .now) (8 + 8 * i) in
+    let g : ℕ → Float = λ (i : ℕ). f64At (a .bytes .now) (8 + 8 * a .m + 8 * i) in
+    fit-read (a .bytes .now) (a .m) (a .d) (a .labels .now) _ _ _
+    (front-read f (a .weights .now) _ (a .m) (s .pre .leaves) (c .before .before .before .before .before .before .before .before .before .before .before .before .load .ensures))
+    (front-read g (a .coords .now) _ (a .m * a .d) (s .pre .numbers) (c .before .before .before .before .before .before .before .before .load2 .ensures))
+    (c .before .before .fit-leaves .ensures)
+
+pub fit-sized-spec : {M : Type 1} → statement M
+fit-sized-spec =
+    tie.close
+    (tie.spec
+    mul-n
+    slice-relend-prefix-load
+    slice-aggregate-load
+    load-requires
+    slice-relend-prefix-load-2
+    slice-aggregate-load-2
+    mul-load
+    add-load
+    load-requires-2
+    slice-reshare-prefix-fit-leaves
+    slice-aggregate-fit-leaves
+    slice-reshare-prefix-fit-leaves-2
+    slice-aggregate-fit-leaves-2
+    fit-leaves-requires
+    same-length
+    same-length-2
+    same-length-3
+    returns)

@@ -1,0 +1,89 @@
+-- Document 01, 'Leaf file and listing program' and 'Refusals by call': the leaves that a file holds, what is refused, and the fit of a file. Definitions only.
+-- The leaves and their fit do not depend on the format that held them.
+use mathlib.Core.Path.{_≡_}
+use mathlib.Core.List.{List}
+use mathlib.Core.Bool.{_&&_}
+use Prim.Native.Nat.{ℕ, zero, suc, _+_, _*_}
+use lib.Dec.{leb, eqb}
+use lib.ListN.{length, getD, replicate}
+use lib.Ieee.{Float, binary64, ofBits}
+use Rattle.float.specs.Arithmetic.{plusZero}
+use Rattle.spherical.specs.Refusals.{need}
+use Rattle.mixture.specs.Kappas.{tabulate}
+use Rattle.mixture.specs.declared.Settings.{Settings}
+use Rattle.mixture.specs.declared.Kappa.the-variants.{Free}
+use Rattle.movmf.specs.Outcome.{Outputs, arrays, lengthsOf}
+use Rattle.auto.specs.Choice.{highest, lowest}
+use Rattle.auto.specs.Refusals.{refusalOf}
+use Rattle.auto.specs.Outcome.{Outcome, outcome}
+use Rattle.auto.specs.Best.{Best}
+use Rattle.auto.specs.declared.Chosen.{Chosen}
+use Rattle.auto.specs.declared.Chosen.the-variants.{Refused}
+
+-- ---- what a file means
+
+-- leaves of d coordinates, row by row
+pub record Leaves : Type 0 where
+  pub d : ℕ
+  pub weights : List Float
+  pub coords : List Float
+
+-- the whole number of the n bytes from `at` on, little-endian
+unfoldable pub wholeAt : List ℕ → ℕ → ℕ → ℕ
+wholeAt bytes at zero = 0
+wholeAt bytes at (suc n) = getD bytes at 0 + 256 * wholeAt bytes (at + 1) n
+
+abbrev pub u32At : List ℕ → ℕ → ℕ
+u32At bytes at = wholeAt bytes at 4
+
+-- every bit pattern of a NaN is a NaN
+abbrev pub f64At : List ℕ → ℕ → Float
+f64At bytes at = ofBits binary64 (wholeAt bytes at 8)
+
+-- n f64 from `at` on
+abbrev pub f64sAt : List ℕ → ℕ → ℕ → List Float
+f64sAt bytes at n = tabulate (λ (i : ℕ). f64At bytes (at + 8 * i)) n
+
+-- sizes first: m and d; then m weights and m rows of d coordinates
+abbrev pub leavesOf : List ℕ → ℕ → ℕ → Leaves
+leavesOf bytes m d = record { d = d; weights = f64sAt bytes 8 m; coords = f64sAt bytes (8 + 8 * m) (m * d) }
+
+abbrev pub leavesIn : List ℕ → Leaves
+leavesIn bytes = leavesOf bytes (u32At bytes 0) (u32At bytes 4)
+
+-- 8 below eight bytes; 9 if its m is above 64 or its d above 16; 8 if the length is wrong; 0 for none
+abbrev pub refusalBy : ℕ → ℕ → ℕ → ℕ
+refusalBy n m d = need (leb m 64 && leb d 16) 9 (need (eqb n (8 + 8 * m + 8 * (m * d))) 8 0)
+
+unfoldable pub fileRefusal : List ℕ → ℕ
+fileRefusal bytes = need (leb 8 (length bytes)) 8 (refusalBy (length bytes) (u32At bytes 0) (u32At bytes 4))
+
+-- ---- the fit of a file's leaves: k 1 to 4, 100 rounds, seed 7, Free
+
+abbrev pub settings : Settings
+settings = record { rounds = 100; seed = 7; kappa = Free }
+
+-- beside the labels, arrays long enough for 4 groups of 64 leaves of 16 coordinates
+abbrev pub room : List ℕ → Outputs
+room labels = arrays labels (replicate 256 plusZero) (replicate 4 plusZero) (replicate 64 plusZero) (replicate 4 plusZero) (replicate 4 plusZero)
+
+unfoldable pub fitOf : Leaves → List ℕ → Outcome
+fitOf l labels = outcome (room labels) (l .weights) (l .coords) (l .d) settings 1 4 1344 136
+
+-- the mission's third demand of such a fit, which no number from 1 to 6 refuses: it keeps exactly the best number of groups
+abbrev pub KeepsBest : Leaves → List ℕ → Chosen → Type 0
+KeepsBest l labels answer =
+    refusalOf (l .weights) (l .coords) (l .d) (highest 4 (length (l .weights))) 100 (lengthsOf (room labels) 1344 136) ≡ 0
+    → Best (room labels) (l .weights) (l .coords) (l .d) settings (lowest 1 (highest 4 (length (l .weights)))) (highest 4 (length (l .weights))) answer (fitOf l labels .outputs)
+
+-- what a call answers, and the labels after it; the labels as found where the file is refused
+pub record Filed : Type 0 where
+  pub answer : Chosen
+  pub labels : List ℕ
+
+abbrev pub filedBy : ℕ → Leaves → List ℕ → Filed
+filedBy zero l labels = record { answer = fitOf l labels .answer; labels = fitOf l labels .outputs .labels }
+filedBy (suc code) l labels = record { answer = Refused (suc code); labels = labels }
+
+abbrev pub filed : List ℕ → List ℕ → Filed
+filed bytes labels = filedBy (fileRefusal bytes) (leavesIn bytes) labels

@@ -1,0 +1,3 @@
+pub mod LeafFile
+pub mod Listing
+pub mod Texts

@@ -1,0 +1,147 @@
+// Leaf files and their listing (document 01, 'Leaf file and listing program'): a file's leaves are read from its bytes, fitted by the automatic fit, and listed as text.
+ghost use mathlib.Core.Path.{_≡_};
+ghost use mathlib.Core.List.{_++_};
+ghost use Prim.Native.Nat.{_+_, _*_, _≤_, _<_};
+ghost use lib.ListN.{length, drop, take};
+ghost use Rattle.leaf_file.specs.LeafFile.{wholeAt, f64At, f64sAt, refusalBy, fileRefusal, leavesOf, leavesIn, KeepsBest, Filed, filedBy, filed};
+ghost use Rattle.leaf_file.specs.Listing.{decimalIn, numberLine, shopLine, shopLines, textOf, leavesText, listing};
+ghost use Rattle.leaf_file.specs.Texts.{Sized, Put};
+
+// ---- reading
+
+fn wide(b: u8) -> u64
+    ensures { λ r. ⌜ (r ≡ b) × (r < 256) ⌝ }
+{
+    b as u64
+}
+
+// The number of the four bytes from `at` on, the lowest first.
+fn u32_at(bytes: &[u8], at: usize) -> u64
+    requires { ⌜ at + 4 ≤ length (now bytes) ⌝ }
+    ensures { λ r. ⌜ (r ≡ wholeAt (now (bytes .entry)) at 4) × (r < 4294967296) ⌝ }
+{
+    let a = wide(bytes[at]);
+    let b = wide(bytes[at + 1]);
+    let c = wide(bytes[at + 2]);
+    let e = wide(bytes[at + 3]);
+    a + 256 * b + 65536 * c + 16777216 * e
+}
+
+// The f64 of the eight bytes from `at` on.
+fn f64_at(bytes: &[u8], at: usize) -> f64
+    requires { ⌜ at + 8 ≤ length (now bytes) ⌝ }
+    ensures { λ r. ⌜ r ≡ f64At (now (bytes .entry)) at ⌝ }
+{
+    let low = u32_at(bytes, at);
+    let high = u32_at(bytes, at + 4);
+    float::of_bits(low + 4294967296 * high)
+}
+
+// Fills out with the f64 from `at` on.
+fn load(out: &mut [f64], bytes: &[u8], at: usize)
+    requires { ⌜ at + 8 * length (now out) ≤ length (now bytes) ⌝ }
+    ensures { λ _. ⌜ now (out .exit) ≡ f64sAt (now (bytes .entry)) at (length (now (out .entry))) ⌝ }
+{
+    let mut i = 0;
+    while i < out.len() {
+        out[i] = f64_at(bytes, at + 8 * i);
+        i += 1;
+    }
+}
+
+// What is wrong with a file of n bytes, if anything: m or d too large, or the length.
+fn sizes_refusal(n: usize, m: u64, d: u64) -> u32
+    ensures { λ r. ⌜ r ≡ refusalBy n m d ⌝ }
+{
+    if m > 64 {
+        return 9;
+    }
+    if d > 16 {
+        return 9;
+    }
+    let leaves = m as usize;
+    let coords = (m * d) as usize;
+    if n != 8 + 8 * leaves + 8 * coords {
+        return 8;
+    }
+    0
+}
+
+// The first refusal of a file that holds, or 0.
+fn file_refusal(bytes: &[u8]) -> u32
+    ensures { λ r. ⌜ r ≡ fileRefusal (now (bytes .entry)) ⌝ }
+{
+    if bytes.len() < 8 {
+        return 8;
+    }
+    sizes_refusal(bytes.len(), u32_at(bytes, 0), u32_at(bytes, 4))
+}
+
+// ---- the fit
+
+// The automatic fit of leaves: k 1 to 4, 100 rounds, seed 7, Free.
+fn fit_leaves(weights: &[f64], coords: &[f64], d: usize, labels: &mut [u32]) -> auto::Chosen
+    ensures { λ r. ⌜ _≡_ {A = Filed} (record { answer = r; labels = now (labels .exit) })
+        (filedBy 0 (record { d = d; weights = now (weights .entry); coords = now (coords .entry) }) (now (labels .entry))) ⌝ }
+    ensures { λ r. ⌜ KeepsBest (record { d = d; weights = now (weights .entry); coords = now (coords .entry) }) (now (labels .entry)) r ⌝ }
+{
+    let mut responsibilities = [0.0; 256];
+    let mut group_weights = [0.0; 4];
+    let mut directions = [0.0; 64];
+    let mut concentrations = [0.0; 4];
+    let mut logw = [0.0; 4];
+    let mut work = [0.0; 1344];
+    let mut marks = [0u32; 136];
+    auto::movmf_auto(
+        weights,
+        coords,
+        d,
+        1,
+        4,
+        100,
+        7,
+        labels,
+        &mut responsibilities,
+        &mut group_weights,
+        &mut directions,
+        &mut concentrations,
+        &mut logw,
+        &mut work,
+        &mut marks,
+    )
+}
+
+// The automatic fit of the m leaves of d coordinates that a file holds, read into weights and coords.
+fn fit_sized(
+    bytes: &[u8],
+    m: usize,
+    d: usize,
+    weights: &mut [f64],
+    coords: &mut [f64],
+    labels: &mut [u32],
+) -> auto::Chosen
+    requires { ⌜ Sized (length (now bytes)) (length (now weights)) (length (now coords)) m d ⌝ }
+    ensures { λ r. ⌜ _≡_ {A = Filed} (record { answer = r; labels = now (labels .exit) }) (filedBy 0 (leavesOf (now (bytes .entry)) m d) (now (labels .entry))) ⌝ }
+    ensures { λ r. ⌜ KeepsBest (leavesOf (now (bytes .entry)) m d) (now (labels .entry)) r ⌝ }
+{
+    let n = m * d;
+    load(&mut weights[..m], bytes, 8);
+    load(&mut coords[..n], bytes, 8 + 8 * m);
+    fit_leaves(&weights[..m], &coords[..n], d, labels)
+}
+
+// The automatic fit of a leaf file; the labels are as found where it is refused.
+pub fn fit_file(bytes: &[u8], labels: &mut [u32]) -> auto::Chosen
+    ensures { λ r. ⌜ _≡_ {A = Filed} (record { answer = r; labels = now (labels .exit) }) (filed (now (bytes .entry)) (now (labels .entry))) ⌝ }
+    ensures { λ r. ⌜ (fileRefusal (now (bytes .entry)) ≡ 0 → KeepsBest (leavesIn (now (bytes .entry))) (now (labels .entry)) r) ⌝ }
+{
+    let code = file_refusal(bytes);
+    if code != 0 {
+        return auto::Chosen::Refused(code);
+    }
+    let m = u32_at(bytes, 0) as usize;
+    let d = u32_at(bytes, 4) as usize;
+    let mut weights = [0.0; 64];
+    let mut coords = [0.0; 1024];
+    fit_sized(bytes, m, d, &mut weights, &mut coords, labels)
+}
