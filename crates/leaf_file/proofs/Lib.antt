@@ -1,2 +1,4 @@
 pub mod Bytes
 pub mod Fits
+pub mod Placing
+pub mod Listings

@@ -59,12 +59,15 @@ shopLines labels (suc n) = shopLines labels n ++ shopLine n (getD labels n 0)
 abbrev pub refusedText : ℕ → List ℕ
 refusedText code = numberLine refusedWord code
 
--- chosen k, made, saved, then a line for each shop; a refusal alone
+-- chosen k, made, saved, then a line for each shop
+abbrev pub groupsText : ℕ → ℕ → ℕ → List ℕ → List ℕ
+groupsText k made saved labels = numberLine groupsWord k ++ (numberLine madeWord made ++ (numberLine savedWord saved ++ shopLines labels (length labels)))
+
+-- these, or a refusal alone
 abbrev pub textOf : Chosen → List ℕ → List ℕ
 textOf (Refused code) labels = refusedText code
 textOf (Unscored made saved doubled) labels = refusedText 7
-textOf (Done k loglik score made saved doubled) labels =
-    numberLine groupsWord k ++ (numberLine madeWord made ++ (numberLine savedWord saved ++ shopLines labels (length labels)))
+textOf (Done k loglik score made saved doubled) labels = groupsText k made saved labels
 
 -- the labels of 64 leaves, before they are filled
 abbrev pub blank : List ℕ

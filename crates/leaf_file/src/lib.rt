@@ -1,11 +1,11 @@
 // Leaf files and their listing (document 01, 'Leaf file and listing program'): a file's leaves are read from its bytes, fitted by the automatic fit, and listed as text.
 ghost use mathlib.Core.Path.{_≡_};
-ghost use mathlib.Core.List.{_++_};
+ghost use mathlib.Core.List.{[], _∷_, _++_};
 ghost use Prim.Native.Nat.{_+_, _*_, _≤_, _<_};
-ghost use lib.ListN.{length, drop, take};
+ghost use lib.ListN.{length, drop};
 ghost use Rattle.leaf_file.specs.LeafFile.{wholeAt, f64At, f64sAt, refusalBy, fileRefusal, leavesOf, leavesIn, KeepsBest, Filed, filedBy, filed};
-ghost use Rattle.leaf_file.specs.Listing.{decimalIn, numberLine, shopLine, shopLines, textOf, leavesText, listing};
-ghost use Rattle.leaf_file.specs.Texts.{Sized, Put};
+ghost use Rattle.leaf_file.specs.Listing.{decimalIn, numberLine, shopLine, shopLines, groupsText, refusedText, textOf, listing};
+ghost use Rattle.leaf_file.specs.Texts.{Sized, Put, Counted};
 
 // ---- reading
 
@@ -144,4 +144,148 @@ pub fn fit_file(bytes: &[u8], labels: &mut [u32]) -> auto::Chosen
     let mut weights = [0.0; 64];
     let mut coords = [0.0; 1024];
     fit_sized(bytes, m, d, &mut weights, &mut coords, labels)
+}
+
+// ---- the listing's text
+
+// Puts a byte at place `at`, and answers the place after it.
+fn put_byte(out: &mut [u8], at: usize, b: u8) -> usize
+    requires { ⌜ at < length (now out) ⌝ }
+    ensures { λ r. ⌜ Put (b ∷ []) (now (out .entry)) (now (out .exit)) at r ⌝ }
+{
+    out[at] = b;
+    at + 1
+}
+
+// Puts a word.
+fn put_word(out: &mut [u8], at: usize, word: &[u8]) -> usize
+    requires { ⌜ at + length (now word) ≤ length (now out) ⌝ }
+    ensures { λ r. ⌜ Put (now (word .entry)) (now (out .entry)) (now (out .exit)) at r ⌝ }
+{
+    let mut i = 0;
+    while i < word.len() {
+        out[at + i] = word[i];
+        i += 1;
+    }
+    at + word.len()
+}
+
+// Puts a number in decimal, of at most `places` digits: those before the last, and then the last.
+fn put_decimal(out: &mut [u8], at: usize, n: u64, places: usize) -> usize
+    requires { ⌜ at + places ≤ length (now out) ⌝ }
+    ensures { λ r. ⌜ Put (decimalIn places n) (now (out .entry)) (now (out .exit)) at r ⌝ }
+    ensures { λ r. ⌜ r ≤ at + places ⌝ }
+{
+    if places == 0 {
+        at
+    } else if n < 10 {
+        put_byte(out, at, 48 + n as u8)
+    } else {
+        let end = put_decimal(out, at, n / 10, places - 1);
+        put_byte(out, end, 48 + (n % 10) as u8)
+    }
+}
+
+// Puts a word and a number as a line.
+fn put_number(out: &mut [u8], at: usize, word: &[u8], n: u64) -> usize
+    requires { ⌜ at + length (now word) + 21 ≤ length (now out) ⌝ }
+    ensures { λ r. ⌜ Put (numberLine (now (word .entry)) n) (now (out .entry)) (now (out .exit)) at r ⌝ }
+    ensures { λ r. ⌜ r ≤ at + length (now (word .entry)) + 21 ⌝ }
+{
+    let a = put_word(out, at, word);
+    let b = put_decimal(out, a, n, 20);
+    put_byte(out, b, 10)
+}
+
+// Puts the line of shop i.
+fn put_shop(out: &mut [u8], at: usize, i: usize, label: u32) -> usize
+    requires { ⌜ at + 42 ≤ length (now out) ⌝ }
+    ensures { λ r. ⌜ Put (shopLine i label) (now (out .entry)) (now (out .exit)) at r ⌝ }
+    ensures { λ r. ⌜ r ≤ at + 42 ⌝ }
+{
+    let a = put_decimal(out, at, i as u64, 20);
+    let b = put_byte(out, a, 32);
+    let c = put_decimal(out, b, label as u64, 20);
+    put_byte(out, c, 10)
+}
+
+// Puts a line for each shop.
+fn put_shops(out: &mut [u8], at: usize, labels: &[u32]) -> usize
+    requires { ⌜ at + 42 * length (now labels) ≤ length (now out) ⌝ }
+    ensures { λ r. ⌜ Put (shopLines (now (labels .entry)) (length (now (labels .entry)))) (now (out .entry)) (now (out .exit)) at r ⌝ }
+{
+    let mut end = at;
+    let mut i = 0;
+    while i < labels.len() {
+        end = put_shop(out, end, i, labels[i]);
+        i += 1;
+    }
+    end
+}
+
+// Puts chosen k, made, saved and the shops.
+fn put_groups(out: &mut [u8], k: usize, made: u64, saved: u64, labels: &[u32]) -> usize
+    requires { ⌜ 81 + 42 * length (now labels) ≤ length (now out) ⌝ }
+    ensures { λ r. ⌜ Put (groupsText k made saved (now (labels .entry))) (now (out .entry)) (now (out .exit)) 0 r ⌝ }
+{
+    let a = put_number(out, 0, b"groups ", k as u64);
+    let b = put_number(out, a, b"made ", made);
+    let c = put_number(out, b, b"saved ", saved);
+    put_shops(out, c, labels)
+}
+
+// Puts a refusal and its number alone.
+fn put_refused(out: &mut [u8], code: u32) -> usize
+    requires { ⌜ 29 ≤ length (now out) ⌝ }
+    ensures { λ r. ⌜ Put (refusedText code) (now (out .entry)) (now (out .exit)) 0 r ⌝ }
+{
+    put_number(out, 0, b"refused ", code as u64)
+}
+
+// Puts what an answer comes to, with the labels of the shops.
+fn put_answer(out: &mut [u8], r: auto::Chosen, labels: &[u32]) -> usize
+    requires { ⌜ (81 + 42 * length (now labels) ≤ length (now out)) ⌝ }
+    ensures { λ n. ⌜ Put (textOf r (now (labels .entry))) (now (out .entry)) (now (out .exit)) 0 n ⌝ }
+{
+    match r {
+        auto::Chosen::Refused(code) => put_refused(out, code),
+        auto::Chosen::Unscored {
+            made: _,
+            saved: _,
+            doubled: _,
+        } => put_refused(out, 7),
+        auto::Chosen::Done {
+            k,
+            loglik: _,
+            score: _,
+            made,
+            saved,
+            doubled: _,
+        } => put_groups(out, k, made, saved, labels),
+    }
+}
+
+// How many leaves a file says that it holds; 0 where it says nothing or too many.
+fn shops(bytes: &[u8]) -> usize
+    ensures { λ r. ⌜ (r ≤ 64) × (fileRefusal (now (bytes .entry)) ≡ 0 → r ≡ wholeAt (now (bytes .entry)) 0 4) ⌝ }
+{
+    if bytes.len() < 8 {
+        return 0;
+    }
+    let m = u32_at(bytes, 0);
+    if m > 64 {
+        return 0;
+    }
+    m as usize
+}
+
+// Puts the listing of a leaf file at the start of out, and answers how many bytes it has. The rest of out is as found.
+pub fn list_file(bytes: &[u8], out: &mut [u8; 4096]) -> usize
+    ensures { λ r. ⌜ (r ≡ length (listing (now (bytes .entry)))) × (now (out .exit) ≡ listing (now (bytes .entry)) ++ drop r (now (out .entry))) ⌝ }
+    ensures { λ r. ⌜ Counted r (now (out .exit)) ⌝ }
+{
+    let mut labels = [0u32; 64];
+    let r = fit_file(bytes, &mut labels);
+    let m = shops(bytes);
+    put_answer(out, r, &labels[..m])
 }

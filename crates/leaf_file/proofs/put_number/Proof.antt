@@ -1,0 +1,34 @@
+-- `leaf_file::put_number` meets its contract: the word, the number and the end of the line. Assumes nothing.
+use mathlib.Core.List.{[], _∷_}
+use native.Mathlib.Omega.{arith}
+use Rattle.leaf_file.specs.Listing.{decimal}
+use Rattle.leaf_file.proofs.Placing.{put-both}
+use borrow.Author.Needs.{needs}
+use Rattle.leaf_file.proofs.put_number.Statement.{statement}
+use Rattle.leaf_file.proofs.put_number.Tie as tie
+
+put-word-requires : tie.Need-put-word-requires
+put-word-requires c κs = search needs
+
+put-decimal-requires : tie.Need-put-decimal-requires
+put-decimal-requires c κs = search needs
+
+put-byte-requires : tie.Need-put-byte-requires
+put-byte-requires c κs = search needs
+
+same-length : tie.Need-same-length
+same-length c = search needs
+
+returns : tie.Need-returns
+returns c =
+    let a = c .before .before .before .before .before .before .before .before .before .before .before .before .before .before .args in
+    let w = c .before .before .before .before .before .before .before .before .before .before .put-word in
+    let n = c .before .before .before .before .before .before .put-decimal in
+    let e = c .before .before .put-byte in
+    (put-both (a .word .now) _ (a .out .now) _ _ (a .at) (w .result) (e .result) (w .ensures) (put-both (decimal (a .n)) (10 ∷ []) _ _ _ (w .result) (n .result) (e .result) (n .ensures .0) (e .ensures)),
+      omega (arith, w .ensures .ends, n .ensures .1, e .ensures .ends))
+
+pub put-number-spec : {M : Type 1} → statement M
+put-number-spec =
+    tie.close
+    (tie.spec put-word-requires put-decimal-requires put-byte-requires same-length returns)
