@@ -1,7 +1,9 @@
 // Document 01's edge examples, run: a line for each, `yes` where the answer is as it says and `NO` where it is not; and
 // SplitMix64's published outputs; and the limits of spherical k-means, of the mixture fit
 // and of the automatic fit.
+ghost use mathlib.Core.Path.{_≡_};
 ghost use Prim.Native.Nat.{_≤_};
+ghost use Rattle.rng.specs.Drawn.{drawn};
 
 fn expect_line(name: &[u8], ok: bool) {
     io::write_all(1, name);
@@ -142,13 +144,25 @@ fn other_lines() {
     );
 }
 
+// One number of a generator that is made here and lent, and the state that the loan leaves.
+fn draw_lent(seed: u64) -> rng::Drawn
+    ensures { λ r. ⌜ r ≡ drawn seed ⌝ }
+{
+    let mut g = rng::SplitMix64::new(seed);
+    let out = rng::next_u64(&mut g);
+    rng::Drawn {
+        state: g.state,
+        out,
+    }
+}
+
 // The first five numbers of seed 1234567, as published.
 fn generator_lines() {
     io::write_all(1, b"SplitMix64, seed 1234567:\n");
     let mut state: u64 = 1234567;
     let five: usize = 5;
     for i in 0..five {
-        let d = rng::next_u64(state);
+        let d = draw_lent(state);
         state = d.state;
         io::print_decimal(1, d.out);
         io::write_all(1, b"\n");

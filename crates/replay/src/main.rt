@@ -82,7 +82,7 @@ fn draws_agree(text: &[u8]) -> bool {
     let mut same = true;
     let mut i = 1;
     while i < 65 {
-        let d = rng::next_u64(state);
+        let d = rng::draw_u64(state);
         state = d.state;
         same = same & (d.out == word(text, i));
         i += 1;
@@ -94,8 +94,8 @@ fn draws_agree(text: &[u8]) -> bool {
 fn generator_agrees(kind: u64, text: &[u8]) -> bool {
     let a = word(text, 0);
     if kind == 7 {
-        let n = rng::next_u64(a);
-        let x = rng::next_f64(a);
+        let n = rng::draw_u64(a);
+        let x = rng::draw_f64(a);
         return n.out == word(text, 1) && is_number(x.out, text, 2);
     }
     if kind == 8 {

@@ -1,2 +1,3 @@
 -- Laws that other proofs cite.
 pub mod Xor
+pub mod Lent

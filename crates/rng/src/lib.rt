@@ -1,5 +1,6 @@
-// SplitMix64 (rng.rs; document 01, 'SplitMix64'), by value: a state goes in, and the moved state comes back with what was
-// drawn. The product modulo 2^64 that it needs is made of 32-bit halves, and gives the restarts' seeds too.
+// SplitMix64 (rng.rs; document 01, 'SplitMix64'). A draw is made by value: a state goes in, and the moved state comes back
+// with what was drawn. The generator is lent, and its state moves on in place, by thin functions over such a draw. The
+// product modulo 2^64 is made of 32-bit halves, and gives the restarts' seeds too.
 ghost use mathlib.Core.Path.{_≡_};
 ghost use Prim.Native.Nat.{_*_, _%_, _^_};
 ghost use Rattle.rng.specs.SplitMix.{stepOf, mixOf, unitOf, restartSeedOf};
@@ -46,7 +47,7 @@ pub struct Drawn {
     pub out: u64,
 }
 
-pub fn next_u64(state: u64) -> Drawn
+pub fn draw_u64(state: u64) -> Drawn
     ensures { λ r. ⌜ r ≡ drawn state ⌝ }
 {
     let s = step(state);
@@ -62,7 +63,7 @@ pub struct DrawnF64 {
     pub out: f64,
 }
 
-pub fn next_f64(state: u64) -> DrawnF64
+pub fn draw_f64(state: u64) -> DrawnF64
     ensures { λ r. ⌜ r ≡ drawnF64 state ⌝ }
 {
     let s = step(state);
@@ -70,6 +71,37 @@ pub fn next_f64(state: u64) -> DrawnF64
         state: s,
         out: unit_f64(mix(s)),
     }
+}
+
+// The generator.
+pub struct SplitMix64 {
+    pub state: u64,
+}
+
+impl SplitMix64 {
+    pub fn new(seed: u64) -> SplitMix64
+        ensures { λ r. ⌜ r ≡ record { state = seed } ⌝ }
+    {
+        SplitMix64 { state: seed }
+    }
+}
+
+// The next number of a lent generator, whose state moves on in place.
+pub fn next_u64(g: &mut SplitMix64) -> u64
+    ensures { λ r. ⌜ record { state = now (g .exit) .state; out = r } ≡ drawn (now (g .entry) .state) ⌝ }
+{
+    let d = draw_u64(g.state);
+    g.state = d.state;
+    d.out
+}
+
+// The next fraction of a lent generator, from 0 to 1 and below 1; one number is spent.
+pub fn next_f64(g: &mut SplitMix64) -> f64
+    ensures { λ r. ⌜ record { state = now (g .exit) .state; out = r } ≡ drawnF64 (now (g .entry) .state) ⌝ }
+{
+    let x = draw_f64(g.state);
+    g.state = x.state;
+    x.out
 }
 
 // The seed of restart s: seed + s * 0x9E3779B9, modulo 2^64.

@@ -257,7 +257,7 @@ pub fn weighted_pick(w: &[f64], state: u64) -> Picked
     ensures { λ r. ⌜ r ≡ pickOf (now (w .entry)) state ⌝ }
 {
     let total = sum(w);
-    let drawn = rng::next_u64(state);
+    let drawn = rng::draw_u64(state);
     if total <= 0.0 {
         return Picked {
             index: drawn.out as usize % at_least_one(w.len()),

@@ -19,8 +19,8 @@ write-all-requires c κs = search needs
 loop-holds : tie.Need-loop-holds Inv-loop μ-loop
 loop-holds c = search needs
 
-next-u64-requires : tie.Need-next-u64-requires Inv-loop μ-loop
-next-u64-requires c κs = search needs
+draw-lent-requires : tie.Need-draw-lent-requires Inv-loop μ-loop
+draw-lent-requires c κs = search needs
 
 print-decimal-requires : tie.Need-print-decimal-requires Inv-loop μ-loop
 print-decimal-requires c κs = search needs
@@ -61,7 +61,7 @@ generator-lines-spec =
     slice-aggregate-write-all
     write-all-requires
     loop-holds
-    next-u64-requires
+    draw-lent-requires
     print-decimal-requires
     slice-aggregate-write-all-2
     write-all-requires-2

@@ -16,8 +16,8 @@ word-requires c κs = search needs
 loop-holds : tie.Need-loop-holds Inv-loop μ-loop
 loop-holds c = search needs
 
-next-u64-requires : tie.Need-next-u64-requires Inv-loop μ-loop
-next-u64-requires c κs = search needs
+draw-u64-requires : tie.Need-draw-u64-requires Inv-loop μ-loop
+draw-u64-requires c κs = search needs
 
 word-requires-2 : tie.Need-word-requires-2 Inv-loop μ-loop
 word-requires-2 c κs = search needs
@@ -42,7 +42,7 @@ draws-agree-spec =
     μ-loop
     word-requires
     loop-holds
-    next-u64-requires
+    draw-u64-requires
     word-requires-2
     add-i
     loop-less

@@ -27,8 +27,8 @@ module _ (ws : List Float) (state : ℕ) (total : Float) (d : Drawn) (sums : tot
 sum-requires : tie.Need-sum-requires
 sum-requires c κs = search needs
 
-next-u64-requires : tie.Need-next-u64-requires
-next-u64-requires c κs = search needs
+draw-u64-requires : tie.Need-draw-u64-requires
+draw-u64-requires c κs = search needs
 
 at-least-one-requires : tie.Need-at-least-one-requires
 at-least-one-requires c κs = search needs
@@ -42,7 +42,7 @@ returns c =
     let d = c .before .before in
     let s = d .before in
     let x = s .before .before .args in
-    low (x .w .now) (x .state) (s .sum .result) (d .next-u64 .result) (s .sum .ensures) (d .next-u64 .ensures) (c .at-least-one .result)
+    low (x .w .now) (x .state) (s .sum .result) (d .draw-u64 .result) (s .sum .ensures) (d .draw-u64 .ensures) (c .at-least-one .result)
     (c .at-least-one .ensures)
     (c .before .if1 .taken)
 
@@ -59,7 +59,7 @@ returns-2 c =
     let d = u .before .before in
     let s = d .before in
     let x = s .before .before .args in
-    high (x .w .now) (x .state) (s .sum .result) (d .next-u64 .result) (s .sum .ensures) (d .next-u64 .ensures) (u .unit-f64 .result) (c .pick-at .result)
+    high (x .w .now) (x .state) (s .sum .result) (d .draw-u64 .result) (s .sum .ensures) (d .draw-u64 .ensures) (u .unit-f64 .result) (c .pick-at .result)
     (u .unit-f64 .ensures)
     (c .pick-at .ensures)
     (u .before .if1 .left)
@@ -69,7 +69,7 @@ weighted-pick-spec =
     tie.close
     (tie.spec
     sum-requires
-    next-u64-requires
+    draw-u64-requires
     at-least-one-requires
     rem-t9
     returns
