@@ -23,6 +23,8 @@ fn main() {
     vmf = replaced(&vmf, "use crate::feature::ClusterFeature;", "use crate::standins::ClusterFeature;", 1);
     vmf = replaced(&vmf, "use crate::mixture::Mixture;", "use crate::standins::Mixture;", 1);
     vmf = replaced(&vmf, "use crate::types::Real;", "use crate::standins::Real;", 1);
+    // once without the counters, to be timed, and once with them and the probes
+    fs::write(out.join("plain.rs"), &vmf).unwrap();
     vmf = counted(&vmf);
     vmf.push_str(PROBES);
     fs::write(out.join("vmf.rs"), vmf).unwrap();

@@ -1,26 +1,7 @@
 // Writes the list of cases that crates/replay runs: bit patterns and answers of the original and of document 01's
 // exponential and logarithm; with the arguments `many SEED`, `mixtures SEED` or `choices SEED` a list of random fits. README.md beside this
 // folder's Cargo.toml says how a list is made and what it holds.
-mod auto;
-mod bessel;
-mod cases;
-mod counts;
-mod document;
-mod leaves;
-mod mixture;
-mod spherical;
-#[allow(dead_code)]
-mod standins;
-mod vectors;
-#[allow(dead_code)]
-mod rng {
-    include!(concat!(env!("OUT_DIR"), "/rng.rs"));
-}
-#[allow(dead_code)]
-mod vmf {
-    use crate::standins::Document;
-    include!(concat!(env!("OUT_DIR"), "/vmf.rs"));
-}
+use oracle::{auto, bessel, cases, mixture, spherical, vectors};
 
 fn main() {
     // the original panics where no number is kept, which is a case of its own

@@ -1,0 +1,46 @@
+-- The call is the definition's: the entry ensures its outcome, the giver the numbers of its answer. Assumes nothing.
+use lib.ListN.{length}
+use Rattle.spherical.specs.Outcome.{outcome}
+use Rattle.station.proofs.Calls.{clustered}
+use borrow.Author.Needs.{needs}
+use Rattle.station.proofs.mosterklomp_spherical_kmeans.Statement.{statement}
+use Rattle.station.proofs.mosterklomp_spherical_kmeans.Tie as tie
+
+spherical-kmeans-requires : tie.Need-spherical-kmeans-requires
+spherical-kmeans-requires c κs = search needs
+
+give-clustered-requires : tie.Need-give-clustered-requires
+give-clustered-requires c κs = search needs
+
+same-length : tie.Need-same-length
+same-length c = search needs
+
+same-length-2 : tie.Need-same-length-2
+same-length-2 c = search needs
+
+same-length-3 : tie.Need-same-length-3
+same-length-3 c = search needs
+
+same-length-4 : tie.Need-same-length-4
+same-length-4 c = search needs
+
+returns : tie.Need-returns
+returns c =
+    let a = c .before .before .before .before .before .before .before .before .before .before .before .before .before .before .before .before .before .before .before .before .before .before .args in
+    let e = c .before .before .before .before .before .before .before .before .before .before .before .spherical-kmeans in
+    let x = e .last .1 .1 .1 .1 .1 .1 .1 in
+    clustered (a .cohesion .now) (a .counts .now) (x .0) (x .1 .0) (e .result) _
+    (outcome (a .labels .now) (a .directions .now) (a .weights .now) (a .coords .now) (a .d) (a .k) (a .rounds) (a .restarts) (a .seed) (length (a .work .now)) (length (a .marks .now)))
+    (e .ensures) (c .give-clustered .ensures)
+
+pub mosterklomp-spherical-kmeans-spec : {M : Type 1} → statement M
+mosterklomp-spherical-kmeans-spec =
+    tie.close
+    (tie.spec
+    spherical-kmeans-requires
+    give-clustered-requires
+    same-length
+    same-length-2
+    same-length-3
+    same-length-4
+    returns)

@@ -1,0 +1,268 @@
+// The three entries for a program in C or Rust (document 01, 'Refusals by call'): numbers and arrays in, the answer through what is lent, the number of the refusal
+// back, 0 for none. A slice crosses the border as a pointer and a length; include/mosterklomp.h declares the functions.
+ghost use mathlib.Core.Path.{_≡_};
+ghost use lib.ListN.{length};
+ghost use Rattle.spherical.specs.Outcome.{outcome as clusteredOutcome};
+ghost use Rattle.movmf.specs.Outcome.{arrays, lengthsOf, outcome as fittedOutcome};
+ghost use Rattle.auto.specs.Choice.{highest, lowest};
+ghost use Rattle.auto.specs.Refusals.{refusalOf};
+ghost use Rattle.auto.specs.Outcome.{outcome as chosenOutcome};
+ghost use Rattle.auto.specs.Best.{Best};
+ghost use Rattle.station.specs.Answers.{kappaOf, ClusteredNumbers, clusteredNumbers, ClusteredCall, clusteredCall};
+ghost use Rattle.station.specs.Answers.{FittedNumbers, fittedNumbers, FittedCall, fittedCall};
+ghost use Rattle.station.specs.Answers.{ChosenNumbers, chosenNumbers, ChosenCall, chosenCall};
+
+// ---- the answers' cases
+
+// Shared or Free.
+fn kappa_of(shared: bool) -> mixture::Kappa
+    ensures { λ r. ⌜ r ≡ kappaOf shared ⌝ }
+{
+    if shared {
+        mixture::Kappa::Shared
+    } else {
+        mixture::Kappa::Free
+    }
+}
+
+// The number of the refusal; the cohesion and the counts where there is none.
+fn give_clustered(a: spherical::Clustered, cohesion: &mut f64, counts: &mut [u64; 3]) -> u32
+    ensures { λ r. ⌜ _≡_ {A = ClusteredNumbers} (record { refusal = r; cohesion = now (cohesion .exit); counts = now (counts .exit) })
+        (clusteredNumbers (now (cohesion .entry)) (now (counts .entry)) a) ⌝ }
+{
+    match a {
+        spherical::Clustered::Refused(code) => code,
+        spherical::Clustered::Done {
+            cohesion: found,
+            made,
+            saved,
+            doubled,
+        } => {
+            *cohesion = found;
+            *counts = [made, saved, doubled];
+            0
+        }
+    }
+}
+
+// The number of the refusal; the number of groups, the log-likelihood and the counts where there is none.
+fn give_fitted(a: movmf::Fitted, groups: &mut u64, loglik: &mut f64, counts: &mut [u64; 3]) -> u32
+    ensures { λ r. ⌜ _≡_ {A = FittedNumbers}
+        (record { refusal = r; groups = now (groups .exit); loglik = now (loglik .exit); counts = now (counts .exit) })
+        (fittedNumbers (now (groups .entry)) (now (loglik .entry)) (now (counts .entry)) a) ⌝ }
+{
+    match a {
+        movmf::Fitted::Refused(code) => code,
+        movmf::Fitted::Done {
+            k,
+            loglik: found,
+            made,
+            saved,
+            doubled,
+        } => {
+            *groups = k as u64;
+            *loglik = found;
+            *counts = [made, saved, doubled];
+            0
+        }
+    }
+}
+
+// The number of the refusal; the number kept, its log-likelihood and score where there is none; the counts there and with 7.
+fn give_chosen(
+    a: auto::Chosen,
+    groups: &mut u64,
+    loglik: &mut f64,
+    score: &mut f64,
+    counts: &mut [u64; 3],
+) -> u32
+    ensures { λ r. ⌜ _≡_ {A = ChosenNumbers}
+        (record { refusal = r; groups = now (groups .exit); loglik = now (loglik .exit); score = now (score .exit); counts = now (counts .exit) })
+        (chosenNumbers (now (groups .entry)) (now (loglik .entry)) (now (score .entry)) (now (counts .entry)) a) ⌝ }
+{
+    match a {
+        auto::Chosen::Refused(code) => code,
+        auto::Chosen::Unscored {
+            made,
+            saved,
+            doubled,
+        } => {
+            *counts = [made, saved, doubled];
+            7
+        }
+        auto::Chosen::Done {
+            k,
+            loglik: found,
+            score: kept,
+            made,
+            saved,
+            doubled,
+        } => {
+            *groups = k as u64;
+            *loglik = found;
+            *score = kept;
+            *counts = [made, saved, doubled];
+            0
+        }
+    }
+}
+
+// ---- the exported functions
+
+// `spherical::spherical_kmeans`.
+#[no_mangle]
+pub extern "C" fn mosterklomp_spherical_kmeans(
+    weights: &[f64],
+    coords: &[f64],
+    d: usize,
+    k: usize,
+    rounds: usize,
+    restarts: usize,
+    seed: u64,
+    labels: &mut [u32],
+    directions: &mut [f64],
+    work: &mut [f64],
+    marks: &mut [u32],
+    cohesion: &mut f64,
+    counts: &mut [u64; 3],
+) -> u32
+    ensures { λ r. ⌜ _≡_ {A = ClusteredCall}
+        (record { numbers = record { refusal = r; cohesion = now (cohesion .exit); counts = now (counts .exit) }; labels = now (labels .exit); directions = now (directions .exit) })
+        (clusteredCall (now (cohesion .entry)) (now (counts .entry))
+        (clusteredOutcome (now (labels .entry)) (now (directions .entry)) (now (weights .entry)) (now (coords .entry)) d k rounds restarts seed (length (now (work .entry))) (length (now (marks .entry))))) ⌝ }
+{
+    let a = spherical::spherical_kmeans(
+        weights,
+        coords,
+        d,
+        k,
+        rounds,
+        restarts,
+        seed,
+        labels,
+        directions,
+        work,
+        marks,
+    );
+    give_clustered(a, cohesion, counts)
+}
+
+// `movmf::movmf_with`.
+#[no_mangle]
+pub extern "C" fn mosterklomp_movmf_with(
+    weights: &[f64],
+    coords: &[f64],
+    d: usize,
+    k: usize,
+    rounds: usize,
+    seed: u64,
+    shared: bool,
+    labels: &mut [u32],
+    responsibilities: &mut [f64],
+    group_weights: &mut [f64],
+    directions: &mut [f64],
+    concentrations: &mut [f64],
+    logw: &mut [f64],
+    work: &mut [f64],
+    marks: &mut [u32],
+    groups: &mut u64,
+    loglik: &mut f64,
+    counts: &mut [u64; 3],
+) -> u32
+    ensures { λ r. ⌜ _≡_ {A = FittedCall}
+        (record {
+          numbers = record { refusal = r; groups = now (groups .exit); loglik = now (loglik .exit); counts = now (counts .exit) };
+          outputs = arrays (now (labels .exit)) (now (responsibilities .exit)) (now («group_weights» .exit)) (now (directions .exit)) (now (concentrations .exit)) (now (logw .exit));
+        })
+        (fittedCall (now (groups .entry)) (now (loglik .entry)) (now (counts .entry))
+        (fittedOutcome (arrays (now (labels .entry)) (now (responsibilities .entry)) (now («group_weights» .entry)) (now (directions .entry)) (now (concentrations .entry)) (now (logw .entry)))
+        (now (weights .entry)) (now (coords .entry)) d k (record { rounds = rounds; seed = seed; kappa = kappaOf shared }) (length (now (work .entry))) (length (now (marks .entry))))) ⌝ }
+{
+    let kappa = kappa_of(shared);
+    let s = mixture::Settings {
+        rounds,
+        seed,
+        kappa,
+    };
+    let a = movmf::movmf_with(
+        weights,
+        coords,
+        d,
+        k,
+        s,
+        labels,
+        responsibilities,
+        group_weights,
+        directions,
+        concentrations,
+        logw,
+        work,
+        marks,
+    );
+    give_fitted(a, groups, loglik, counts)
+}
+
+// `auto::movmf_auto_with`.
+#[no_mangle]
+pub extern "C" fn mosterklomp_movmf_auto_with(
+    weights: &[f64],
+    coords: &[f64],
+    d: usize,
+    k_min: usize,
+    k_max: usize,
+    rounds: usize,
+    seed: u64,
+    shared: bool,
+    labels: &mut [u32],
+    responsibilities: &mut [f64],
+    group_weights: &mut [f64],
+    directions: &mut [f64],
+    concentrations: &mut [f64],
+    logw: &mut [f64],
+    work: &mut [f64],
+    marks: &mut [u32],
+    groups: &mut u64,
+    loglik: &mut f64,
+    score: &mut f64,
+    counts: &mut [u64; 3],
+) -> u32
+    ensures { λ r. ⌜ _≡_ {A = ChosenCall}
+        (record {
+          numbers = record { refusal = r; groups = now (groups .exit); loglik = now (loglik .exit); score = now (score .exit); counts = now (counts .exit) };
+          outputs = arrays (now (labels .exit)) (now (responsibilities .exit)) (now («group_weights» .exit)) (now (directions .exit)) (now (concentrations .exit)) (now (logw .exit));
+        })
+        (chosenCall (now (groups .entry)) (now (loglik .entry)) (now (score .entry)) (now (counts .entry))
+        (chosenOutcome (arrays (now (labels .entry)) (now (responsibilities .entry)) (now («group_weights» .entry)) (now (directions .entry)) (now (concentrations .entry)) (now (logw .entry)))
+        (now (weights .entry)) (now (coords .entry)) d (record { rounds = rounds; seed = seed; kappa = kappaOf shared }) «k_min» «k_max» (length (now (work .entry))) (length (now (marks .entry))))) ⌝ }
+    ensures { λ _. ⌜ (refusalOf (now (weights .entry)) (now (coords .entry)) d (highest «k_max» (length (now (weights .entry)))) rounds
+        (lengthsOf (arrays (now (labels .entry)) (now (responsibilities .entry)) (now («group_weights» .entry)) (now (directions .entry)) (now (concentrations .entry)) (now (logw .entry))) (length (now (work .entry))) (length (now (marks .entry)))) ≡ 0
+        → Best (arrays (now (labels .entry)) (now (responsibilities .entry)) (now («group_weights» .entry)) (now (directions .entry)) (now (concentrations .entry)) (now (logw .entry)))
+        (now (weights .entry)) (now (coords .entry)) d (record { rounds = rounds; seed = seed; kappa = kappaOf shared }) (lowest «k_min» (highest «k_max» (length (now (weights .entry))))) (highest «k_max» (length (now (weights .entry))))
+        (chosenOutcome (arrays (now (labels .entry)) (now (responsibilities .entry)) (now («group_weights» .entry)) (now (directions .entry)) (now (concentrations .entry)) (now (logw .entry)))
+        (now (weights .entry)) (now (coords .entry)) d (record { rounds = rounds; seed = seed; kappa = kappaOf shared }) «k_min» «k_max» (length (now (work .entry))) (length (now (marks .entry))) .answer)
+        (arrays (now (labels .exit)) (now (responsibilities .exit)) (now («group_weights» .exit)) (now (directions .exit)) (now (concentrations .exit)) (now (logw .exit)))) ⌝ }
+{
+    let kappa = kappa_of(shared);
+    let s = mixture::Settings {
+        rounds,
+        seed,
+        kappa,
+    };
+    let a = auto::movmf_auto_with(
+        weights,
+        coords,
+        d,
+        k_min,
+        k_max,
+        s,
+        labels,
+        responsibilities,
+        group_weights,
+        directions,
+        concentrations,
+        logw,
+        work,
+        marks,
+    );
+    give_chosen(a, groups, loglik, score, counts)
+}
