@@ -19,7 +19,7 @@ use Rattle.lloyd.proofs.Seeds.{front-end}
 use Rattle.softmax.specs.Softmax.{logSumExp, sharesOf}
 use Rattle.mixture.specs.Kappas.{tabulate}
 use Rattle.mixture.specs.Mixture.{Model, likenessAt, likenesses, softmax, expectUpTo}
-use Rattle.mixture.specs.Areas.{Parts, partsIn, total, modelOf, withResp, fourLikenesses}
+use Rattle.mixture.specs.Areas.{Parts, partsIn, total, modelOf, withResp, basedFour, fourLikenesses}
 use Rattle.mixture.proofs.Regions.{directionsR, kappasR, basesR, respR, part-cut, set-in, get-in, part-in, put-in, length-in, tabulate-length, tabulate-turn}
 
 -- ---- flat lists
@@ -55,13 +55,7 @@ pub four-done : (m k d : ℕ) (w coords : List Float) (i c : ℕ) (f : Four) →
     → f
     ≡ dotsOf (part coords (i * d) (i * d + d - i * d)) (part w (c * d) (c * d + d - c * d)) (part w (c * d + d) (c * d + d + d - (c * d + d)))
     (part w (c * d + d + d) (c * d + d + d + d - (c * d + d + d))) (part w (c * d + d + d + d) (c * d + d + d + d + d - (c * d + d + d + d)))
-    → _≡_ {A = Four}
-    (record {
-      a = add binary64 (getD w (k * d + k * d + k + c + k) nan) (mul binary64 (getD w (k * d + k * d + k + c) nan) (f .a));
-      b = add binary64 (getD w (k * d + k * d + k + c + k + 1) nan) (mul binary64 (getD w (k * d + k * d + k + c + 1) nan) (f .b));
-      c = add binary64 (getD w (k * d + k * d + k + c + k + 2) nan) (mul binary64 (getD w (k * d + k * d + k + c + 2) nan) (f .c));
-      e = add binary64 (getD w (k * d + k * d + k + c + k + 3) nan) (mul binary64 (getD w (k * d + k * d + k + c + 3) nan) (f .e));
-    })
+    → _≡_ {A = Four} (basedFour w (k * d + k * d + k + c + k) (k * d + k * d + k + c) f)
     (fourLikenesses d (partsIn m k d w .bases) (modelOf (partsIn m k d w)) (rowOf coords d i) c)
 four-done m k d w coords i c f h is =
     let base = k * d + k * d + k + c + k in

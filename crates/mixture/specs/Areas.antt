@@ -3,7 +3,7 @@ use mathlib.Core.Path.{_≡_}
 use mathlib.Core.List.{List, [], _∷_}
 use Prim.Native.Nat.{ℕ, _+_, _*_, _≤_, _<_}
 use lib.ListN.{getD}
-use lib.Ieee.{Float}
+use lib.Ieee.{Float, nan, binary64, add, mul}
 use Rattle.float.specs.declared.Four.{Four}
 use Rattle.vector.specs.Rows.{cut}
 use Rattle.lloyd.specs.Areas as lloyd
@@ -90,6 +90,16 @@ withGathered g p = withTotals (g .totals) (withSums (g .sums) p)
 
 abbrev pub emOf : Parts → Float → Em
 emOf p loglik = record { resp = p .resp; model = modelOf p; loglik = loglik }
+
+-- what four dots come to with the bases from place `base` of an area on and the concentrations from place `kappa` on
+abbrev pub basedFour : List Float → ℕ → ℕ → Four → Four
+basedFour w base kappa f =
+    record {
+      a = add binary64 (getD w base nan) (mul binary64 (getD w kappa nan) (f .a));
+      b = add binary64 (getD w (base + 1) nan) (mul binary64 (getD w (kappa + 1) nan) (f .b));
+      c = add binary64 (getD w (base + 2) nan) (mul binary64 (getD w (kappa + 2) nan) (f .c));
+      e = add binary64 (getD w (base + 3) nan) (mul binary64 (getD w (kappa + 3) nan) (f .e));
+    }
 
 -- the likenesses of a leaf to four groups, from c on
 abbrev pub fourLikenesses : ℕ → List Float → Model → List Float → ℕ → Four

@@ -16,7 +16,7 @@ ghost use Rattle.softmax.specs.Softmax.{logSumExp};
 ghost use Rattle.mixture.specs.Kappas.{tabulate, meanLength, sharedKappa, kappaAt, kappasOf, parametersOf};
 ghost use Rattle.mixture.specs.Mixture.{weightFloor, basesOf, likenessAt, likenesses, softmax, expectUpTo, gatherGroup, gatherLeaf, gatherUpTo, evenWeight, weightBy, weightAt, directionsUpTo, maximize, emRound, stopsAt, emFrom, logNormOf};
 ghost use Rattle.mixture.specs.Fits.{labelTotalsUpTo, startKappasBy, onceOf};
-ghost use Rattle.mixture.specs.Areas.{partsIn, modelOf, gatheredOf, emOf, withDirections, withWeights, withKappas, withBases, withTotals, withNorms, withResp, withGathered, fourLikenesses, Area, Leaves, LeafOf, GroupOf, Labels, Runnable, RunDone};
+ghost use Rattle.mixture.specs.Areas.{partsIn, modelOf, gatheredOf, emOf, withDirections, withWeights, withKappas, withBases, withTotals, withNorms, withResp, withGathered, basedFour, fourLikenesses, Area, Leaves, LeafOf, GroupOf, Labels, Runnable, RunDone};
 
 // How a mixture estimates its concentrations: one for each group, or one for all.
 pub enum Kappa {
@@ -163,6 +163,19 @@ fn likeness(work: &[f64], coords: &[f64], i: usize, c: usize, m: usize, k: usize
     work[bases + c] + work[kappas + c] * v
 }
 
+// The likenesses that four dots give, by the four bases from `base` on and the four concentrations from `kappa` on.
+fn based(work: &[f64], base: usize, kappa: usize, f: float::Four) -> float::Four
+    requires { ⌜ (base + 4 ≤ length (now work)) × (kappa + 4 ≤ length (now work)) ⌝ }
+    ensures { λ r. ⌜ r ≡ basedFour (now (work .entry)) base kappa f ⌝ }
+{
+    float::Four {
+        a: work[base] + work[kappa] * f.a,
+        b: work[base + 1] + work[kappa + 1] * f.b,
+        c: work[base + 2] + work[kappa + 2] * f.c,
+        e: work[base + 3] + work[kappa + 3] * f.e,
+    }
+}
+
 // The likenesses of leaf i to groups c to c + 3, by four dots at once.
 fn four_likenesses(
     work: &[f64],
@@ -192,12 +205,7 @@ fn four_likenesses(
         &work[r..s],
         &work[s..s + d],
     );
-    float::Four {
-        a: work[base] + work[kappa] * f.a,
-        b: work[base + 1] + work[kappa + 1] * f.b,
-        c: work[base + 2] + work[kappa + 2] * f.c,
-        e: work[base + 3] + work[kappa + 3] * f.e,
-    }
+    based(work, base, kappa, f)
 }
 
 // The likenesses of leaf i stand where its responsibilities will: by fours, then singly.

@@ -1,4 +1,5 @@
 -- `mixture::four_likenesses` meets its contract, by what `dot4` ensures of the leaf's row and the four rows of directions. Assumes nothing.
+use mathlib.Core.Path.{_∙_}
 use Rattle.mixture.proofs.Expected.{four-done}
 use borrow.Author.Needs.{needs}
 use Rattle.mixture.proofs.four_likenesses.Statement.{statement}
@@ -103,78 +104,15 @@ part-dot4-end-5 c = search needs
 dot4-requires : tie.Need-dot4-requires
 dot4-requires c κs = search needs
 
-mul-t17 : tie.Need-mul-t17
-mul-t17 c = search needs
-
-shared-slice-read-t45 : tie.Need-shared-slice-read-t45
-shared-slice-read-t45 c = search needs
-
-mul-t41 : tie.Need-mul-t41
-mul-t41 c = search needs
-
-shared-slice-read-t47 : tie.Need-shared-slice-read-t47
-shared-slice-read-t47 c = search needs
-
-add-t39 : tie.Need-add-t39
-add-t39 c = search needs
-
-mul-t38 : tie.Need-mul-t38
-mul-t38 c = search needs
-
-shared-slice-read-t51 : tie.Need-shared-slice-read-t51
-shared-slice-read-t51 c = search needs
-
-add-t35 : tie.Need-add-t35
-add-t35 c = search needs
-
-mul-t33 : tie.Need-mul-t33
-mul-t33 c = search needs
-
-shared-slice-read-t53 : tie.Need-shared-slice-read-t53
-shared-slice-read-t53 c = search needs
-
-add-t30 : tie.Need-add-t30
-add-t30 c = search needs
-
-mul-t28 : tie.Need-mul-t28
-mul-t28 c = search needs
-
-shared-slice-read-t57 : tie.Need-shared-slice-read-t57
-shared-slice-read-t57 c = search needs
-
-add-t25 : tie.Need-add-t25
-add-t25 c = search needs
-
-mul-t23 : tie.Need-mul-t23
-mul-t23 c = search needs
-
-shared-slice-read-t59 : tie.Need-shared-slice-read-t59
-shared-slice-read-t59 c = search needs
-
-add-t20 : tie.Need-add-t20
-add-t20 c = search needs
-
-mul-t18 : tie.Need-mul-t18
-mul-t18 c = search needs
-
-shared-slice-read-t63 : tie.Need-shared-slice-read-t63
-shared-slice-read-t63 c = search needs
-
-add-t64 : tie.Need-add-t64
-add-t64 c = search needs
-
-mul-t65 : tie.Need-mul-t65
-mul-t65 c = search needs
-
-shared-slice-read-t67 : tie.Need-shared-slice-read-t67
-shared-slice-read-t67 c = search needs
+based-requires : tie.Need-based-requires
+based-requires c κs = search needs
 
 returns : tie.Need-returns
 returns c =
-    let f = c .before .before .before .before .before .before .before .before .before .before .before .before in
-    let b = f .before .before .before .before .before .before .before .before in
+    let f = c .before .dot4 in
+    let b = c .before .before .before .before .before .before .before .before .before in
     let a = b .args in
-    four-done (a .m) (a .k) (a .d) (a .work .now) (a .coords .now) (a .i) (a .c) (f .dot4 .result) (b .pre .1 .3) (f .dot4 .ensures)
+    c .based .ensures ∙ four-done (a .m) (a .k) (a .d) (a .work .now) (a .coords .now) (a .i) (a .c) (f .result) (b .pre .1 .3) (f .ensures)
 
 pub four-likenesses-spec : {M : Type 1} → statement M
 four-likenesses-spec =
@@ -213,26 +151,5 @@ four-likenesses-spec =
     part-dot4-start-5
     part-dot4-end-5
     dot4-requires
-    mul-t17
-    shared-slice-read-t45
-    mul-t41
-    shared-slice-read-t47
-    add-t39
-    mul-t38
-    shared-slice-read-t51
-    add-t35
-    mul-t33
-    shared-slice-read-t53
-    add-t30
-    mul-t28
-    shared-slice-read-t57
-    add-t25
-    mul-t23
-    shared-slice-read-t59
-    add-t20
-    mul-t18
-    shared-slice-read-t63
-    add-t64
-    mul-t65
-    shared-slice-read-t67
+    based-requires
     returns)
