@@ -2,3 +2,4 @@ pub mod Bytes
 pub mod Fits
 pub mod Placing
 pub mod Listings
+pub mod Long
