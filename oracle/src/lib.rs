@@ -5,6 +5,7 @@ pub mod bessel;
 pub mod cases;
 pub mod counts;
 pub mod document;
+pub mod files;
 pub mod leaves;
 pub mod mixture;
 pub mod spherical;

@@ -1,6 +1,6 @@
 // Document 01's edge examples, run: a line for each, `yes` where the answer is as it says and `NO` where it is not; and
 // SplitMix64's published outputs; and the limits of spherical k-means, of the mixture fit
-// and of the automatic fit.
+// and of the automatic fit; and the refusals and the listing of a leaf file.
 ghost use mathlib.Core.Path.{_≡_};
 ghost use Prim.Native.Nat.{_≤_};
 ghost use Rattle.rng.specs.Drawn.{drawn};
@@ -765,6 +765,178 @@ fn auto_lines() {
     );
 }
 
+// ---- leaf files
+
+// The number kept for a leaf file, or 100 and the number of the refusal.
+fn kept_of(bytes: &[u8]) -> u64 {
+    let mut labels = [9u32; 64];
+    kept(leaf_file::fit_file(bytes, &mut labels))
+}
+
+// The same for a file of n bytes that says m and d. The bytes behind the sizes are all 63, so every number is about 0.0005.
+fn kept_of_sizes(m: u8, d: u8, n: usize) -> u64 {
+    let mut file = [63u8; 9000];
+    file[0] = m;
+    file[1] = 0;
+    file[2] = 0;
+    file[3] = 0;
+    file[4] = d;
+    file[5] = 0;
+    file[6] = 0;
+    file[7] = 0;
+    let len = least(n, 9000);
+    kept_of(&file[..len])
+}
+
+fn file_size_lines() {
+    expect_line(
+        b"leaf file: 7 bytes are refused with 8",
+        kept_of_sizes(1, 1, 7) == 108,
+    );
+    expect_line(
+        b"leaf file: 65 leaves are refused with 9",
+        kept_of_sizes(65, 1, 1048) == 109,
+    );
+    expect_line(
+        b"leaf file: 65 leaves are refused with 9 also where a byte is missing",
+        kept_of_sizes(65, 1, 1047) == 109,
+    );
+    expect_line(
+        b"leaf file: 17 coordinates are refused with 9",
+        kept_of_sizes(1, 17, 152) == 109,
+    );
+    expect_line(
+        b"leaf file: a byte missing is refused with 8",
+        kept_of_sizes(2, 3, 71) == 108,
+    );
+    expect_line(
+        b"leaf file: a byte too many is refused with 8",
+        kept_of_sizes(2, 3, 73) == 108,
+    );
+    expect_line(
+        b"leaf file: no leaves in 8 bytes are refused with 1",
+        kept_of_sizes(0, 1, 8) == 101,
+    );
+    expect_line(
+        b"leaf file: no coordinates are refused with 1",
+        kept_of_sizes(2, 0, 24) == 101,
+    );
+    expect_line(
+        b"leaf file: 64 leaves of 16 coordinates pass",
+        kept_of_sizes(64, 16, 8712) < 100,
+    );
+}
+
+// One leaf of one coordinate, both numbers given by their highest byte: 63 makes 1.5, 191 makes -1.5, 127 a NaN.
+fn kept_of_one(weight: u8, coord: u8) -> u64 {
+    kept_of(
+        &[
+            1,
+            0,
+            0,
+            0,
+            1,
+            0,
+            0,
+            0,
+            0,
+            0,
+            0,
+            0,
+            0,
+            0,
+            248,
+            weight,
+            0,
+            0,
+            0,
+            0,
+            0,
+            0,
+            248,
+            coord,
+        ],
+    )
+}
+
+fn file_number_lines() {
+    expect_line(
+        b"leaf file: a NaN weight is refused with 5 before a NaN coordinate",
+        kept_of_one(127, 127) == 105,
+    );
+    expect_line(
+        b"leaf file: a NaN coordinate is refused with 6",
+        kept_of_one(63, 127) == 106,
+    );
+    expect_line(
+        b"leaf file: a weight of -1.5 is refused with 5",
+        kept_of_one(191, 63) == 105,
+    );
+    expect_line(
+        b"leaf file: a coordinate of -1.5 passes",
+        kept_of_one(63, 191) == 1,
+    );
+}
+
+fn same_bytes(a: &[u8], b: &[u8]) -> bool {
+    if a.len() != b.len() {
+        return false;
+    }
+    let mut same = true;
+    let mut i = 0;
+    while i < a.len() {
+        same = same & (a[i] == b[i]);
+        i += 1;
+    }
+    same
+}
+
+// Whether a leaf file's listing is this text.
+fn is_listed(bytes: &[u8], text: &[u8]) -> bool {
+    let mut out = [7u8; 4096];
+    let end = leaf_file::list_file(bytes, &mut out);
+    same_bytes(&out[..end], text)
+}
+
+fn listing_lines() {
+    expect_line(
+        b"leaf file: m = 1, d = 1, weight 1 and coordinate 1 are listed as in document 01",
+        is_listed(
+            &[
+                1,
+                0,
+                0,
+                0,
+                1,
+                0,
+                0,
+                0,
+                0,
+                0,
+                0,
+                0,
+                0,
+                0,
+                240,
+                63,
+                0,
+                0,
+                0,
+                0,
+                0,
+                0,
+                240,
+                63,
+            ],
+            b"groups 1\nmade 4\nsaved 4\n0 0\n",
+        ),
+    );
+    expect_line(
+        b"leaf file: of a refusal only its number is listed",
+        is_listed(&[1, 0, 0, 0, 1, 0, 0], b"refused 8\n"),
+    );
+}
+
 fn main() {
     root_lines();
     exp_lines();
@@ -782,4 +954,7 @@ fn main() {
     fit_lines();
     range_lines();
     auto_lines();
+    file_size_lines();
+    file_number_lines();
+    listing_lines();
 }

@@ -585,6 +585,55 @@ fn choices_agree(text: &[u8]) -> bool {
     auto_agrees(text, &weights[..a], &coords[..b], at)
 }
 
+// ---- leaf files
+
+// Byte i of the bytes that are packed eight to a word from word `from` on, the first byte lowest: two digits, from the word's end.
+fn packed(text: &[u8], from: usize, i: usize) -> u8 {
+    let last = plus(from, i / 8) % 65536 * 17 + 15;
+    let low = last - i % 8 * 2;
+    let high = digit(byte(text, low - 1));
+    (high * 16 + digit(byte(text, low))) as u8
+}
+
+// Puts the first n packed bytes of the words in at the start of v, and answers n; no more than v holds.
+fn unpack(v: &mut [u8], text: &[u8], n: usize) -> usize
+    ensures { λ r. ⌜ Leads r (now (v .exit)) ⌝ }
+{
+    let m = least(n, v.len());
+    let mut j = 0;
+    while j < m {
+        v[j] = packed(text, 1, j);
+        j += 1;
+    }
+    m
+}
+
+// Whether the first n of v are the bytes that are packed from word `from` on, and the rest are still 7.
+fn are_bytes(v: &[u8; 4096], n: usize, text: &[u8], from: usize) -> bool {
+    let mut same = true;
+    let mut j = 0;
+    while j < 4096 {
+        if j < n {
+            same = same & (v[j] == packed(text, from, j));
+        } else {
+            same = same & (v[j] == 7);
+        }
+        j += 1;
+    }
+    same
+}
+
+// Kind 25, a leaf file's listing: the number of bytes and the bytes, in `ins` words; the number of the text's bytes and the text.
+fn listing_agrees(text: &[u8], ins: usize) -> bool {
+    let mut file = [0u8; 16384];
+    let mut out = [7u8; 4096];
+    let n = unpack(&mut file, text, word(text, 0) as usize);
+    let end = leaf_file::list_file(&file[..n], &mut out);
+    n as u64 == word(text, 0)
+        && end as u64 == word(text, ins)
+        && are_bytes(&out, end, text, plus(ins, 1))
+}
+
 fn agrees(kind: u64, text: &[u8], ins: usize) -> bool {
     if kind <= 6 {
         return arithmetic_agrees(kind, text);
@@ -607,7 +656,10 @@ fn agrees(kind: u64, text: &[u8], ins: usize) -> bool {
     if kind == 23 {
         return mixtures_agree(text, true);
     }
-    kind == 24 && choices_agree(text)
+    if kind == 24 {
+        return choices_agree(text);
+    }
+    kind == 25 && listing_agrees(text, ins)
 }
 
 fn print_arithmetic(kind: u64) {
@@ -675,6 +727,8 @@ fn print_fit(kind: u64) {
         io::write_all(1, b"movmf_with, by digests: ");
     } else if kind == 24 {
         io::write_all(1, b"movmf_auto_with: ");
+    } else if kind == 25 {
+        io::write_all(1, b"listings of leaf files: ");
     } else {
         io::write_all(1, b"unknown kind: ");
     }
