@@ -47,10 +47,11 @@ sized bytes m d p q e =
     let e3 = met (eqb (length bytes) (8 + 8 * wholeAt bytes 0 4 + 8 * (wholeAt bytes 0 4 * wholeAt bytes 4 4))) 7 0 (e2 .1) in
     let b = both (leb (wholeAt bytes 0 4) 64) (leb (wholeAt bytes 4 4) 16) (e2 .0) in
     let few : m ≤ 64 = omega (arith, p, leb-true (wholeAt bytes 0 4) 64 (b .0)) in
-    let narrow : d ≤ 16 = omega (arith, q, leb-true (wholeAt bytes 4 4) 16 (b .1)) in
-    (leb-true _ _ (e1 .0),
+    let narrow : d ≤ 16 = omega (arith, q, leb-true (wholeAt bytes 4 4) 16 (b .1)) in (
+      leb-true _ _ (e1 .0),
       record {
         leaves = few;
         numbers = mul-le-mul {n₁ = m} {m₁ = d} {n₂ = 64} {m₂ = 16} few narrow;
         whole = rw (p, q) (eqb-true _ _ (e3 .0));
-      })
+      },
+    )

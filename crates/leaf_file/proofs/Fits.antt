@@ -30,15 +30,16 @@ module _ (weights coords : List Float) (d : ℕ) (labels : List ℕ) where
       → kappas ≡ replicate 4 plusZero → logw ≡ replicate 4 plusZero → work ≡ 1344 → marks ≡ 136
       → (e : Outcome) → e ≡ outcome (arrays labels resp groups dirs kappas logw) weights coords d settings 1 4 work marks
       → (refusalOf weights coords d hi 100 (lengthsOf (arrays labels resp groups dirs kappas logw) work marks) ≡ 0
-        → Best (arrays labels resp groups dirs kappas logw) weights coords d settings (lowest 1 hi) hi (e .answer) (e .outputs))
+      → Best (arrays labels resp groups dirs kappas logw) weights coords d settings (lowest 1 hi) hi (e .answer) (e .outputs))
       → (_≡_ {A = Filed} (record { answer = e .answer; labels = e .outputs .labels }) (filedBy 0 leaves labels)) × (KeepsBest leaves labels (e .answer))
   unfolding fitOf
   fit-by resp groups dirs kappas logw work marks a b c f g h i e p best =
       let q : e ≡ outcome (room labels) weights coords d settings 1 4 1344 136 = rw (a, b, c, f, g, h, i) at p in
       let best' : (refusalOf weights coords d hi 100 (lengthsOf (room labels) 1344 136) ≡ 0
-          → Best (room labels) weights coords d settings (lowest 1 hi) hi (e .answer) (e .outputs)) = rw (a, b, c, f, g, h, i) at best in
-      (ap (λ (o : Outcome). record { answer = o .answer; labels = o .outputs .labels }) q,
-        λ z. subst (λ (o : Outcome). Best (room labels) weights coords d settings (lowest 1 hi) hi (e .answer) (o .outputs)) q (best' z))
+      → Best (room labels) weights coords d settings (lowest 1 hi) hi (e .answer) (e .outputs)) = rw (a, b, c, f, g, h, i) at best in (
+        ap (λ (o : Outcome). record { answer = o .answer; labels = o .outputs .labels }) q,
+        λ z. subst (λ (o : Outcome). Best (room labels) weights coords d settings (lowest 1 hi) hi (e .answer) (o .outputs)) q (best' z),
+      )
 
 -- the fit of the numbers that a file holds is the fit of its leaves
 pub fit-read : (bytes : List ℕ) (m d : ℕ) (labels : List ℕ) (ws cs : List Float) (x : Filed) → ws ≡ f64sAt bytes 8 m → cs ≡ f64sAt bytes (8 + 8 * m) (m * d)
@@ -56,7 +57,7 @@ front-read f w v n h e =
 -- a file, once it is known whether it is refused
 pub file-refused : (bytes labels : List ℕ) (code : ℕ) → code ≡ fileRefusal bytes → ¬ (code ≡ 0)
     → (_≡_ {A = Filed} (record { answer = Refused code; labels = labels }) (filed bytes labels))
-      × (fileRefusal bytes ≡ 0 → KeepsBest (leavesIn bytes) labels (Refused code))
+    × (fileRefusal bytes ≡ 0 → KeepsBest (leavesIn bytes) labels (Refused code))
 file-refused bytes labels zero e n = absurd (n refl)
 file-refused bytes labels (suc code) e n = (rw (← e) refl, λ z. absurd (omega (arith, e, z)))
 
@@ -65,5 +66,5 @@ pub file-fitted : (bytes labels : List ℕ) (m d : ℕ) (x : Filed) → m ≡ wh
     → (x ≡ filed bytes labels) × (fileRefusal bytes ≡ 0 → KeepsBest (leavesIn bytes) labels (x .answer))
 file-fitted bytes labels m d x p q e f =
     let g : (x ≡ filedBy 0 (leavesIn bytes) labels) × (KeepsBest (leavesIn bytes) labels (x .answer)) =
-      subst (λ (l : Leaves). (x ≡ filedBy 0 l labels) × (KeepsBest l labels (x .answer))) (ap₂ (λ (i j : ℕ). leavesOf bytes i j) p q) f in
+    subst (λ (l : Leaves). (x ≡ filedBy 0 l labels) × (KeepsBest l labels (x .answer))) (ap₂ (λ (i j : ℕ). leavesOf bytes i j) p q) f in
     (g .0 ∙ ap (λ (n : ℕ). filedBy n (leavesIn bytes) labels) (sym e), λ z. g .1)

@@ -34,9 +34,9 @@ code false = 9
 refused-long : (n m d : ℕ) → 8712 < n → refusalBy n m d ≡ code (leb m 64 && leb d 16)
 refused-long n m d h = by (leb m 64 && leb d 16) (λ t. let b = both (leb m 64) (leb d 16) t in ne-eqb n (8 + 8 * m + 8 * (m * d)) (never n m d h (leb-true m 64 (b .0)) (leb-true d 16 (b .1))))
   where
-  by : (b : Bool) → (b ≡ true → eqb n (8 + 8 * m + 8 * (m * d)) ≡ false) → need b 9 (need (eqb n (8 + 8 * m + 8 * (m * d))) 8 0) ≡ code b
-  by true f = rw (f refl)
-  by false f = refl
+    by : (b : Bool) → (b ≡ true → eqb n (8 + 8 * m + 8 * (m * d)) ≡ false) → need b 9 (need (eqb n (8 + 8 * m + 8 * (m * d))) 8 0) ≡ code b
+    by true f = rw (f refl)
+    by false f = refl
 
 file-long : (bytes : List ℕ) → 8712 < length bytes → fileRefusal bytes ≡ code (leb (wholeAt bytes 0 4) 64 && leb (wholeAt bytes 4 4) 16)
 unfolding fileRefusal

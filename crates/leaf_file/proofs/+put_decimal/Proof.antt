@@ -135,9 +135,10 @@ put-decimal-returns-3 : (t : ℕ) → put-decimal-lts.Need-returns-3 (
 put-decimal-returns-3 t c =
     let a = c .before .before .before .before .before .before .before .before .before .before .before .args in
     let u = c .before .before .before .before .before .before .put-decimal in
-    let v = c .before .before .put-byte2 in
-    (decimal-more (a .places) (a .n) (a .out .now) _ _ (a .at) (u .result) (v .result) (c .before .before .before .before .before .before .before .before .before .if1 .left) (c .before .before .before .before .before .before .before .before .if2 .left) (u .ensures .0) (v .ensures),
-      omega (arith, u .ensures .1, v .ensures .ends, c .before .before .before .before .before .before .before .before .before .if1 .left))
+    let v = c .before .before .put-byte2 in (
+      decimal-more (a .places) (a .n) (a .out .now) _ _ (a .at) (u .result) (v .result) (c .before .before .before .before .before .before .before .before .before .if1 .left) (c .before .before .before .before .before .before .before .before .if2 .left) (u .ensures .0) (v .ensures),
+      omega (arith, u .ensures .1, v .ensures .ends, c .before .before .before .before .before .before .before .before .before .if1 .left),
+    )
 
 pub +put-decimal-spec : {M : Type 1} → statement M
 +put-decimal-spec = close μ-put-decimal λ t. put-decimal-lts.spec (
