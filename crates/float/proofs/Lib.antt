@@ -28,5 +28,6 @@ pub mod Roots
 pub mod RootOf
 pub mod RootRule
 pub mod RootLaws
+pub mod RootValue
 pub mod RootUnit
 pub mod RootSame

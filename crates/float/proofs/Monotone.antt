@@ -202,7 +202,7 @@ least (inf true) g = le-of-nlt (inf true) (inf true) tt tt tt
 least (inf false) g = le-of-nlt (inf false) (inf true) tt tt tt
 least (fin s m e) g = le-of-nlt (fin s m e) (inf true) tt tt tt
 
-most : (z : Float) → T (not (isNan z)) → T (le z (inf false))
+pub most : (z : Float) → T (not (isNan z)) → T (le z (inf false))
 unfolding isNan lt
 most nan g = absurd g
 most (inf true) g = le-of-nlt (inf false) (inf true) tt tt tt
@@ -245,7 +245,7 @@ unfolding sub
 sub-mono f x y a b g g′ h k = add-mono f x y (neg a) (neg b) g g′ h (le-neg b a k)
 
 -- ---- a sum with one that is not negative, and the difference: x itself is held, so that it is its own rounding
-own : (f : Format) (s : Bool) (m : ℕ) (e : ℤ) → T (fits f (fin s m e)) → T (le (fin s m e) (round f s (m * up e) (down e))) × T (le (round f s (m * up e) (down e)) (fin s m e))
+pub own : (f : Format) (s : Bool) (m : ℕ) (e : ℤ) → T (fits f (fin s m e)) → T (le (fin s m e) (round f s (m * up e) (down e))) × T (le (round f s (m * up e) (down e)) (fin s m e))
 unfolding neg
 own f s m e h = go s
   where
@@ -341,7 +341,7 @@ mul-numbers f (fin s m e) (inf t) g = (tt, tt)
 mul-numbers f (fin s m e) (fin t n d) g = (tt, tt)
 
 -- ---- a root is not negative
-round-not-negative : (a c : ℕ) → 0 < c → T (le plusZero (round binary64 false a c))
+pub round-not-negative : (a c : ℕ) → 0 < c → T (le plusZero (round binary64 false a c))
 round-not-negative a c C = subst (λ (z : Float). T (le z (round binary64 false a c))) at-zero (round-mono binary64 0 1 a c (lit< tt) C (omega arith))
   where
     at-zero : round binary64 false 0 1 ≡ plusZero

@@ -1,6 +1,6 @@
 -- The root of a positive float from its 53 leading digits, and the cases of the root: from x in units of 2^−1074, a whole number with e + 1 binary digits,
 -- the definition's radicand is m·2^(e % 2)·2^52, and of that the nearest root is the one. Assumes nothing.
-use mathlib.Core.Path.{_≡_, refl, sym, ap, ap₂, _∙_}
+use mathlib.Core.Path.{_≡_, refl, sym, ap, ap₂, _∙_, subst}
 use Prim.Native.Nat.{ℕ, zero, suc, _+_, _-_, _*_, _/_, _%_, _^_, _≤_, _<_}
 use native.Mathlib.Nat.{mul-assoc, mul-comm, mul-left-comm, mul-right-comm, mul-le-mul-right, mul-lt-mul-of-pos-right, mul-pos, le-trans, le-of-eq, lt-of-lt-of-le, lt-of-le-of-lt, lt-of-not-le, not-le-of-lt, lt-of-mul-lt-mul-right, pow-suc, mul-div-cancel}
 use native.Mathlib.Omega.{arith}
@@ -92,6 +92,10 @@ module _ (x : Float) (m e : ℕ) (s : SplitOf x m e) (w : InUnits x) where
           ap (λ (z : ℕ). r * z * 2 ^ 590) (more-places h)
           ∙ ap (λ (z : ℕ). z * 2 ^ 590) (sym (mul-assoc r (2 ^ (h + 1)) (2 ^ 484)))
           ∙ mul-assoc (r * 2 ^ (h + 1)) (2 ^ 484) (2 ^ 590)
+
+  -- of the digits as they stand in a word
+  pub root-by-word : (r : ℕ) → Nearest (m * 2 ^ (e % 2) % 2 ^ 64 * 2 ^ 52) r → valueOf r (e / 2 + 485) ≡ positiveRoot x
+  root-by-word r near = positive-root-is r (subst (λ (z : ℕ). Nearest (z * 2 ^ 52) r) (paired-digits .word) near)
 
 -- ---- every positive float has its leading 53 digits
 pub apart : (a b : ℕ) → 2 ^ a < 2 ^ b → a < b

@@ -3,7 +3,7 @@
 use mathlib.Core.Path.{_≡_, refl, sym, ap, _∙_, subst}
 use mathlib.Core.Logic.{inl, inr}
 use mathlib.Core.List.{List, [], _∷_}
-use Prim.Native.Nat.{ℕ, zero, suc, _+_, _*_, _/_, _%_, _^_, _≤_, _<_, zero-le}
+use Prim.Native.Nat.{ℕ, zero, suc, _+_, _*_, _^_, _≤_, _<_, zero-le}
 use Prim.{yes, no}
 use native.Mathlib.Decide.{decLe}
 use native.Mathlib.Nat.{le-trans, le-of-eq, le-of-lt, lt-of-lt-of-le, lt-of-le-of-lt, lt-of-not-le, not-le-of-lt, mul-one, zero-mul, mul-comm, mul-assoc, mul-left-comm, mul-right-comm, mul-le-mul-right, mul-lt-mul-of-pos-right, mul-pos, le-of-mul-le-mul-right, eq-zero-or-pos}
@@ -13,19 +13,19 @@ use lib.Dec.{T, lit<, lit≤}
 use lib.ListN.{length}
 use lib.Pow.{pow-pos}
 use lib.Ieee.{Float, nan, inf, fin, binary64, up, down, unlike, round, mul, div, fits}
-use lib.Ieee.Exact.{HasValue, odd-sign}
+use lib.Ieee.Exact.{HasValue}
 use lib.Ieee.Fits.{up-pos, down-pos}
 use lib.Ieee.Positive.{num, den, positive}
 use lib.Ieee.Scale.{finite, grid, round-val, round-under}
-use Rattle.float.specs.Root.{nearRoot, rootOf}
-use Rattle.float.specs.Steps.{SplitOf, Nearest, valueOf}
-use Rattle.float.proofs.Assemble.{exact}
+use Rattle.float.specs.Root.{rootOf}
+use Rattle.float.specs.Steps.{SplitOf, Nearest}
 use Rattle.float.proofs.Bound.{Within, held-whole}
 use Rattle.float.proofs.Error.{half-more}
 use Rattle.float.proofs.Ranges.{All, Ratio, div-within, mul-within, within-finite}
 use Rattle.float.proofs.Roots.{sq-up}
 use Rattle.float.proofs.Parts.{InUnits, in-whole}
-use Rattle.float.proofs.RootOf.{near-digits, radicand-value, more-places, root-digits, split-exists}
+use Rattle.float.proofs.RootOf.{split-exists}
+use Rattle.float.proofs.RootValue.{root-value}
 use Rattle.float.proofs.Units.{Good, AtMost, squaresFrom, squares-each, grained-of-fits}
 
 -- ---- a root: 3·x ≤ 4·n², in whole numbers
@@ -42,13 +42,15 @@ pub record Low-root (x n : Float) : Type 0 where
   pub value : HasValue n false root (2 ^ 1074)
   pub low : 3 * (num x * (2 ^ 1074 * 2 ^ 1074)) ≤ 4 * (root * root) * den x
 
-low-of : (x : Float) (X r k : ℕ) → num x * (2 ^ 1074 * 2 ^ 1074) ≡ X * (2 ^ k * 2 ^ k) * den x → Nearest X r → k < 2046 → Low-root x (valueOf r k)
-low-of x X r k v n h = record {
-  root = r * 2 ^ k;
-  above = mul-pos (lt-of-lt-of-le (lit< tt) (n .first)) (pow-pos k);
-  value = subst (λ (z : Float). HasValue z false (r * 2 ^ k) (2 ^ 1074)) (sym (exact r k (n .first) (n .last) h)) (odd-sign 54 false r k 1074);
-  low = steps (num x * (2 ^ 1074 * 2 ^ 1074)) X (2 ^ k) (den x) r v (near-low X r n);
-}
+pub root-low : (x : Float) (m e : ℕ) → T (positive x) → SplitOf x m e → InUnits x → Low-root x (rootOf x)
+root-low x m e p s w =
+    let v = root-value x m e p s w in
+    record {
+      root = v .r * 2 ^ v .k;
+      above = mul-pos (lt-of-lt-of-le (lit< tt) (v .near .first)) (pow-pos (v .k));
+      value = v .value;
+      low = steps (num x * (2 ^ 1074 * 2 ^ 1074)) (v .X) (2 ^ v .k) (den x) (v .r) (v .square) (near-low (v .X) (v .r) (v .near));
+    }
   where
     steps : (A X k d r : ℕ) → A ≡ X * (k * k) * d → 3 * X ≤ 4 * (r * r) → 3 * A ≤ 4 * (r * k * (r * k)) * d
     steps A X k d r e h =
@@ -56,19 +58,6 @@ low-of x X r k v n h = record {
         let b : 3 * (X * (k * k) * d) ≡ 3 * X * (k * k * d) = simp (mul-assoc) in
         let c : 4 * (r * r) * (k * k * d) ≡ 4 * (r * k * (r * k)) * d = simp (mul-assoc, mul-comm, mul-left-comm) in
         le-trans (le-of-eq (ap (λ (z : ℕ). 3 * z) e ∙ b)) (le-trans a (le-of-eq c))
-
-pub root-low : (x : Float) (m e : ℕ) → T (positive x) → SplitOf x m e → InUnits x → Low-root x (rootOf x)
-root-low x m e p s w =
-    subst (Low-root x) (root-digits x m e p s w)
-    (low-of x (m * 2 ^ (e % 2) * 2 ^ 52) (nearRoot (m * 2 ^ (e % 2) * 2 ^ 52)) (e / 2 + 485)
-    (finer (num x) (den x) (m * 2 ^ (e % 2) * 2 ^ 52) (2 ^ (e / 2 + 1)) (2 ^ (e / 2 + 485)) (2 ^ 590) (2 ^ 484) (2 ^ 1074) refl (more-places (e / 2)) (radicand-value x m e s w))
-    (near-digits x m e s w) (omega (arith, s .high)))
-  where
-    finer : (n d X P A F G E : ℕ) → E ≡ F * G → A ≡ P * G → n * (F * F) ≡ X * (P * P) * d → n * (E * E) ≡ X * (A * A) * d
-    finer n d X P A F G E k l a =
-        let b : n * (F * G * (F * G)) ≡ n * (F * F) * (G * G) = simp (mul-assoc, mul-left-comm) in
-        let c : X * (P * P) * d * (G * G) ≡ X * (P * G * (P * G)) * d = simp (mul-assoc, mul-comm, mul-left-comm) in
-        ap (λ (z : ℕ). n * (z * z)) k ∙ b ∙ ap (λ (z : ℕ). z * (G * G)) a ∙ c ∙ ap (λ (z : ℕ). X * (z * z) * d) (sym l)
 
 -- ---- x / n
 below-units : (w q : Float) (g G l : ℕ) → 0 < l → HasValue w false g l → AtMost w q → HasValue q false G l → g ≤ G

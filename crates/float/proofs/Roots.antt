@@ -1,19 +1,18 @@
--- Whole square roots on numbers alone: one place more of a root, the digits that are still open, the whole part that the definition takes,
+-- Whole square roots on numbers alone: one place more of a root, the nearest whole number once no place is open, the whole part that the definition takes,
 -- and the nearest whole number, by squares that lie on both sides of the number. Assumes nothing.
 use mathlib.Core.Path.{_≡_, sym, ap, _∙_, subst}
-use mathlib.Core.Bool.{Bool, true, false, not, cond}
+use mathlib.Core.Bool.{Bool, cond}
 use Prim.Native.Nat.{ℕ, zero, suc, _+_, _-_, _*_, _/_, _%_, _^_, _≤_, _<_}
 use Prim.{yes, no}
-use native.Mathlib.Nat.{mul-add, add-mul, mul-assoc, mul-comm, mul-left-comm, one-mul, mul-le-mul-left, mul-le-mul-right, mul-le-mul, pow-suc, lt-of-not-le, lt-of-le-of-lt, not-le-of-lt, zero-add, mul-div-cancel}
+use native.Mathlib.Nat.{mul-add, add-mul, mul-assoc, mul-comm, mul-left-comm, mul-le-mul-right, mul-le-mul, pow-suc, lt-of-not-le, lt-of-le-of-lt, not-le-of-lt, mul-div-cancel}
 use native.Mathlib.Decide.{decLe}
 use native.Mathlib.Numerals.{sub-one}
 use native.Mathlib.Omega.{arith}
 use borrow.Author.Tests.{le-leb, lt-leb, le-ltb, lt-ltb}
-use mir.Val.{boolByte}
-use lib.Dec.{T, leb, ltb, leb→le, nleb→lt, lit<}
+use lib.Dec.{leb, lit<}
 use lib.Pow.{pow-pos}
 use Rattle.float.specs.Root.{wholeRoot, nearRoot}
-use Rattle.float.specs.Steps.{Rooted, joined, Placed, Nearest}
+use Rattle.float.specs.Steps.{Placed, roundedOf, Open, doubleOf, NearHalf, Nearest}
 
 -- ---- squares
 -- they are in the order of their roots
@@ -29,145 +28,113 @@ sq-two y = simp (mul-assoc, mul-left-comm) (omega arith)
 pub sq-up : (y : ℕ) → (2 * y + 1) * (2 * y + 1) ≡ 4 * (y * y) + 4 * y + 1
 sq-up y = omega (arith, sq-next (2 * y), sq-two y)
 
-sq-even : (y : ℕ) → (y * 2) * (y * 2) ≡ 4 * (y * y)
-sq-even y = simp (mul-assoc, mul-comm, mul-left-comm) (omega arith)
+-- ---- one place more
+-- the square grows by what is taken off
+taken : (b y k : ℕ) → k * 2 * b + 2 * ((y + b) * (y + b)) ≡ (2 * y + b + k) * (2 * b) + 2 * (y * y)
+taken b y k = simp (mul-add, add-mul, mul-assoc, mul-comm, mul-left-comm) (omega arith)
 
-sq-odd : (y : ℕ) → (y * 2 + 1) * (y * 2 + 1) ≡ 4 * (y * y) + 4 * y + 1
-sq-odd y = omega (arith, sq-next (y * 2), sq-even y)
+pub record Stepped (b y rest y' rest' : ℕ) : Type 0 where
+  pub double : rest' * b + 2 * (y' * y') ≡ rest * (2 * b) + 2 * (y * y)
+  pub under : rest' < 4 * y' + 2 * b
+  pub most : y' ≤ y + b
 
--- ---- one place more, by a number that is 0 or 1
-pub record Stepped (y rest d k : ℕ) : Type 0 where
-  pub small : k ≤ 1
-  pub fits : k * (y * 4 + 1) ≤ y * 4 + 1
-  pub under : k * (y * 4 + 1) ≤ rest * 4 + d
-  pub placed : Placed y rest d (y * 2 + k) (rest * 4 + d - k * (y * 4 + 1))
+stepped : {y rest step half y' rest' step' : ℕ} (b : ℕ) → step ≡ 2 * y + b → rest < 4 * y + 2 * (2 * b) → Placed y rest step half y' rest' step' → Stepped b y rest y' rest'
+stepped {y} {rest} {step} {half} {y'} {rest'} {step'} b e u p =
+    elim (decLe step rest) [
+      | yes h ↦
+          let f = le-ltb rest step h in
+          let k = rest - step in
+          let r : y' ≡ y + b = p .root ∙ ap (λ (t : Bool). cond t y (step - y)) f ∙ the (step - y) (y + b) (omega arith) in
+          let l : rest' ≡ k * 2 = p .left ∙ ap (λ (t : Bool). cond t (rest * 2) (k * 2)) f in
+          let w : rest ≡ 2 * y + b + k = omega arith in
+          rw (r, l) (record { double = taken b y k ∙ ap (λ (z : ℕ). z * (2 * b) + 2 * (y * y)) (sym w); under = omega arith; most = omega arith })
+      | no h ↦
+          let f = lt-ltb rest step (lt-of-not-le h) in
+          let r : y' ≡ y = p .root ∙ ap (λ (t : Bool). cond t y (step - y)) f in
+          let l : rest' ≡ rest * 2 = p .left ∙ ap (λ (t : Bool). cond t (rest * 2) ((rest - step) * 2)) f in
+          rw (r, l) (record { double = ap (λ (z : ℕ). z + 2 * (y * y)) (mul-assoc rest 2 b); under = omega (arith, lt-of-not-le h); most = omega arith })
+    ]
+  where
+    the : (a b : ℕ) → a ≡ b → a ≡ b
+    the a b e = e
 
-step-one : (y rest d : ℕ) → rest ≤ 2 * y → d < 4 → y * 4 + 1 ≤ rest * 4 + d → Stepped y rest d 1
-step-one y rest d h l c =
+-- what one place more keeps
+pub record Moved (n top rest y y' rest' step' : ℕ) : Type 0 where
+  pub still : Open (n - 1) (top / 2) step' rest' y'
+  pub double : doubleOf (n - 1) rest' y' ≡ doubleOf n rest y
+
+pub moved : (n : ℕ) {top step rest y y' rest' step' : ℕ} → 0 < n → Open n top step rest y → Placed y rest step (top / 2) y' rest' step' → Moved n top rest y y' rest' step'
+moved (suc k) {top} {step} {rest} {y} {y'} {rest'} {step'} h o p =
+    let w : 2 ^ suc k ≡ 2 * 2 ^ k = pow-suc 2 k ∙ mul-comm (2 ^ k) 2 in
+    let t : top ≡ 2 ^ k = o .highest ∙ ap (λ (z : ℕ). z / 2) (pow-suc 2 k) ∙ mul-div-cancel (2 ^ k) (lit< tt) in
+    let s = stepped (2 ^ k) (omega (arith, o .reach)) (omega (arith, o .under)) p in
+    let d : rest' * 2 ^ k + 2 * (y' * y') ≡ rest * 2 ^ suc k + 2 * (y * y) = s .double ∙ ap (λ (z : ℕ). rest * z + 2 * (y * y)) (sym w) in
     record {
-      small = omega arith;
-      fits = omega arith;
-      under = omega arith;
-      placed = rw (one-mul (y * 4 + 1)) (record { square = omega (arith, sq-odd y); under = omega arith; most = omega arith });
+      still = rw sub-one (record {
+        highest = ap (λ (z : ℕ). z / 2) t;
+        reach = omega (arith, p .next);
+        under = s .under;
+        most = omega (arith, s .most, o .most);
+        some = omega (arith, o .some);
+      });
+      double = rw sub-one d;
     }
 
-step-none : (y rest d : ℕ) → rest ≤ 2 * y → d < 4 → rest * 4 + d < y * 4 + 1 → Stepped y rest d 0
-step-none y rest d h l c =
-    let z : y * 2 + 0 ≡ y * 2 = omega arith in
-    let w : rest * 4 + d - 0 * (y * 4 + 1) ≡ rest * 4 + d = omega arith in
-    record {
-      small = omega arith;
-      fits = omega arith;
-      under = omega arith;
-      placed = rw (z, w) (record { square = omega (arith, sq-even y); under = omega arith; most = omega arith });
-    }
+pub carried : {n top rest y y' rest' step' r : ℕ} → Moved n top rest y y' rest' step' → NearHalf (doubleOf (n - 1) rest' y') r → NearHalf (doubleOf n rest y) r
+carried {r = r} m h = subst (λ (x : ℕ). NearHalf x r) (m .double) h
 
-pub stepped : (y rest d : ℕ) → rest ≤ 2 * y → d < 4 → Stepped y rest d (boolByte (leb (y * 4 + 1) (rest * 4 + d)))
-stepped y rest d h l =
-    go (leb (y * 4 + 1) (rest * 4 + d)) (leb→le (y * 4 + 1) (rest * 4 + d)) (nleb→lt (y * 4 + 1) (rest * 4 + d))
-  where
-    go : (b : Bool) → (T b → y * 4 + 1 ≤ rest * 4 + d) → (T (not b) → rest * 4 + d < y * 4 + 1) → Stepped y rest d (boolByte b)
-    go true f g = step-one y rest d h l (f tt)
-    go false f g = step-none y rest d h l (g tt)
+-- what the words need
+pub words : {n top step rest y : ℕ} → Open n top step rest y → (y ≤ step) × (step < 2 ^ 62) × (rest < 2 ^ 62) × (top / 2 < 2 ^ 62)
+words {n} {top} {step} {rest} {y} o =
+    let p : 0 < 2 ^ n = pow-pos n in
+    (omega (arith, o .reach), omega (arith, o .reach, o .highest, o .most), omega (arith, o .under, o .most), omega (arith, o .highest, o .most))
 
--- ---- the places that are open
--- the root has at most 53 digits
-pub few : (y n : ℕ) → (y + 1) * 2 ^ n ≤ 9007199254740992 → y < 9007199254740992
-few y n h =
-    let k : (y + 1) * 1 ≤ (y + 1) * 2 ^ n = mul-le-mul-left (y + 1) (pow-pos n) in
-    omega arith
-
--- one place fewer is open
-pub places : (y n : ℕ) → 0 < n → (y + 1) * 2 ^ n ≡ (y * 2 + 1 + 1) * 2 ^ (n - 1)
-places y (suc k) p = rw (sub-one, pow-suc) (simp (add-mul, mul-assoc, mul-comm, mul-left-comm) (omega arith))
-
-pub digit : (m : ℕ) → m < 18446744073709551616 → m / 4611686018427387904 < 4
-digit m h = omega arith
-
--- a digit goes from the word to the head
-pub moved : (head head' m n : ℕ) → 0 < n → m < 18446744073709551616 → head' ≡ head * 4 + m / 4611686018427387904
-    → joined head' (m * 4 % 18446744073709551616) (n - 1) ≡ joined head m n
-moved head head' m (suc k) p f e =
-    let w : head' * 18446744073709551616 + m * 4 % 18446744073709551616 ≡ (head * 18446744073709551616 + m) * 4 = omega arith in
-    let j : suc k - 1 ≡ k = omega arith in
-    let whole = head * 18446744073709551616 + m in
-    ap (λ (x : ℕ). x / 18446744073709551616)
-    (ap (λ (i : ℕ). (head' * 18446744073709551616 + m * 4 % 18446744073709551616) * 4 ^ i) j
-    ∙ ap (λ (x : ℕ). x * 4 ^ k) w
-    ∙ fourth whole (4 ^ k)
-    ∙ ap (λ (x : ℕ). whole * x) (sym (pow-suc 4 k)))
-  where
-    fourth : (w p : ℕ) → w * 4 * p ≡ w * (p * 4)
-    fourth w p = simp (mul-assoc, mul-comm, mul-left-comm)
-
-pub ended : (y rest m n : ℕ) → n ≡ 0 → m < 18446744073709551616 → y * y + rest ≡ joined (y * y + rest) m n
-ended y rest m n e f = rw e (omega arith)
-
-pub carried : {x z y rest : ℕ} → x ≡ z → Rooted x y rest → Rooted z y rest
-carried {y = y} {rest = rest} e r = subst (λ (v : ℕ). Rooted v y rest) e r
-
--- the 54 digits of m with 10 zeros after them, to 53 places
-pub whole-word : (m : ℕ) → m ≤ 2 ^ 54 - 2 → joined 0 (m * 2 ^ 10 % 2 ^ 64) 53 ≡ m * 2 ^ 52
-whole-word m h =
-    let e : m * 2 ^ 10 % 2 ^ 64 ≡ m * 2 ^ 10 = omega arith in
-    rw e (ap (λ (x : ℕ). x / 2 ^ 64) (rw zero-add (mul-assoc m (2 ^ 10) (4 ^ 53) ∙ sym (mul-assoc m (2 ^ 52) (2 ^ 64)))) ∙ mul-div-cancel (m * 2 ^ 52) (pow-pos 64))
+pub short : {n top step rest y : ℕ} → Open n top step rest y → y < 2 ^ 62
+short {n} {top} {step} {rest} {y} o = omega (arith, pow-pos n, o .most)
 
 -- ---- the nearest root
--- 2 ^ 52 ≤ y
-long : (x y rest : ℕ) → y * y + rest ≡ x → rest ≤ 2 * y → 2 ^ 104 ≤ x → 2 ^ 52 ≤ y
-long x y rest e u h =
-    elim (decLe (2 ^ 52) y) [
-      | yes k ↦ k
-      | no k ↦
-          let l : y + 1 ≤ 2 ^ 52 = omega (arith, lt-of-not-le k) in
-          let s : (y + 1) * (y + 1) ≤ 2 ^ 104 = mul-le-mul l l in
-          omega (arith, sq-next y)
-    ]
+rounds-down : (t y : ℕ) → 0 < t → 2 * (y * y) ≤ t → t ≤ 2 * (y * y) + 2 * y → NearHalf t y
+rounds-down t zero p l h = record { above = omega arith; below = omega arith }
+rounds-down t (suc k) p l h =
+    let q : 2 * suc k - 1 ≡ 2 * k + 1 = omega arith in
+    record { above = omega (arith, ap (λ (v : ℕ). v * v) q, sq-up k, sq-next k); below = omega (arith, sq-up (suc k)) }
 
--- the root that is rounded up is below 2 ^ 53
-short : (x y rest : ℕ) → y * y + rest ≡ x → y < rest → x ≤ 2 ^ 106 - 2 ^ 53 → y + 1 < 2 ^ 53
-short x y rest e u h =
-    elim (decLe (2 ^ 53 - 1) y) [
-      | yes k ↦
-          let s : (2 ^ 53 - 1) * (2 ^ 53 - 1) ≤ y * y = mul-le-mul k k in
-          omega arith
-      | no k ↦ omega (arith, lt-of-not-le k)
-    ]
-
-above-down : (x y rest : ℕ) → y * y + rest ≡ x → 0 < y → (2 * y - 1) * (2 * y - 1) < 4 * x
-above-down x y rest e p =
-    let z = 2 * y - 1 in
-    let q : z + 1 ≡ 2 * y = omega arith in
-    omega (arith, sq-next z, ap (λ (v : ℕ). v * v) q, sq-two y)
-
-above-up : (x y rest : ℕ) → y * y + rest ≡ x → y < rest → (2 * (y + 1) - 1) * (2 * (y + 1) - 1) < 4 * x
-above-up x y rest e u =
+rounds-up : (t y : ℕ) → 2 * (y * y) + 2 * y < t → t < 2 * ((y + 1) * (y + 1)) → NearHalf t (y + 1)
+rounds-up t y l h =
     let q : 2 * (y + 1) - 1 ≡ 2 * y + 1 = omega arith in
-    omega (arith, sq-up y, ap (λ (v : ℕ). v * v) q)
+    record { above = omega (arith, ap (λ (v : ℕ). v * v) q, sq-up y); below = omega (arith, sq-up (y + 1)) }
 
-rounds-up : {x y rest : ℕ} → Rooted x y rest → y < rest → 2 ^ 104 ≤ x → x ≤ 2 ^ 106 - 2 ^ 53 → Nearest x (y + 1)
-rounds-up {x} {y} {rest} r u lo hi =
+-- once no place is open
+pub ended : {n top step rest y r : ℕ} → n ≡ 0 → Open n top step rest y → r ≡ roundedOf rest y → NearHalf (doubleOf n rest y) r
+ended {n} {top} {step} {rest} {y} {r} e o q =
+    let d : doubleOf n rest y ≡ rest + 2 * (y * y) = rw e (omega arith) in
+    let u : rest < 4 * y + 2 = subst (λ (k : ℕ). rest < 4 * y + 2 * 2 ^ k) e (o .under) in
+    rw (d, q) (round (omega (arith, o .some)) u)
+  where
+    round : 0 < rest + 2 * (y * y) → rest < 4 * y + 2 → NearHalf (rest + 2 * (y * y)) (roundedOf rest y)
+    round p u =
+        elim (decLe rest (y * 2)) [
+          | yes h ↦ rw (le-ltb (y * 2) rest h) (rounds-down (rest + 2 * (y * y)) y p (omega arith) (omega arith))
+          | no h ↦ rw (lt-ltb (y * 2) rest (lt-of-not-le h)) (rounds-up (rest + 2 * (y * y)) y (omega (arith, lt-of-not-le h)) (omega (arith, sq-next y)))
+        ]
+
+-- the sizes of a nearest root: 2 ^ 52 to 2 ^ 53
+pub nearest : (x y : ℕ) → NearHalf (2 * x) y → 2 ^ 104 ≤ x → x ≤ 2 ^ 106 - 2 ^ 53 → Nearest x y
+nearest x y n lo hi =
+    let a : (2 * y - 1) * (2 * y - 1) < (2 ^ 54 - 1) * (2 ^ 54 - 1) = omega (arith, n .above) in
+    let b : 2 ^ 53 * 2 ^ 53 < (2 * y + 1) * (2 * y + 1) = omega (arith, n .below) in
     record {
-      above = above-up x y rest (r .square) u;
-      below = omega (arith, sq-up (y + 1), sq-next y);
-      first = omega (arith, long x y rest (r .square) (r .under) lo);
-      last = short x y rest (r .square) u hi;
+      above = omega (arith, n .above);
+      below = omega (arith, n .below);
+      first = omega (arith, sq-lt (2 ^ 53) (2 * y + 1) b);
+      last = omega (arith, sq-lt (2 * y - 1) (2 ^ 54 - 1) a);
     }
 
-rounds-down : {x y rest : ℕ} → Rooted x y rest → rest ≤ y → 2 ^ 104 ≤ x → Nearest x y
-rounds-down {x} {y} {rest} r u lo =
-    let l : 2 ^ 52 ≤ y = long x y rest (r .square) (r .under) lo in
-    record { above = above-down x y rest (r .square) (omega arith); below = omega (arith, sq-up y); first = l; last = r .small }
-
--- by a number that is 0 or 1
-pub rounds : {x y rest : ℕ} → Rooted x y rest → 2 ^ 104 ≤ x → x ≤ 2 ^ 106 - 2 ^ 53 → Nearest x (y + boolByte (ltb y rest))
-rounds {x} {y} {rest} r lo hi =
-    elim (decLe rest y) [
-      | yes h ↦
-          let z : y + 0 ≡ y = omega arith in
-          rw (le-ltb y rest h, z) (rounds-down r h lo)
-      | no n ↦ rw (lt-ltb y rest (lt-of-not-le n)) (rounds-up r (lt-of-not-le n) lo hi)
-    ]
+-- once all places are found, from the first
+pub all-places : (m r : ℕ) → NearHalf (doubleOf 53 m 0) r → 2 ^ 52 ≤ m → m ≤ 2 ^ 54 - 2 → Nearest (m * 2 ^ 52) r
+all-places m r n lo hi =
+    let e : doubleOf 53 m 0 ≡ 2 * (m * 2 ^ 52) = omega arith in
+    nearest (m * 2 ^ 52) r (subst (λ (t : ℕ). NearHalf t r) e n) (mul-le-mul-right (2 ^ 52) lo) (mul-le-mul-right (2 ^ 52) hi)
 
 -- there is but one
 pub one-between : (y z : ℕ) → (2 * y - 1) * (2 * y - 1) < (2 * z + 1) * (2 * z + 1) → (2 * z - 1) * (2 * z - 1) < (2 * y + 1) * (2 * y + 1) → y ≡ z
@@ -198,26 +165,16 @@ unfolding wholeRoot
 whole-root-is zero x h = (omega arith, omega arith)
 whole-root-is (suc k) x h = grow x (wholeRoot k (x / 4)) (whole-root-is k (x / 4) (omega (arith, pow-suc 4 k)))
 
-near-by : (x y : ℕ) → Rooted x y (x - y * y) → 2 ^ 104 ≤ x → x ≤ 2 ^ 106 - 2 ^ 53 → Nearest x (cond (leb x (y * y + y)) y (y + 1))
-near-by x y r lo hi =
+near-by : (x y : ℕ) → Whole x y → 0 < x → NearHalf (2 * x) (cond (leb x (y * y + y)) y (y + 1))
+near-by x y w p =
     elim (decLe x (y * y + y)) [
-      | yes h ↦ rw (le-leb x (y * y + y) h) (rounds-down r (omega arith) lo)
-      | no n ↦ rw (lt-leb x (y * y + y) (lt-of-not-le n)) (rounds-up r (omega (arith, lt-of-not-le n)) lo hi)
+      | yes h ↦ rw (le-leb x (y * y + y) h) (rounds-down (2 * x) y (omega arith) (omega (arith, w .0)) (omega arith))
+      | no n ↦ rw (lt-leb x (y * y + y) (lt-of-not-le n)) (rounds-up (2 * x) y (omega (arith, lt-of-not-le n)) (omega (arith, w .1)))
     ]
-
-rooted : (x y : ℕ) → Whole x y → x < 4 ^ 53 → Rooted x y (x - y * y)
-rooted x y w h =
-    record {
-      square = omega arith;
-      under = omega (arith, sq-next y);
-      small = sq-lt y 9007199254740992 (lt-of-le-of-lt (w .0) h);
-    }
 
 pub near-root-is : (x : ℕ) → 2 ^ 104 ≤ x → x ≤ 2 ^ 106 - 2 ^ 53 → Nearest x (nearRoot x)
 unfolding nearRoot
-near-root-is x lo hi =
-    let h : x < 4 ^ 53 = lt-of-le-of-lt hi (lit< tt) in
-    near-by x (wholeRoot 53 x) (rooted x (wholeRoot 53 x) (whole-root-is 53 x h) h) lo hi
+near-root-is x lo hi = nearest x (nearRoot x) (near-by x (wholeRoot 53 x) (whole-root-is 53 x (lt-of-le-of-lt hi (lit< tt))) (omega arith)) lo hi
 
 -- ---- a number of 53 digits, or one place up: 53 or 54 digits
 pub record Paired (m b : ℕ) : Type 0 where
@@ -232,6 +189,9 @@ paired m (suc (suc b)) lo hi h = absurd (none h)
   where
     none : suc (suc b) < 2 → ⊥
     none h = omega arith
+
+pub paired-word : {m b : ℕ} → Paired m b → (2 ^ 52 ≤ m * 2 ^ b % 2 ^ 64) × (m * 2 ^ b % 2 ^ 64 ≤ 2 ^ 54 - 2)
+paired-word {m} {b} p = subst (λ (z : ℕ). (2 ^ 52 ≤ z) × (z ≤ 2 ^ 54 - 2)) (sym (p .word)) (p .first, p .last)
 
 -- with 52 places more it has 105 or 106 digits, and so a nearest root
 pub paired-near : {m b : ℕ} → Paired m b → Nearest (m * 2 ^ b * 2 ^ 52) (nearRoot (m * 2 ^ b * 2 ^ 52))

@@ -4,13 +4,13 @@ use mathlib.Core.Path.{_≡_, refl, sym, ap, subst}
 use Prim.Native.Nat.{ℕ, zero, suc, _+_, _*_, _^_, _≤_, _<_}
 use native.Mathlib.Nat.{mul-pos, zero-lt-suc, pow-suc}
 use native.Mathlib.Omega.{arith}
-use mathlib.Core.Bool.{Bool, true, false, not, _||_, Bool·beq, true≢false}
+use mathlib.Core.Bool.{Bool, true, false, not, _&&_, _||_, Bool·beq, true≢false}
 use lib.IntN.{ℤ, pos, negsuc}
 use lib.Dec.{T, eqb, eqb→eq, lt→ltb}
 use lib.Pow.{pow-pos}
-use borrow.Author.Tests.{ltb-true, ltb-false}
+use borrow.Author.Tests.{ltb-true, ltb-false, le-ltb, lt-ltb}
 use lib.Ieee.{Float, nan, inf, fin, binary64, up, down, lt, ne, eq, neg, isNan, fits}
-use lib.Ieee.Fits.{and-l, and-i, eq→eqb, up-pos}
+use lib.Ieee.Fits.{and-l, and-r, and-i, eq→eqb, up-pos}
 use lib.Ieee.Compare.{differs-from-itself}
 use lib.Ieee.Positive.{positive}
 use Rattle.float.specs.Arithmetic.{plusZero, absOf}
@@ -78,6 +78,20 @@ is-positive (inf false) p q r = absurd (true≢false (sym r))
 is-positive (fin true m e) p q r = absurd (not-negative m e q p)
 is-positive (fin false zero e) p q r = absurd (not-zero false e p)
 is-positive (fin false (suc m) e) p q r = lt→ltb 0 (suc m) (zero-lt-suc m)
+
+pub positive-is : (x : Float) → (lt plusZero x && lt x (inf false)) ≡ positive x
+unfolding lt
+positive-is nan = refl
+positive-is (inf true) = refl
+positive-is (inf false) = refl
+positive-is (fin true m e) = refl
+positive-is (fin false zero e) = rw (le-ltb (0 * down e) (0 * up e * 1) (omega arith)) refl
+positive-is (fin false (suc m) e) = rw (lt-ltb (0 * down e) (suc m * up e * 1) (omega (arith, mul-pos (zero-lt-suc m) (up-pos e))), lt-ltb 0 (suc m) (zero-lt-suc m)) refl
+
+pub both-positive : (x w : Float) {p q : Bool} → p ≡ positive x → q ≡ positive w → (p && q) ≡ true → T (positive x) × T (positive w)
+both-positive x w {p} {q} e f h =
+    let t = of-true (p && q) h in
+    (subst T e (and-l p q t), subst T f (and-r p q t))
 
 -- ---- the absolute value: the sign turned round below zero, and +0 for both zeros
 pub abs-negative : (x : Float) → lt x plusZero ≡ true → neg x ≡ absOf x

@@ -11,7 +11,7 @@ ghost use Rattle.float.specs.Root.{rootOf, positiveRoot};
 ghost use Rattle.float.specs.Exponential.{expOf, expBy, floorOf, turnsOf};
 ghost use Rattle.float.specs.Logarithm.{lnOf, lnBy, lnAt, exponentOf, fractionOf};
 ghost use Rattle.float.specs.Fours.{exponentials};
-ghost use Rattle.float.specs.Steps.{Rooted, joined, Placed, Nearest, SplitOf, valueOf, powerOf, raised, inside, FieldOf, steppedFour, leftFour, raisedFour, AllInside};
+ghost use Rattle.float.specs.Steps.{Placed, roundedOf, Open, doubleOf, NearHalf, Nearest, SplitOf, valueOf, powerOf, raised, inside, FieldOf, steppedFour, leftFour, raisedFour, AllInside};
 
 // The greater of two; with one NaN the other operand.
 pub fn max(x: f64, y: f64) -> f64
@@ -111,37 +111,54 @@ fn compose(y: u64, k: u64) -> f64
     f64::from_bits(k * 4503599627370496 + y)
 }
 
-// The whole square root of the places read so far: y, and what is left of them.
+// The places of a root that are found, y, what is left of the number, and how much of it the next place needs.
 struct Square {
     y: u64,
     rest: u64,
+    step: u64,
 }
 
-// One place more, with no branch: the comparison is made a number, and multiplied by.
-fn place(rest: u64, y: u64, digit: u64) -> Square
-    requires { ⌜ (rest ≤ 2 * y) × (y < 9007199254740992) × (digit < 4) ⌝ }
-    ensures { λ r. ⌜ Placed y rest digit (r .y) (r .rest) ⌝ }
+// One place more of y, where what is left reaches its step; then what is left counts double, since the next place is worth half of it.
+fn place(rest: u64, y: u64, step: u64, half: u64) -> Square
+    requires { ⌜ (y ≤ step) × (step < 2 ^ 62) × (rest < 2 ^ 62) × (half < 2 ^ 62) ⌝ }
+    ensures { λ r. ⌜ Placed y rest step half (r .y) (r .rest) (r .step) ⌝ }
 {
-    let more = rest * 4 + digit;
-    let step = y * 4 + 1;
-    let bit = (step <= more) as u64;
-    Square {
-        y: y * 2 + bit,
-        rest: more - bit * step,
+    if rest < step {
+        Square {
+            y,
+            rest: rest * 2,
+            step: y * 2 + half,
+        }
+    } else {
+        let z = step - y;
+        Square {
+            y: z,
+            rest: (rest - step) * 2,
+            step: z * 2 + half,
+        }
     }
 }
 
-// The whole square root of y * y + rest followed by n digits to the base 4, the highest of m first: recursion on the
-// n binary places of the root still open.
-fn open_places(m: u64, n: u64, rest: u64, y: u64) -> Square
-    requires { ⌜ (rest ≤ 2 * y) × ((y + 1) * 2 ^ n ≤ 2 ^ 53) ⌝ }
-    ensures { λ r. ⌜ Rooted (joined (y * y + rest) m n) (r .y) (r .rest) ⌝ }
+// y rounded, once all places are found.
+fn rounded(rest: u64, y: u64) -> u64
+    requires { ⌜ y < 2 ^ 62 ⌝ }
+    ensures { λ r. ⌜ r ≡ roundedOf rest y ⌝ }
+{
+    if y * 2 < rest { y + 1 } else { y }
+}
+
+// The nearest whole number to a square root of which y has all but n binary places, the highest of them worth `top`: recursion on
+// the n places still open. The step is handed on and not made of y and top here, so that the compiler needs no jump in `place`.
+fn open_places(n: u64, top: u64, step: u64, rest: u64, y: u64) -> u64
+    requires { ⌜ Open n top step rest y ⌝ }
+    ensures { λ r. ⌜ NearHalf (doubleOf n rest y) r ⌝ }
 {
     if n == 0 {
-        Square { y, rest }
+        rounded(rest, y)
     } else {
-        let s = place(rest, y, m >> 62);
-        open_places(m << 2, n - 1, s.rest, s.y)
+        let half = top / 2;
+        let s = place(rest, y, step, half);
+        open_places(n - 1, half, s.step, s.rest, s.y)
     }
 }
 
@@ -150,8 +167,7 @@ fn near_root(m: u64) -> u64
     requires { ⌜ (2 ^ 52 ≤ m) × (m ≤ 2 ^ 54 - 2) ⌝ }
     ensures { λ r. ⌜ Nearest (m * 2 ^ 52) r ⌝ }
 {
-    let s = open_places(m << 10, 53, 0, 0);
-    s.y + (s.y < s.rest) as u64
+    open_places(53, 4503599627370496, 4503599627370496, m, 0)
 }
 
 // The square root of a positive number: that of its digits, an even number of places up.
@@ -175,6 +191,94 @@ pub fn root(x: f64) -> f64
         return 0.0 / 0.0;
     }
     if x < 1.0 / 0.0 { positive_root(x) } else { x }
+}
+
+// Two floats, for what is computed of two at once.
+pub struct Two {
+    pub a: f64,
+    pub b: f64,
+}
+
+// As open_places, of two roots in step: the second, of which z is found and `over` is left, is written to `second`.
+fn open_pair(
+    n: u64,
+    top: u64,
+    step: u64,
+    rest: u64,
+    y: u64,
+    reach: u64,
+    over: u64,
+    z: u64,
+    second: &mut u64,
+) -> u64
+    requires { ⌜ (Open n top step rest y) × (Open n top reach over z) ⌝ }
+    ensures { λ r. ⌜ (NearHalf (doubleOf n rest y) r) × (NearHalf (doubleOf n over z) (now (second .exit))) ⌝ }
+{
+    if n == 0 {
+        *second = rounded(over, z);
+        rounded(rest, y)
+    } else {
+        let half = top / 2;
+        let s = place(rest, y, step, half);
+        let t = place(over, z, reach, half);
+        open_pair(
+            n - 1,
+            half,
+            s.step,
+            s.rest,
+            s.y,
+            t.step,
+            t.rest,
+            t.y,
+            second,
+        )
+    }
+}
+
+// As near_root, of two.
+fn near_pair(m: u64, k: u64, second: &mut u64) -> u64
+    requires { ⌜ (2 ^ 52 ≤ m) × (m ≤ 2 ^ 54 - 2) ⌝ }
+    requires { ⌜ (2 ^ 52 ≤ k) × (k ≤ 2 ^ 54 - 2) ⌝ }
+    ensures { λ r. ⌜ (Nearest (m * 2 ^ 52) r) × (Nearest (k * 2 ^ 52) (now (second .exit))) ⌝ }
+{
+    let top = 4503599627370496;
+    open_pair(53, top, top, m, 0, top, k, 0, second)
+}
+
+// As positive_root, of two.
+fn positive_pair(x: f64, w: f64) -> Two
+    requires { ⌜ T (positive x) ⌝ }
+    requires { ⌜ T (positive w) ⌝ }
+    ensures { λ r. ⌜ (r .a ≡ positiveRoot x) × (r .b ≡ positiveRoot w) ⌝ }
+{
+    let s = split(x);
+    let t = split(w);
+    let mut b: u64 = 0;
+    let a = near_pair(s.m << (s.e % 2), t.m << (t.e % 2), &mut b);
+    Two {
+        a: compose(a, s.e / 2 + 485),
+        b: compose(b, t.e / 2 + 485),
+    }
+}
+
+// Whether x is above zero and finite.
+fn is_positive(x: f64) -> bool
+    ensures { λ r. ⌜ r ≡ positive x ⌝ }
+{
+    (0.0 < x) & (x < 1.0 / 0.0)
+}
+
+// Two square roots: in step where both numbers are above zero and finite, else one by one.
+pub fn root2(x: f64, w: f64) -> Two
+    ensures { λ r. ⌜ (r .a ≡ rootOf x) × (r .b ≡ rootOf w) ⌝ }
+{
+    if is_positive(x) & is_positive(w) {
+        return positive_pair(x, w);
+    }
+    Two {
+        a: root(x),
+        b: root(w),
+    }
 }
 
 // The series of the exponential at what is left of x past n, times w.

@@ -1,21 +1,21 @@
--- `float::open_places` meets its contract. Each call moves one digit from the word to what is rooted, which keeps the number that they make together;
--- the measure is the number of places that are open. Assumes nothing.
+-- `float::open_places` meets its contract. Each call takes one place more, which keeps the number that is rooted (`Moved`); the measure is the number of
+-- places that are open. Assumes nothing.
 use borrow.Author.Needs.{needs}
 use native.Mathlib.Omega.{arith}
-use native.Mathlib.Nat.{mul-le-mul-right}
-use Prim.Native.Nat.{ℕ, _+_, _*_, _-_, _^_, _<_, _≤_}
-use Rattle.float.proofs.Roots.{few, places, moved, digit, ended, carried}
+use Rattle.float.proofs.Roots.{words, short, moved, carried, ended}
+use Prim.Native.Nat.{ℕ, _<_}
 use borrow.Fn.Kinds.{In}
 use borrow.Fn.PlainCycle.{Measures, is, falls, and}
 use Rattle.float.proofs.open_places.Reads as open-places
 use Rattle.float.proofs.open_places.Kinds as open-places-kinds
 use Rattle.float.proofs.+open_places.Lts-open_places as open-places-lts
 use Rattle.float.proofs.place.Reads as place-reads
+use Rattle.float.proofs.rounded.Reads as rounded-reads
 use Rattle.float.proofs.+open_places.{statement}
 use Rattle.float.proofs.+open_places.Tie.{close}
 
 abbrev μ-open-places : Measures 0 open-places-kinds.ps ℕ
-μ-open-places κs a = a .1 .0
+μ-open-places κs a = a .0
 
 abbrev open-places-at : ℕ → In 0 open-places-kinds.ps
 open-places-at t =
@@ -25,17 +25,29 @@ abbrev open-places-below : ℕ → In 0 open-places-kinds.ps
 open-places-below t =
     and 0 open-places-kinds.ps (falls 0 open-places-kinds.ps _<_ μ-open-places t) open-places.Pre
 
-open-places-place-requires : (t : ℕ) → open-places-lts.Need-place-requires (
+open-places-rounded-requires : (t : ℕ) → open-places-lts.Need-rounded-requires (
+  rounded-reads.Asked,
+  rounded-reads.Learnt,
   place-reads.Asked,
   place-reads.Learnt,
   open-places-below t,
   open-places.Post,
 ) (open-places-at t) open-places.Post
-open-places-place-requires t c κs =
-    let s = c .before in
-    (s .pre .1 .0, few (s .args .y) (s .args .n) (s .pre .1 .1), digit (s .args .m) (s .fits .m .fits))
+open-places-rounded-requires t c κs = short (c .before .pre .1)
+
+open-places-place-requires : (t : ℕ) → open-places-lts.Need-place-requires (
+  rounded-reads.Asked,
+  rounded-reads.Learnt,
+  place-reads.Asked,
+  place-reads.Learnt,
+  open-places-below t,
+  open-places.Post,
+) (open-places-at t) open-places.Post
+open-places-place-requires t c κs = words (c .before .pre .1)
 
 open-places-sub-open-places : (t : ℕ) → open-places-lts.Need-sub-open-places (
+  rounded-reads.Asked,
+  rounded-reads.Learnt,
   place-reads.Asked,
   place-reads.Learnt,
   open-places-below t,
@@ -44,6 +56,8 @@ open-places-sub-open-places : (t : ℕ) → open-places-lts.Need-sub-open-places
 open-places-sub-open-places t c = search needs
 
 open-places-open-places-requires : (t : ℕ) → open-places-lts.Need-open-places-requires (
+  rounded-reads.Asked,
+  rounded-reads.Learnt,
   place-reads.Asked,
   place-reads.Learnt,
   open-places-below t,
@@ -51,37 +65,35 @@ open-places-open-places-requires : (t : ℕ) → open-places-lts.Need-open-place
 ) (open-places-at t) open-places.Post
 open-places-open-places-requires t c κs =
     let s = c .before .before in
-    let a = s .args in
-    let v = c .place in
-    let g : (v .result .y + 1) * 2 ^ (a .n - 1) ≤ (a .y * 2 + 1 + 1) * 2 ^ (a .n - 1) = mul-le-mul-right (2 ^ (a .n - 1)) (omega (arith, v .ensures .most)) in
-    (omega arith, (v .ensures .under, omega (arith, places (a .y) (a .n) (omega arith), s .pre .1 .1)))
+    (omega arith, moved (s .args .n) (omega arith) (s .pre .1) (c .place .ensures) .still)
 
 open-places-returns : (t : ℕ) → open-places-lts.Need-returns (
+  rounded-reads.Asked,
+  rounded-reads.Learnt,
   place-reads.Asked,
   place-reads.Learnt,
   open-places-below t,
   open-places.Post,
 ) (open-places-at t) open-places.Post
 open-places-returns t c =
-    let a = c .before .args in
-    record {
-      square = ended (a .y) (a .rest) (a .m) (a .n) (c .if1 .taken) (search needs);
-      under = c .before .pre .1 .0;
-      small = few (a .y) (a .n) (c .before .pre .1 .1);
-    }
+    ended (c .before .if1 .taken) (c .before .before .pre .1) (c .rounded .ensures)
 
 open-places-returns-2 : (t : ℕ) → open-places-lts.Need-returns-2 (
+  rounded-reads.Asked,
+  rounded-reads.Learnt,
   place-reads.Asked,
   place-reads.Learnt,
   open-places-below t,
   open-places.Post,
 ) (open-places-at t) open-places.Post
 open-places-returns-2 t c =
-    let a = c .before .before .before .args in
-    carried (moved (a .y * a .y + a .rest) _ (a .m) (a .n) (omega arith) (omega arith) (c .before .place .ensures .square)) (c .open-places .ensures)
+    let s = c .before .before .before in
+    carried (moved (s .args .n) (omega arith) (s .pre .1) (c .before .place .ensures)) (c .open-places .ensures)
 
 pub +open-places-spec : {M : Type 1} → statement M
 +open-places-spec = close μ-open-places λ t. open-places-lts.spec (
+  rounded-reads.Asked,
+  rounded-reads.Learnt,
   place-reads.Asked,
   place-reads.Learnt,
   open-places-below t,
@@ -89,6 +101,7 @@ pub +open-places-spec : {M : Type 1} → statement M
 )
     (open-places-at t)
     open-places.Post
+    (open-places-rounded-requires t)
     (open-places-place-requires t)
     (open-places-sub-open-places t)
     (open-places-open-places-requires t)

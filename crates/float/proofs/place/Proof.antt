@@ -1,52 +1,43 @@
--- `float::place` meets its contract: the comparison as a number is 0 or 1, and `stepped` has both cases.
--- Assumes nothing.
+-- `float::place` meets its contract: each branch is a case of `Placed`. Assumes nothing.
+use mathlib.Core.Path.{refl}
 use borrow.Author.Needs.{needs}
-use native.Mathlib.Omega.{arith}
-use Rattle.float.proofs.Roots.{stepped}
+use borrow.Author.Tests.{le-ltb, lt-ltb}
 use Rattle.float.proofs.place.Statement.{statement}
 use Rattle.float.proofs.place.Tie as tie
 
-mul-more : tie.Need-mul-more
-mul-more c = search needs
+mul-t8 : tie.Need-mul-t8
+mul-t8 c = search needs
 
-add-more : tie.Need-add-more
-add-more c = search needs
+mul-t9 : tie.Need-mul-t9
+mul-t9 c = search needs
 
-mul-step : tie.Need-mul-step
-mul-step c = search needs
+add-t10 : tie.Need-add-t10
+add-t10 c = search needs
 
-add-step : tie.Need-add-step
-add-step c = search needs
+sub-z : tie.Need-sub-z
+sub-z c = search needs
 
-cast-bit : tie.Need-cast-bit
-cast-bit c = search needs
+mul-t12 : tie.Need-mul-t12
+mul-t12 c = search needs
 
-mul-t7 : tie.Need-mul-t7
-mul-t7 c = search needs
+mul-t13 : tie.Need-mul-t13
+mul-t13 c = search needs
 
-add-t9 : tie.Need-add-t9
-add-t9 c =
-    let a = c .args in
-    let s = stepped (a .y) (a .rest) (a .digit) (c .pre .0) (c .pre .2) in
-    omega (arith, s .small, c .pre .1)
-
-mul-t10 : tie.Need-mul-t10
-mul-t10 c =
-    let a = c .args in
-    let s = stepped (a .y) (a .rest) (a .digit) (c .pre .0) (c .pre .2) in
-    omega (arith, s .fits, c .pre .1)
-
-sub-t11 : tie.Need-sub-t11
-sub-t11 c =
-    let a = c .args in
-    stepped (a .y) (a .rest) (a .digit) (c .pre .0) (c .pre .2) .under
+add-t14 : tie.Need-add-t14
+add-t14 c = search needs
 
 returns : tie.Need-returns
 returns c =
-    let a = c .args in
-    stepped (a .y) (a .rest) (a .digit) (c .pre .0) (c .pre .2) .placed
+    let a = c .before .args in
+    let f = lt-ltb (a .rest) (a .step) (c .if1 .taken) in
+    record { root = simp f; left = simp f; next = refl }
+
+returns-2 : tie.Need-returns-2
+returns-2 c =
+    let a = c .before .args in
+    let f = le-ltb (a .rest) (a .step) (c .if1 .left) in
+    record { root = simp f; left = simp f; next = refl }
 
 pub place-spec : {M : Type 1} → statement M
 place-spec =
-    tie.close
-    (tie.spec mul-more add-more mul-step add-step cast-bit mul-t7 add-t9 mul-t10 sub-t11 returns)
+    tie.close (tie.spec mul-t8 mul-t9 add-t10 sub-z mul-t12 mul-t13 add-t14 returns returns-2)

@@ -1,15 +1,14 @@
 -- `float::positive_root` meets its contract: the split's digits, with one place more where e is odd, have the nearest root that the definition takes.
 -- Assumes nothing.
 use mathlib.Core.Path.{sym, _∙_, subst}
-use Prim.Native.Nat.{ℕ, _*_, _%_, _≤_}
+use Prim.Native.Nat.{_%_}
 use native.Mathlib.Omega.{arith}
 use borrow.Author.Needs.{needs}
 use lib.Dec.{T}
 use lib.Ieee.{binary64, fits}
-use Rattle.float.specs.Steps.{Nearest}
-use Rattle.float.proofs.Roots.{paired}
+use Rattle.float.proofs.Roots.{paired, paired-word}
 use Rattle.float.proofs.Parts.{in-whole}
-use Rattle.float.proofs.RootOf.{positive-root-is}
+use Rattle.float.proofs.RootOf.{root-by-word}
 use Rattle.float.proofs.positive_root.Statement.{statement}
 use Rattle.float.proofs.positive_root.Tie as tie
 
@@ -26,8 +25,7 @@ shl-near-root c = search needs
 near-root-requires : tie.Need-near-root-requires
 near-root-requires c κs =
     let s = c .before .before .before .split in
-    let p = paired (s .result .m) (s .result .e % 2) (s .ensures .first) (s .ensures .last) (omega arith) in
-    subst (λ (z : ℕ). (4503599627370496 ≤ z) × (z ≤ 18014398509481982)) (sym (p .word)) (p .first, p .last)
+    paired-word (paired (s .result .m) (s .result .e % 2) (s .ensures .first) (s .ensures .last) (omega arith))
 
 add-compose : tie.Need-add-compose
 add-compose c = search needs
@@ -40,10 +38,8 @@ returns c =
     let at = c .before .before .before .before .before in
     let s = at .split in
     let x = at .before .args .x in
-    let p = paired (s .result .m) (s .result .e % 2) (s .ensures .first) (s .ensures .last) (omega arith) in
     c .compose .ensures
-    ∙ positive-root-is x (s .result .m) (s .result .e) (s .ensures) (in-whole x (at .before .pre) (held (at .before))) (c .before .near-root .result)
-    (subst (λ (z : ℕ). Nearest (z * 4503599627370496) (c .before .near-root .result)) (p .word) (c .before .near-root .ensures))
+    ∙ root-by-word x (s .result .m) (s .result .e) (s .ensures) (in-whole x (at .before .pre) (held (at .before))) (c .before .near-root .result) (c .before .near-root .ensures)
 
 pub positive-root-spec : {M : Type 1} → statement M
 positive-root-spec =

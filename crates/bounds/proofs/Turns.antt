@@ -1,0 +1,27 @@
+-- The shifts of a bound by their cases, over plain values: the clamped bound and drift, and the test between them. Assumes nothing.
+use mathlib.Core.Path.{_≡_, refl}
+use mathlib.Core.Bool.{Bool, true, false, _||_, true≢false}
+use lib.Ieee.{Float, binary64, add, sub, mul, neg, lt, le}
+use Rattle.float.specs.Arithmetic.{number}
+use Rattle.bounds.specs.Shifts.{cosine, sinesOf, shiftLower, shiftUpper}
+
+module _ (x p a b : Float) (held : a ≡ cosine x) (turned : b ≡ cosine p) where
+  pub lower-past : lt a (neg b) ≡ true → neg (number 1) ≡ shiftLower x p
+  unfolding shiftLower
+  lower-past t = rw (← held, ← turned, t)
+
+  pub lower-within : (s : Float) → s ≡ sinesOf a b → lt a (neg b) ≡ false → sub binary64 (mul binary64 a b) s ≡ shiftLower x p
+  unfolding shiftLower
+  lower-within s e t = rw (← held, ← turned, t, e)
+
+  pub upper-past : le b a ≡ true → number 1 ≡ shiftUpper x p
+  unfolding shiftUpper
+  upper-past t = rw (← held, ← turned, t)
+
+  pub upper-within : (s : Float) → s ≡ sinesOf a b → le b a ≡ false → add binary64 (mul binary64 a b) s ≡ shiftUpper x p
+  unfolding shiftUpper
+  upper-within s e t = rw (← held, ← turned, t, e)
+
+pub neither : (p q : Bool) → (p || q) ≡ false → (p ≡ false) × (q ≡ false)
+neither true q e = absurd (true≢false e)
+neither false q e = (refl, e)
