@@ -1,14 +1,16 @@
--- The float y * 2 ^ k * 2 ^ -1074 by its bit pattern, for a y of 53 digits. Assumes nothing.
+-- The float y * 2 ^ k * 2 ^ -1074 by its bit pattern, for a y of 53 digits, and the pattern of such a whole number. Assumes nothing.
 use mathlib.Core.Path.{_≡_, refl, sym, ap, _∙_}
 use Prim.Native.Nat.{ℕ, zero, suc, _+_, _-_, _*_, _/_, _%_, _^_, _≤_, _<_}
-use native.Mathlib.Nat.{mul-assoc, mul-comm, mul-left-comm, mul-le-mul-right, mul-lt-mul-of-pos-right, mul-pos, lt-of-lt-of-le, pow-suc}
+use native.Mathlib.Nat.{mul-one, mul-assoc, mul-comm, mul-left-comm, mul-le-mul-right, mul-lt-mul-of-pos-right, mul-pos, lt-of-lt-of-le, pow-suc}
 use native.Mathlib.Omega.{arith}
 use mathlib.Core.Bool.{false, not}
-use lib.Dec.{T}
+use lib.Dec.{T, lit<}
+use lib.IntN.{pos}
 use lib.Pow.{pow-pos, pow-mono, pow-add}
 use lib.Count.{trailingZeros, under}
-use lib.Ieee.{fin, binary64, odd, ofBits, nanBits, isNan, round, minus}
-use lib.Ieee.Bits.{nanBits-is}
+use lib.Ieee.{fin, binary64, odd, ofInt, ofBits, toBits, nanBits, isNan, round, minus}
+use lib.Ieee.Bits.{nanBits-is, toBits-ofBits}
+use lib.Ieee.Scale.{round-same}
 use Rattle.float.proofs.Pattern.{normal}
 use Rattle.float.proofs.Rounding.{round-to}
 
@@ -71,3 +73,14 @@ odd-number (suc q) k l = tt
 
 pub composed-no-nan : (y k : ℕ) → 2 ^ 52 ≤ y → y < 2 ^ 53 → k < 2046 → T (not (nanBits binary64 (k * 4503599627370496 + y)))
 composed-no-nan y k a b c = rw (nanBits-is, pattern y k a b c) (odd-number y k 1074)
+
+-- the pattern of a whole number of 53 binary digits
+whole-pattern : (y : ℕ) → 2 ^ 52 ≤ y → y < 2 ^ 53 → ofBits binary64 (1074 * 4503599627370496 + y) ≡ ofInt binary64 (pos y)
+unfolding ofInt
+whole-pattern y a b = composed y 1074 a b (lit< tt) ∙ round-same binary64 false (y * 2 ^ 1074) (2 ^ 1074) y 1 (pow-pos 1074) (lit< tt) (mul-one (y * 2 ^ 1074))
+
+pub whole-bits : (y : ℕ) → 2 ^ 52 ≤ y → y < 2 ^ 53 → toBits binary64 (ofInt binary64 (pos y)) ≡ 1074 * 4503599627370496 + y
+whole-bits y a b =
+    let n = 1074 * 4503599627370496 + y in
+    let l : n < 18446744073709551616 = omega arith in
+    ap (toBits binary64) (sym (whole-pattern y a b)) ∙ toBits-ofBits binary64 n l (rw (sym (nanBits-is binary64 n)) (composed-no-nan y 1074 a b (lit< tt)))

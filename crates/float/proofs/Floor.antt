@@ -1,23 +1,28 @@
--- The floor of a float between −1022 and 2047/2, by a truncation of y + 1023 and a comparison: the sum is kept as an exact fraction, the cut is its whole part
--- or one more, and the comparison says which. With the theorem that `floorOf` is the floor of every finite float. Assumes nothing.
+-- The floor of a float between −1022 and 2047/2, by adding 2^52 + 1023 to it and a comparison: y + 1023 is kept as an exact fraction, the rounded sum is its whole
+-- part or one more, past 2^52, and the comparison says which. With the theorem that `floorOf` is the floor of every finite float. Assumes nothing.
 use mathlib.Core.Path.{_≡_, refl, sym, ap, ap₂, _∙_, subst}
 use mathlib.Core.Logic.{_⊎_, inl, inr}
-use Prim.Native.Nat.{ℕ, zero, suc, _+_, _-_, _*_, _/_, _^_, _≤_, _<_}
-use native.Mathlib.Nat.{le-trans, le-of-eq, lt-of-le-of-lt, lt-of-lt-of-le, mul-one, mul-comm, mul-assoc, mul-right-comm, mul-le-mul-right, mul-pos, le-div-iff-mul-le, div-lt-iff-lt-mul, div-mul-le-self, min-le-left, le-min, add-mul, lt-of-mul-lt-mul-right, mul-lt-mul-of-pos-right}
+use Prim.Native.Nat.{ℕ, zero, suc, _+_, _-_, _*_, _/_, _%_, _^_, _≤_, _<_}
+use native.Mathlib.Nat.{le-trans, le-of-eq, lt-of-le-of-lt, lt-of-lt-of-le, mul-one, mul-comm, mul-assoc, mul-right-comm, mul-le-mul-right, mul-pos, le-div-iff-mul-le, div-lt-iff-lt-mul, div-mul-le-self, min-le-left, le-min, add-mul, lt-of-mul-lt-mul-right, mul-lt-mul-of-pos-right, pow-suc}
 use native.Mathlib.Omega.{arith}
 use mathlib.Core.Bool.{Bool, true, false, not, _&&_, cond, true≢false}
 use lib.IntN.{ℤ, pos, negsuc, negℤ}
+use lib.Pow.{pow-pos}
 use lib.Dec.{T, ltb, ltb→lt, nltb→le, lit≤, lit<, lt→ltb, not-T}
 use borrow.Author.Tests.{lt-ltb, le-ltb, le-leb, lt-leb}
-use lib.Ieee.{Float, nan, inf, fin, binary64, up, down, minus, round, sum, add, sub, neg, mul, lt, le, eq, ofInt, ofBits, toUnsigned}
-use lib.Ieee.Fits.{and-l, and-r, down-pos}
+use lib.Ieee.{Float, nan, inf, fin, binary64, up, down, minus, round, sum, add, sub, neg, mul, lt, le, eq, isNan, ofInt, ofBits, toBits, fits}
+use lib.Ieee.Fits.{and-l, and-r, down-pos, round-fits, ofInt-fits}
 use lib.Ieee.Exact.{HasValue}
-use lib.Ieee.Back.{round-whole}
+use lib.Ieee.Back.{round-whole, whole-unique}
 use Rattle.float.specs.Arithmetic.{f64, number}
 use Rattle.float.specs.Exponential.{floorOf, turnsOf}
-use Rattle.float.specs.Steps.{inside, FieldOf}
+use Rattle.float.specs.Steps.{inside, FieldOf, Lifted}
 use Rattle.float.proofs.Order.{lt-or-ge, nlt-of-le}
-use Rattle.float.proofs.Whole.{sub-whole}
+use Rattle.float.proofs.Whole.{own, sub-whole}
+use Rattle.float.proofs.Numbers.{whole-number}
+use Rattle.float.proofs.Pattern.{minus-same}
+use Rattle.float.proofs.Assemble.{whole-bits}
+use Rattle.float.proofs.Units.{parts-of}
 use Rattle.float.proofs.Bound.{Within, Over, Signed, Held, held-whole, round-signed, round-within, round-over}
 
 -- −B ≤ y ≤ P / Q
@@ -110,7 +115,7 @@ half-span (fin true m e) h = go (ltb (m * up e * 2) (1 * down e)) (ltb (1 * down
 pub turns-span : (x : Float) → T (inside x) → Span 1022 2047 2 (turnsOf x)
 turns-span x h = half-span (mul binary64 x (f64 0x3FF71547652B82FE)) (mul-span x (inside-span x h))
 
--- ---- y + 1023, exactly, is N / D
+-- ---- y + 1023, exactly, is N / D; y + 2^52 + 1023 is that, rounded, past 2^52
 abbrev lifted : Bool → ℕ → ℕ → ℕ
 lifted true a d = 1023 * d - a
 lifted false a d = 1023 * d + a
@@ -142,42 +147,54 @@ num-high (inf s) h = absurd h
 num-high (fin true m e) h = omega (arith, down-pos e)
 num-high (fin false m e) h = omega (arith, down-pos e)
 
-shift : (y : Float) → Span 1022 2047 2 y → add binary64 y (number 1023) ≡ round binary64 false (numOf y) (denOf y)
+shift : (y : Float) → Span 1022 2047 2 y → add binary64 y (number 4503599627371519) ≡ round binary64 false (4503599627370496 * denOf y + numOf y) (denOf y)
 unfolding add sum ofInt
 shift nan h = absurd h
 shift (inf s) h = absurd h
 shift (fin false m e) h =
-    let p : m * up e * 1 + 1023 * down e ≡ 1023 * down e + m * up e = omega arith in
+    let p : m * up e * 1 + 4503599627371519 * down e ≡ 4503599627370496 * down e + (1023 * down e + m * up e) = omega arith in
     ap₂ (round binary64 false) p (mul-one (down e))
 shift (fin true m e) h =
-    let l : m * up e * 1 < 1023 * down e = omega (arith, down-pos e) in
-    let p : 1023 * down e - m * up e * 1 ≡ 1023 * down e - m * up e = omega arith in
-    rw (lt-ltb (m * up e * 1) (1023 * down e) l) (ap₂ (round binary64 false) p (mul-one (down e)))
+    let l : m * up e * 1 < 4503599627371519 * down e = omega (arith, down-pos e) in
+    let p : 4503599627371519 * down e - m * up e * 1 ≡ 4503599627370496 * down e + (1023 * down e - m * up e) = omega (arith, down-pos e) in
+    rw (lt-ltb (m * up e * 1) (4503599627371519 * down e) l) (ap₂ (round binary64 false) p (mul-one (down e)))
 
--- ---- what the truncation of the rounded sum is
-pub record Cut (v : Float) (q : ℕ) : Type 0 where
-  pub least : q ≤ toUnsigned 64 v
-  pub most : toUnsigned 64 v ≤ q + 1
-  pub above : T (lt (fin true 1 (pos 0)) v)
-  pub below : T (lt v (fin false 1 (pos 64)))
+-- ---- what the rounded sum is: from 2^52 on an f64 is a whole number
+pub record Near (v : Float) (q : ℕ) : Type 0 where
+  pub t : ℕ
+  pub least : q ≤ t
+  pub most : t ≤ q + 1
+  pub value : v ≡ number (4503599627370496 + t)
 
-cut-of : (v : Float) (q : ℕ) → q < 2047 → Signed false v → Over q 1 v → Within (q + 1) 1 v → Cut v q
-unfolding toUnsigned lt
-cut-of nan q l s o w = absurd w
-cut-of (inf t) q l s o w = absurd w
-cut-of (fin true m e) q l s o w = absurd (true≢false s)
-cut-of (fin false m e) q l s o w =
-    let a = m * up e in
-    let d = down e in
-    let g : a ≤ 2047 * d = le-trans (le-of-eq (sym (mul-one a))) (le-trans w (mul-le-mul-right d (omega arith))) in
-    let o' : q * d ≤ a = omega arith in
-    let w' : a < (q + 2) * d = lt-of-le-of-lt (le-trans (le-of-eq (sym (mul-one a))) w) (mul-lt-mul-of-pos-right (omega arith) (down-pos e)) in
-    let r : a / d < q + 2 = div-lt-iff-lt-mul (down-pos e) .1 w' in
+-- with places after the point it would have more than 53 binary digits
+no-places : (m k q : ℕ) → m < 9007199254740992 → (4503599627370496 + q) * 2 ^ suc k ≤ m * 1 * 1 → ⊥
+no-places m k q l o = omega (arith, pow-suc 2 k, pow-pos k, mul-le-mul-right (2 ^ suc k) (le-self q))
+  where
+    le-self : (q : ℕ) → 4503599627370496 ≤ 4503599627370496 + q
+    le-self q = omega arith
+
+near-of : (v : Float) (q : ℕ) → q < 2047 → T (fits binary64 v) → Signed false v → Over (4503599627370496 + q) 1 v → Within (4503599627370496 + q + 1) 1 v → Near v q
+near-of nan q l f s o w = absurd w
+near-of (inf t) q l f s o w = absurd w
+near-of (fin true m e) q l f s o w = absurd (true≢false s)
+near-of (fin false zero e) q l f s o w = absurd (clash (down e) (up e) (down-pos e) o)
+  where
+    clash : (d u : ℕ) → 0 < d → (4503599627370496 + q) * d ≤ 0 * u * 1 → ⊥
+    clash d u p o = omega (arith, mul-le-mul-right d (least q))
+      where
+        least : (q : ℕ) → 1 ≤ 4503599627370496 + q
+        least q = omega arith
+near-of (fin false (suc m) (negsuc k)) q l f s o w = absurd (no-places (suc m) k q (parts-of binary64 false m (negsuc k) f .few) o)
+near-of (fin false (suc m) (pos k)) q l f s o w =
+    let a = suc m * 2 ^ k in
+    let e : 4503599627370496 + (a - 4503599627370496) ≡ a = omega arith in
+    let h : a * 1 ≡ (4503599627370496 + (a - 4503599627370496)) * 1 = omega arith in
     record {
-      least = le-min (le-div-iff-mul-le (down-pos e) .1 o') (omega arith);
-      most = le-trans (min-le-left (a / d) (2 ^ 64 - 1)) (omega arith);
-      above = lt→ltb 0 (1 * d + a * 1) (omega (arith, down-pos e));
-      below = lt→ltb (a * 1) (18446744073709551616 * d) (omega (arith, down-pos e));
+      t = a - 4503599627370496;
+      least = omega arith;
+      most = omega arith;
+      value = whole-unique binary64 (fin false (suc m) (pos k)) (number (4503599627370496 + (a - 4503599627370496))) false (4503599627370496 + (a - 4503599627370496))
+          f (ofInt-fits binary64 (pos (4503599627370496 + (a - 4503599627370496)))) (refl, h) (own binary64 (4503599627370496 + (a - 4503599627370496)) (omega arith));
     }
 
 whole-low : (N D : ℕ) → 0 < D → D ≤ N → N < 2047 * D → (0 < N / D) × (N / D < 2047)
@@ -186,8 +203,8 @@ whole-low N D d l h = (le-div-iff-mul-le d .1 (omega arith), div-lt-iff-lt-mul d
 whole-next : (N D : ℕ) → 0 < D → N < (N / D + 1) * D
 whole-next N D d = div-lt-iff-lt-mul d .0 (omega arith)
 
-pub cut : (y : Float) → Span 1022 2047 2 y → Cut (add binary64 y (number 1023)) (numOf y / denOf y)
-cut y h =
+near : (y : Float) → Span 1022 2047 2 y → Near (add binary64 y (number 4503599627371519)) (numOf y / denOf y)
+near y h =
     let N = numOf y in
     let D = denOf y in
     let d = den-pos y in
@@ -195,10 +212,14 @@ cut y h =
     let q = N / D in
     let n : N < (q + 1) * D = whole-next N D d in
     let m : q * D ≤ N = div-mul-le-self N D in
-    subst (λ (v : Float). Cut v q) (sym (shift y h))
-    (cut-of (round binary64 false N D) q (b .1) (round-signed binary64 false N D)
-    (round-over binary64 N D q 1 d (lit< tt) (held-whole binary64 q (omega (arith, b .1))) (omega arith))
-    (round-within binary64 false N D (q + 1) 1 d (lit< tt) (held-whole binary64 (q + 1) (omega (arith, b .1))) (omega arith)))
+    let i : (4503599627370496 + q) * D ≡ 4503599627370496 * D + q * D = add-mul 4503599627370496 q D in
+    let j : (4503599627370496 + q + 1) * D ≡ (4503599627370496 + q) * D + 1 * D = add-mul (4503599627370496 + q) 1 D in
+    let k : (q + 1) * D ≡ q * D + 1 * D = add-mul q 1 D in
+    let S = 4503599627370496 * D + N in
+    subst (λ (v : Float). Near v q) (sym (shift y h))
+    (near-of (round binary64 false S D) q (b .1) (round-fits binary64 false S D) (round-signed binary64 false S D)
+    (round-over binary64 S D (4503599627370496 + q) 1 d (lit< tt) (held-whole binary64 (4503599627370496 + q) (omega (arith, b .1))) (omega arith))
+    (round-within binary64 false S D (4503599627370496 + q + 1) 1 d (lit< tt) (held-whole binary64 (4503599627370496 + q + 1) (omega (arith, b .1))) (omega arith)))
 
 -- ---- y < t - 1023 says that y + 1023 < t
 ltb-iff : (x y u v : ℕ) → (x < y → u < v) → (u < v → x < y) → ltb x y ≡ ltb u v
@@ -362,6 +383,33 @@ field-floor (fin true m e) h =
     let g : (r + 1) * d ≡ r * d + 1 * d = add-mul r 1 d in
     ap (λ (z : ℕ). minus z 1023) (quotient (1023 * d - a) d r (down-pos e) (omega (arith, b .0)) (omega (arith, b .1))) ∙ below-by c (omega arith)
 
+-- 2^52 + b less 2^52 + 1023, and less 1
+unbias : (b : ℕ) → b ≤ 2048 → sub binary64 (number (4503599627370496 + b)) (number 4503599627371519) ≡ ofInt binary64 (minus b 1023)
+unbias b l =
+    sub-whole binary64 (4503599627370496 + b) 4503599627371519 (omega arith) (lit≤ tt)
+    ∙ ap (ofInt binary64) (minus-same (4503599627370496 + b) 4503599627371519 b 1023 (omega arith))
+
+one-less : (t : ℕ) → 0 < t → t ≤ 2048 → sub binary64 (number (4503599627370496 + t)) (number 1) ≡ number (4503599627370496 + (t - 1))
+one-less t p l =
+    let e : 4503599627370496 + t - 1 ≡ 4503599627370496 + (t - 1) = omega arith in
+    sub-whole binary64 (4503599627370496 + t) 1 (omega arith) (lit≤ tt)
+    ∙ ap (ofInt binary64) (rw (le-leb 1 (4503599627370496 + t) (omega arith)) (ap pos e))
+
+pub lifted-whole : (n : ℤ) (u : Float) → Lifted n u → sub binary64 u (number 4503599627371519) ≡ ofInt binary64 n
+lifted-whole n u l = rw (l .value) (unbias (l .b) (omega (arith, l .field .most))) ∙ ap (ofInt binary64) (l .field .value)
+
+pub lifted-field : (n : ℤ) (u : Float) (l : Lifted n u) → toBits binary64 u % 4503599627370496 ≡ l .b
+lifted-field n u l =
+    let m = l .field .most in
+    let e : toBits binary64 u ≡ 1074 * 4503599627370496 + (4503599627370496 + l .b) = ap (toBits binary64) (l .value) ∙ whole-bits (4503599627370496 + l .b) (omega arith) (omega arith) in
+    omega (arith, e)
+
+pub field-within : (n : ℤ) (u : Float) → Lifted n u → (0 < toBits binary64 u % 4503599627370496) × (toBits binary64 u % 4503599627370496 < 2047)
+field-within n u l = rw (lifted-field n u l) (l .field .least, l .field .most)
+
+pub lifted-number : (n : ℤ) (u : Float) → Lifted n u → T (not (isNan u))
+lifted-number n u l = rw (l .value) (whole-number binary64 (4503599627370496 + l .b))
+
 module _ (y : Float) (h : Span 1022 2047 2 y) where
   bounds : (0 < numOf y / denOf y) × (numOf y / denOf y < 2047)
   bounds = whole-low (numOf y) (denOf y) (den-pos y) (num-low y h) (num-high y h)
@@ -373,22 +421,24 @@ module _ (y : Float) (h : Span 1022 2047 2 y) where
     most = omega (arith, bounds .1);
   }
 
-  pub cut-small : (t : ℕ) → t ≡ toUnsigned 64 (add binary64 y (number 1023)) → (0 < t) × (t ≤ 2048)
-  cut-small t e = let c = cut y h in (omega (arith, c .least, bounds .0), omega (arith, c .most, bounds .1))
+  -- the comparison in code is that of the exact fraction with the whole number near it
+  tested : (t : ℕ) (s : Float) (r : Bool) → t ≤ 2048 → s ≡ number (4503599627370496 + t) → lt y (sub binary64 s (number 4503599627371519)) ≡ r → ltb (numOf y) (t * denOf y) ≡ r
+  tested t s r b e g =
+      let k : sub binary64 s (number 4503599627371519) ≡ ofInt binary64 (minus t 1023) = rw e (unbias t (omega arith)) in
+      sym (lt-shift y t h b) ∙ ap (lt y) (sym k) ∙ g
 
-  -- the comparison in code is that of the exact fraction with the cut
-  tested : (t : ℕ) (r : Bool) → t ≤ 2048 → lt y (sub binary64 (number t) (number 1023)) ≡ r → ltb (numOf y) (t * denOf y) ≡ r
-  tested t r s g = sym (lt-shift y t h s) ∙ ap (lt y) (sym (sub-whole binary64 t 1023 (omega arith) (lit≤ tt))) ∙ g
+  pub takes : (s : Float) → s ≡ add binary64 y (number 4503599627371519) → lt y (sub binary64 s (number 4503599627371519)) ≡ true → Lifted (floorOf y) (sub binary64 s (number 1))
+  takes s e g =
+      let c = near y h in
+      let v = e ∙ c .value in
+      let i = is-field (c .t - 1) (under (numOf y) (denOf y) (c .t) (den-pos y) (c .least) (c .most) (tested (c .t) s true (omega (arith, c .most, bounds .1)) v g)) in
+      record { b = c .t - 1; field = i; value = rw v (one-less (c .t) (omega (arith, c .least, bounds .0)) (omega (arith, c .most, bounds .1))) }
 
-  pub takes : (t : ℕ) → t ≡ toUnsigned 64 (add binary64 y (number 1023)) → lt y (sub binary64 (number t) (number 1023)) ≡ true → FieldOf (floorOf y) (t - 1)
-  takes t e g =
-      let c = cut y h in
-      is-field (t - 1) (under (numOf y) (denOf y) t (den-pos y) (omega (arith, c .least)) (omega (arith, c .most)) (tested t true (cut-small t e .1) g))
-
-  pub keeps : (t : ℕ) → t ≡ toUnsigned 64 (add binary64 y (number 1023)) → lt y (sub binary64 (number t) (number 1023)) ≡ false → FieldOf (floorOf y) t
-  keeps t e g =
-      let c = cut y h in
-      is-field t (over (numOf y) (denOf y) t (den-pos y) (omega (arith, c .least)) (omega (arith, c .most)) (tested t false (cut-small t e .1) g))
+  pub keeps : (s : Float) → s ≡ add binary64 y (number 4503599627371519) → lt y (sub binary64 s (number 4503599627371519)) ≡ false → Lifted (floorOf y) s
+  keeps s e g =
+      let c = near y h in
+      let v = e ∙ c .value in
+      record { b = c .t; field = is-field (c .t) (over (numOf y) (denOf y) (c .t) (den-pos y) (c .least) (c .most) (tested (c .t) s false (omega (arith, c .most, bounds .1)) v g)); value = v }
 
 -- ---- `floorOf` is the floor: n ≤ y < n + 1, where n is gain n − loss n and y is (gain − loss) / down e, each side times down e and with what is taken off on the other side
 abbrev pub gain : ℤ → ℕ

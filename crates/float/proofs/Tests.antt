@@ -102,7 +102,7 @@ abs-negative (inf false) h = absurd (true≢false (sym h))
 abs-negative (fin true m e) h = refl
 abs-negative (fin false m e) h = absurd (not-below m e h)
 
-zero-place : (s : Bool) (e : ℤ) → T (fits binary64 (fin s 0 e)) → e ≡ pos 0
+pub zero-place : (s : Bool) (e : ℤ) → T (fits binary64 (fin s 0 e)) → e ≡ pos 0
 unfolding fits
 zero-place s (pos zero) h = refl
 zero-place s (pos (suc k)) h = absurd (clash (eqb→eq (2 ^ suc k * 1) 1 h))

@@ -5,10 +5,10 @@ use mathlib.Core.Bool.{Bool, false, cond, _&&_}
 use Prim.Native.Nat.{ℕ, _+_, _*_, _-_, _/_, _^_, _<_, _≤_}
 use lib.Dec.{T, ltb}
 use lib.IntN.{ℤ}
-use lib.Ieee.{Float, fin, binary64, minus, round, add, mul, div, neg, le}
+use lib.Ieee.{Float, fin, binary64, minus, round, add, mul, div, neg, le, ofInt}
 use lib.Ieee.Positive.{num, den}
 use Rattle.float.specs.Arithmetic.{f64, number}
-use Rattle.float.specs.Exponential.{expFrom, leftOf}
+use Rattle.float.specs.Exponential.{expFrom, leftOf, floorOf, turnsOf}
 use Rattle.float.specs.declared.Four.{Four}
 
 -- ---- a positive float taken apart and put together
@@ -76,6 +76,12 @@ pub record FieldOf (n : ℤ) (b : ℕ) : Type 0 where
   pub least : 0 < b
   pub most : b < 2047
 
+-- u is 2^52 + b, b being that field
+pub record Lifted (n : ℤ) (u : Float) : Type 0 where
+  pub b : ℕ
+  pub field : FieldOf n b
+  pub value : u ≡ number (4503599627370496 + b)
+
 -- the series at the rest of x, n being a whole number as a float, times w
 abbrev pub raised : Float → Float → Float → Float
 raised x n w = mul binary64 (expFrom 13 (leftOf x n) (number 1)) w
@@ -92,9 +98,30 @@ steppedFour r p j = record { a = stepped (r .a) (p .a) j; b = stepped (r .b) (p 
 abbrev pub leftFour : Four → Four → Four
 leftFour x n = record { a = leftOf (x .a) (n .a); b = leftOf (x .b) (n .b); c = leftOf (x .c) (n .c); e = leftOf (x .e) (n .e) }
 
-abbrev pub raisedFour : Four → Four → Four → Four
-raisedFour x n w =
-    record { a = raised (x .a) (n .a) (w .a); b = raised (x .b) (n .b) (w .b); c = raised (x .c) (n .c) (w .c); e = raised (x .e) (n .e) (w .e) }
+-- the series of each from p, with j steps left; p begins at 1
+abbrev pub seriesFour : ℕ → Four → Four → Four
+seriesFour j r p = record { a = expFrom j (r .a) (p .a); b = expFrom j (r .b) (p .b); c = expFrom j (r .c) (p .c); e = expFrom j (r .e) (p .e) }
+
+abbrev pub onesFour : Four
+onesFour = record { a = number 1; b = number 1; c = number 1; e = number 1 }
+
+abbrev pub timesFour : Four → Four → Four
+timesFour p w =
+    record { a = mul binary64 (p .a) (w .a); b = mul binary64 (p .b) (w .b); c = mul binary64 (p .c) (w .c); e = mul binary64 (p .e) (w .e) }
+
+-- n is x's whole number as a float, and w is 2^n
+pub record OnePower (x n w : Float) : Type 0 where
+  pub whole : n ≡ ofInt binary64 (floorOf (turnsOf x))
+  pub power : w ≡ fin false 1 (floorOf (turnsOf x))
+
+pub record PowersOf (x n w : Four) : Type 0 where
+  pub at-a : OnePower (x .a) (n .a) (w .a)
+  pub at-b : OnePower (x .b) (n .b) (w .b)
+  pub at-c : OnePower (x .c) (n .c) (w .c)
+  pub at-e : OnePower (x .e) (n .e) (w .e)
+
+abbrev pub allInside : Four → Bool
+allInside x = inside (x .a) && inside (x .b) && inside (x .c) && inside (x .e)
 
 pub record AllInside (x : Four) : Type 0 where
   pub at-a : T (inside (x .a))

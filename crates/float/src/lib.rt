@@ -4,14 +4,14 @@
 ghost use mathlib.Core.Path.{_≡_};
 ghost use Prim.Native.Nat.{_+_, _*_, _-_, _^_, _<_, _≤_};
 ghost use lib.Dec.{T};
-ghost use lib.Ieee.{ofInt, ofBits, toBits, minus, binary64};
+ghost use lib.Ieee.{ofBits, toBits, binary64};
 ghost use lib.Ieee.Positive.{positive};
 ghost use Rattle.float.specs.Arithmetic.{maxOf, clampOf, absOf};
 ghost use Rattle.float.specs.Root.{rootOf, positiveRoot};
 ghost use Rattle.float.specs.Exponential.{expOf, expBy, floorOf, turnsOf};
 ghost use Rattle.float.specs.Logarithm.{lnOf, lnBy, lnAt, exponentOf, fractionOf};
-ghost use Rattle.float.specs.Fours.{exponentials};
-ghost use Rattle.float.specs.Steps.{Placed, roundedOf, Open, doubleOf, NearHalf, Nearest, SplitOf, valueOf, powerOf, raised, inside, FieldOf, steppedFour, leftFour, raisedFour, AllInside};
+ghost use Rattle.float.specs.Fours.{exponentials, eightOf};
+ghost use Rattle.float.specs.Steps.{Placed, roundedOf, Open, doubleOf, NearHalf, Nearest, SplitOf, valueOf, powerOf, raised, inside, Lifted, OnePower, steppedFour, leftFour, seriesFour, onesFour, timesFour, allInside, AllInside, PowersOf};
 
 // The greater of two; with one NaN the other operand.
 pub fn max(x: f64, y: f64) -> f64
@@ -303,24 +303,38 @@ fn raise(x: f64, n: f64, w: f64) -> f64
     p * w
 }
 
-// The exponent's field of 2^n, n being the floor of x * 1.4426950408889634 + 0.5, for an x from -708 to 709. The sum is
-// made positive before it is cut, and the cut is compared with it, since adding 1023 may round.
-fn field(x: f64) -> u64
+// 2^52 + b, b being the exponent's field of 2^n and n the floor of y = x * 1.4426950408889634 + 0.5, for an x from -708 to 709. From 2^52 on an f64 is
+// a whole number, so adding 2^52 + 1023 rounds y to one; it is compared with y, since it may be the one above.
+fn lifted(x: f64) -> f64
     requires { ⌜ T (inside x) ⌝ }
-    ensures { λ r. ⌜ FieldOf (floorOf (turnsOf x)) r ⌝ }
+    ensures { λ r. ⌜ Lifted (floorOf (turnsOf x)) r ⌝ }
 {
     let y = x * 1.4426950408889634 + 0.5;
-    let t = std::num::truncating_f64_to_u64(y + 1023.0);
-    let k = (t as f64) - 1023.0;
-    if y < k { t - 1 } else { t }
+    let s = y + 4503599627371519.0;
+    if y < s - 4503599627371519.0 {
+        s - 1.0
+    } else {
+        s
+    }
 }
 
-// The whole number b - 1023 as a float.
-fn unbiased(b: u64) -> f64
-    requires { ⌜ b < 2047 ⌝ }
-    ensures { λ r. ⌜ r ≡ ofInt binary64 (minus b 1023) ⌝ }
+// A whole number n as a float, and 2^n.
+struct Exponent {
+    n: f64,
+    w: f64,
+}
+
+// n and 2^n of an x: the digits of 2^52 + b are those of b.
+fn power(x: f64) -> Exponent
+    requires { ⌜ T (inside x) ⌝ }
+    ensures { λ r. ⌜ OnePower x (r .n) (r .w) ⌝ }
 {
-    (b as f64) - 1023.0
+    let u = lifted(x);
+    let b = f64::to_bits(u) % 4503599627370496;
+    Exponent {
+        n: u - 4503599627371519.0,
+        w: pow2(b),
+    }
 }
 
 // The exponential between its borders.
@@ -328,11 +342,11 @@ fn inner_exp(x: f64) -> f64
     requires { ⌜ T (inside x) ⌝ }
     ensures { λ r. ⌜ r ≡ expBy x (floorOf (turnsOf x)) ⌝ }
 {
-    let b = field(x);
-    raise(x, unbiased(b), pow2(b))
+    let p = power(x);
+    raise(x, p.n, p.w)
 }
 
-// The exponential: NaN for NaN, +infinity above 709, +0 below -708.
+// The exponential: NaN for NaN, +infinity above 709, +0 below -708. That of a zero is 1, which needs no series.
 pub fn exp(x: f64) -> f64
     ensures { λ r. ⌜ r ≡ expOf x ⌝ }
 {
@@ -344,6 +358,9 @@ pub fn exp(x: f64) -> f64
     }
     if x < -708.0 {
         return 0.0;
+    }
+    if x == 0.0 {
+        return 1.0;
     }
     inner_exp(x)
 }
@@ -387,30 +404,28 @@ fn left4(x: Four, n: Four) -> Four
     }
 }
 
-// As raise, four times.
-fn raise4(x: Four, n: Four, w: Four) -> Four
-    ensures { λ q. ⌜ q ≡ raisedFour x n w ⌝ }
+// The series at each of four: p = 1 + (r * p) / j, for j = 13 down to 1.
+fn series4(r: Four) -> Four
+    ensures { λ q. ⌜ q ≡ seriesFour 13 r onesFour ⌝ }
 {
-    let r = left4(x, n);
-    let p = Four {
+    let mut p = Four {
         a: 1.0,
         b: 1.0,
         c: 1.0,
         e: 1.0,
     };
-    let p = step4(r, p, 13.0);
-    let p = step4(r, p, 12.0);
-    let p = step4(r, p, 11.0);
-    let p = step4(r, p, 10.0);
-    let p = step4(r, p, 9.0);
-    let p = step4(r, p, 8.0);
-    let p = step4(r, p, 7.0);
-    let p = step4(r, p, 6.0);
-    let p = step4(r, p, 5.0);
-    let p = step4(r, p, 4.0);
-    let p = step4(r, p, 3.0);
-    let p = step4(r, p, 2.0);
-    let p = step4(r, p, 1.0);
+    let mut j: u64 = 13;
+    while 0 < j {
+        p = step4(r, p, j as f64);
+        j -= 1;
+    }
+    p
+}
+
+// Each p times its w.
+fn times4(p: Four, w: Four) -> Four
+    ensures { λ q. ⌜ q ≡ timesFour p w ⌝ }
+{
     Four {
         a: p.a * w.a,
         b: p.b * w.b,
@@ -419,28 +434,52 @@ fn raise4(x: Four, n: Four, w: Four) -> Four
     }
 }
 
+// Four whole numbers as floats, and their powers of two.
+struct Powers {
+    n: Four,
+    w: Four,
+}
+
+// n and 2^n of each x.
+fn powers4(x: Four) -> Powers
+    requires { ⌜ AllInside x ⌝ }
+    ensures { λ r. ⌜ PowersOf x (r .n) (r .w) ⌝ }
+{
+    let i = power(x.a);
+    let j = power(x.b);
+    let k = power(x.c);
+    let l = power(x.e);
+    let n = Four {
+        a: i.n,
+        b: j.n,
+        c: k.n,
+        e: l.n,
+    };
+    let w = Four {
+        a: i.w,
+        b: j.w,
+        c: k.w,
+        e: l.w,
+    };
+    Powers { n, w }
+}
+
 // Four exponentials between their borders.
 fn inner_exp4(x: Four) -> Four
     requires { ⌜ AllInside x ⌝ }
     ensures { λ r. ⌜ r ≡ exponentials x ⌝ }
 {
-    let i = field(x.a);
-    let j = field(x.b);
-    let k = field(x.c);
-    let l = field(x.e);
-    let n = Four {
-        a: unbiased(i),
-        b: unbiased(j),
-        c: unbiased(k),
-        e: unbiased(l),
-    };
-    let w = Four {
-        a: pow2(i),
-        b: pow2(j),
-        c: pow2(k),
-        e: pow2(l),
-    };
-    raise4(x, n, w)
+    let s = powers4(x);
+    let n = s.n;
+    let w = s.w;
+    times4(series4(left4(x, n)), w)
+}
+
+// Whether all four are from -708 to 709.
+fn all_inside(x: Four) -> bool
+    ensures { λ r. ⌜ r ≡ allInside x ⌝ }
+{
+    is_inside(x.a) & is_inside(x.b) & is_inside(x.c) & is_inside(x.e)
 }
 
 // Four exponentials: zeros where all are below -708, side by side where all are between the borders, else one by one.
@@ -455,7 +494,7 @@ pub fn exp4(x: Four) -> Four
             e: 0.0,
         };
     }
-    if is_inside(x.a) & is_inside(x.b) & is_inside(x.c) & is_inside(x.e) {
+    if all_inside(x) {
         return inner_exp4(x);
     }
     Four {
@@ -463,6 +502,66 @@ pub fn exp4(x: Four) -> Four
         b: exp(x.b),
         c: exp(x.c),
         e: exp(x.e),
+    }
+}
+
+// Eight floats.
+pub struct Eight {
+    pub first: Four,
+    pub last: Four,
+}
+
+// As series4, of eight: a loop in which no step waits for another one's, since each is a chain of its own.
+fn series8(r: Four, t: Four) -> Eight
+    ensures { λ q. ⌜ q ≡ eightOf (seriesFour 13 r onesFour) (seriesFour 13 t onesFour) ⌝ }
+{
+    let mut p = Four {
+        a: 1.0,
+        b: 1.0,
+        c: 1.0,
+        e: 1.0,
+    };
+    let mut q = p;
+    let mut j: u64 = 13;
+    while 0 < j {
+        let k = j as f64;
+        p = step4(r, p, k);
+        q = step4(t, q, k);
+        j -= 1;
+    }
+    Eight { first: p, last: q }
+}
+
+// Eight exponentials between their borders.
+fn inner_exp8(x: Four, y: Four) -> Eight
+    requires { ⌜ (AllInside x) × (AllInside y) ⌝ }
+    ensures { λ r. ⌜ r ≡ eightOf (exponentials x) (exponentials y) ⌝ }
+{
+    let s = powers4(x);
+    let t = powers4(y);
+    let n = s.n;
+    let u = t.n;
+    let p = series8(left4(x, n), left4(y, u));
+    let v = s.w;
+    let w = t.w;
+    let f = p.first;
+    let l = p.last;
+    Eight {
+        first: times4(f, v),
+        last: times4(l, w),
+    }
+}
+
+// Eight exponentials: side by side where all are between the borders, else by fours.
+pub fn exp8(x: Four, y: Four) -> Eight
+    ensures { λ r. ⌜ r ≡ eightOf (exponentials x) (exponentials y) ⌝ }
+{
+    if all_inside(x) & all_inside(y) {
+        return inner_exp8(x, y);
+    }
+    Eight {
+        first: exp4(x),
+        last: exp4(y),
     }
 }
 

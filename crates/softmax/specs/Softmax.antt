@@ -1,13 +1,16 @@
 -- Document 01, 'Mixture' (vmf.rs, the E-step): the log-space softmax of one leaf's likenesses. Definitions only.
 use mathlib.Core.List.{List, [], _∷_, _++_}
 use Prim.Native.Nat.{ℕ, _+_}
-use lib.ListN.{getD, take, drop}
+use lib.Dec.{ltb}
+use lib.ListN.{length, getD, take, drop, set}
 use lib.Ieee.{Float, nan, inf, binary64, add, sub}
-use mathlib.Core.Bool.{true}
+use mathlib.Core.Bool.{true, cond}
 use Rattle.float.specs.Arithmetic.{plusZero, maxOf}
 use Rattle.float.specs.Exponential.{expOf}
 use Rattle.float.specs.Logarithm.{lnOf}
+use Rattle.float.specs.Fours.{exponentials, eightOf}
 use Rattle.float.specs.declared.Four.{Four}
+use Rattle.float.specs.declared.Eight.{Eight}
 
 -- the greatest of g and the elements, by `max` in order
 abbrev pub greatestFrom : Float → List Float → Float
@@ -37,11 +40,27 @@ sharesOf lse (x ∷ xs) = expOf (sub binary64 x lse) ∷ sharesOf lse xs
 abbrev pub sharesAfter : Float → ℕ → List Float → List Float
 sharesAfter lse j row = take j row ++ sharesOf lse (drop j row)
 
--- exp(x − g) of the elements j to j + 3
+-- x − g of element i; past the end, +0
+abbrev pub lessAt : Float → List Float → ℕ → Float
+lessAt g row i = cond (ltb i (length row)) (sub binary64 (getD row i nan) g) plusZero
+
+abbrev pub fourLess : Float → List Float → ℕ → Four
+fourLess g row i = record { a = lessAt g row i; b = lessAt g row (i + 1); c = lessAt g row (i + 2); e = lessAt g row (i + 3) }
+
+-- exp(x − g) of the elements i to i + 3, or i to i + 7; past the end, that of +0
 abbrev pub fourShares : Float → List Float → ℕ → Four
-fourShares g row j = record {
-  a = expOf (sub binary64 (getD row j nan) g);
-  b = expOf (sub binary64 (getD row (j + 1) nan) g);
-  c = expOf (sub binary64 (getD row (j + 2) nan) g);
-  e = expOf (sub binary64 (getD row (j + 3) nan) g);
-}
+fourShares g row i = exponentials (fourLess g row i)
+
+abbrev pub eightShares : Float → List Float → ℕ → Eight
+eightShares g row i = eightOf (fourShares g row i) (fourShares g row (i + 4))
+
+-- s with v added, if there is an element i among n
+abbrev pub addedAt : ℕ → Float → ℕ → Float → Float
+addedAt n s i v = cond (ltb i n) (add binary64 s v) s
+
+abbrev pub fourAdded : ℕ → Float → ℕ → Four → Float
+fourAdded n s i f = addedAt n (addedAt n (addedAt n (addedAt n s i (f .a)) (i + 1) (f .b)) (i + 2) (f .c)) (i + 3) (f .e)
+
+-- the row with the four in the place of the elements i to i + 3, as far as there are any
+abbrev pub fourSet : List Float → ℕ → Four → List Float
+fourSet row i f = set (set (set (set row i (f .a)) (i + 1) (f .b)) (i + 2) (f .c)) (i + 3) (f .e)

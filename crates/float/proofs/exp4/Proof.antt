@@ -1,4 +1,5 @@
 -- `float::exp4` meets its contract: all four below the lower border, all four between the borders, and else each by itself. Assumes nothing.
+use mathlib.Core.Path.{sym, _∙_}
 use lib.Ieee.{ofBits, ofInt}
 use Rattle.float.proofs.Fours.{four-of, all-below, all-inside}
 use borrow.Author.Needs.{needs}
@@ -9,23 +10,13 @@ returns : tie.Need-returns
 unfolding ofBits ofInt
 returns c = all-below (c .before .before .before .before .before .args .x) (c .if1 .taken)
 
-is-inside-requires : tie.Need-is-inside-requires
-is-inside-requires c κs = search needs
-
-is-inside-requires-2 : tie.Need-is-inside-requires-2
-is-inside-requires-2 c κs = search needs
-
-is-inside-requires-3 : tie.Need-is-inside-requires-3
-is-inside-requires-3 c κs = search needs
-
-is-inside-requires-4 : tie.Need-is-inside-requires-4
-is-inside-requires-4 c κs = search needs
+all-inside-requires : tie.Need-all-inside-requires
+all-inside-requires c κs = search needs
 
 inner-exp4-requires : tie.Need-inner-exp4-requires
 inner-exp4-requires c κs =
     let i = c .before in
-    let x = i .before .before .before .before .before .before .before .before .before .args .x in
-    all-inside x _ _ _ _ (i .before .before .before .is-inside .ensures) (i .before .before .is-inside2 .ensures) (i .before .is-inside3 .ensures) (i .is-inside4 .ensures) (c .if2 .taken)
+    all-inside (i .before .before .before .before .before .before .args .x) (sym (i .all-inside .ensures) ∙ c .if2 .taken)
 
 returns-2 : tie.Need-returns-2
 returns-2 c = search needs
@@ -44,7 +35,7 @@ exp-requires-4 c κs = search needs
 
 returns-3 : tie.Need-returns-3
 returns-3 c =
-    let x = c .before .before .before .before .before .before .before .before .before .before .before .before .before .before .args .x in
+    let x = c .before .before .before .before .before .before .before .before .before .before .before .args .x in
     four-of x _ _ _ _ (c .before .before .before .exp .ensures) (c .before .before .exp2 .ensures) (c .before .exp3 .ensures) (c .exp4 .ensures)
 
 pub exp4-spec : {M : Type 1} → statement M
@@ -52,10 +43,7 @@ exp4-spec =
     tie.close
     (tie.spec
     returns
-    is-inside-requires
-    is-inside-requires-2
-    is-inside-requires-3
-    is-inside-requires-4
+    all-inside-requires
     inner-exp4-requires
     returns-2
     exp-requires
