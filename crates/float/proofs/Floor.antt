@@ -3,12 +3,12 @@
 use mathlib.Core.Path.{_≡_, refl, sym, ap, ap₂, _∙_, subst}
 use mathlib.Core.Logic.{_⊎_, inl, inr}
 use Prim.Native.Nat.{ℕ, zero, suc, _+_, _-_, _*_, _/_, _%_, _^_, _≤_, _<_}
-use native.Mathlib.Nat.{le-trans, le-of-eq, lt-of-le-of-lt, lt-of-lt-of-le, mul-one, mul-comm, mul-assoc, mul-right-comm, mul-le-mul-right, mul-pos, le-div-iff-mul-le, div-lt-iff-lt-mul, div-mul-le-self, min-le-left, le-min, add-mul, lt-of-mul-lt-mul-right, mul-lt-mul-of-pos-right, pow-suc}
+use native.Mathlib.Nat.{le-trans, lt-of-lt-of-le, mul-one, mul-comm, mul-assoc, mul-right-comm, mul-le-mul-right, mul-pos, le-div-iff-mul-le, div-lt-iff-lt-mul, div-mul-le-self, add-mul, lt-of-mul-lt-mul-right, mul-lt-mul-of-pos-right, pow-suc}
 use native.Mathlib.Omega.{arith}
 use mathlib.Core.Bool.{Bool, true, false, not, _&&_, cond, true≢false}
 use lib.IntN.{ℤ, pos, negsuc, negℤ}
 use lib.Pow.{pow-pos}
-use lib.Dec.{T, ltb, ltb→lt, nltb→le, lit≤, lit<, lt→ltb, not-T}
+use lib.Dec.{T, ltb, ltb→lt, nltb→le, lit≤, lit<, not-T}
 use borrow.Author.Tests.{lt-ltb, le-ltb, le-leb, lt-leb}
 use lib.Ieee.{Float, nan, inf, fin, binary64, up, down, minus, round, sum, add, sub, neg, mul, lt, le, eq, isNan, ofInt, ofBits, toBits, fits}
 use lib.Ieee.Fits.{and-l, and-r, down-pos, round-fits, ofInt-fits}

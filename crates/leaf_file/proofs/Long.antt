@@ -7,7 +7,7 @@ use Prim.Native.Nat.{ℕ, zero, suc, _+_, _*_, _≤_, _<_}
 use native.Mathlib.Nat.{mul-le-mul}
 use native.Mathlib.Omega.{arith}
 use lib.Dec.{leb, eqb}
-use lib.ListN.{length, getD, take}
+use lib.ListN.{length, take}
 use lib.Seq.{length-take-le, getD-take}
 use borrow.Author.Tests.{le-leb, leb-true, ne-eqb}
 use Rattle.spherical.specs.Refusals.{need}

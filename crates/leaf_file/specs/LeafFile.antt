@@ -8,7 +8,7 @@ use lib.Dec.{leb, eqb}
 use lib.ListN.{length, getD, replicate}
 use lib.Ieee.{Float, binary64, ofBits}
 use Rattle.float.specs.Arithmetic.{plusZero}
-use Rattle.spherical.specs.Refusals.{need}
+use Rattle.spherical.specs.Refusals.{need, workLength, marksLength}
 use Rattle.mixture.specs.Kappas.{tabulate}
 use Rattle.mixture.specs.declared.Settings.{Settings}
 use Rattle.mixture.specs.declared.Kappa.the-variants.{Free}
@@ -63,27 +63,33 @@ fileRefusal bytes = need (leb 8 (length bytes)) 8 (refusalBy (length bytes) (u32
 abbrev pub settings : Settings
 settings = record { rounds = 100; seed = 7; kappa = Free }
 
--- beside the labels, arrays long enough for 4 groups of 64 leaves of 16 coordinates
+-- beside the labels, arrays as long as 64 leaves of 16 coordinates in 4 groups make them; the work arrays likewise
 abbrev pub room : List ℕ → Outputs
-room labels = arrays labels (replicate 256 plusZero) (replicate 4 plusZero) (replicate 64 plusZero) (replicate 4 plusZero) (replicate 4 plusZero)
+room labels = arrays labels (replicate (64 * 4) plusZero) (replicate 4 plusZero) (replicate (4 * 16) plusZero) (replicate 4 plusZero) (replicate 4 plusZero)
 
-unfoldable pub fitOf : Leaves → List ℕ → Outcome
-fitOf l labels = outcome (room labels) (l .weights) (l .coords) (l .d) settings 1 4 1344 136
+abbrev pub workRoom : ℕ
+workRoom = workLength 64 4 16
+
+abbrev pub marksRoom : ℕ
+marksRoom = marksLength 64 4
+
+unfoldable pub leavesFit : Leaves → List ℕ → Outcome
+leavesFit l labels = outcome (room labels) (l .weights) (l .coords) (l .d) settings 1 4 workRoom marksRoom
 
 -- the mission's third demand of such a fit, which no number from 1 to 6 refuses: it keeps exactly the best number of groups
 abbrev pub KeepsBest : Leaves → List ℕ → Chosen → Type 0
 KeepsBest l labels answer =
-    refusalOf (l .weights) (l .coords) (l .d) (highest 4 (length (l .weights))) 100 (lengthsOf (room labels) 1344 136) ≡ 0
-    → Best (room labels) (l .weights) (l .coords) (l .d) settings (lowest 1 (highest 4 (length (l .weights)))) (highest 4 (length (l .weights))) answer (fitOf l labels .outputs)
+    refusalOf (l .weights) (l .coords) (l .d) (highest 4 (length (l .weights))) 100 (lengthsOf (room labels) workRoom marksRoom) ≡ 0
+    → Best (room labels) (l .weights) (l .coords) (l .d) settings (lowest 1 (highest 4 (length (l .weights)))) (highest 4 (length (l .weights))) answer (leavesFit l labels .outputs)
 
 -- what a call answers, and the labels after it; the labels as found where the file is refused
-pub record Filed : Type 0 where
+pub record FileFit : Type 0 where
   pub answer : Chosen
   pub labels : List ℕ
 
-abbrev pub filedBy : ℕ → Leaves → List ℕ → Filed
-filedBy zero l labels = record { answer = fitOf l labels .answer; labels = fitOf l labels .outputs .labels }
-filedBy (suc code) l labels = record { answer = Refused (suc code); labels = labels }
+abbrev pub fileFitBy : ℕ → Leaves → List ℕ → FileFit
+fileFitBy zero l labels = record { answer = leavesFit l labels .answer; labels = leavesFit l labels .outputs .labels }
+fileFitBy (suc code) l labels = record { answer = Refused (suc code); labels = labels }
 
-abbrev pub filed : List ℕ → List ℕ → Filed
-filed bytes labels = filedBy (fileRefusal bytes) (leavesIn bytes) labels
+abbrev pub fileFit : List ℕ → List ℕ → FileFit
+fileFit bytes labels = fileFitBy (fileRefusal bytes) (leavesIn bytes) labels

@@ -6,7 +6,7 @@ use lib.Dec.{ltb}
 use lib.ListN.{length, getD, take, replicate}
 use Rattle.auto.specs.declared.Chosen.{Chosen}
 use Rattle.auto.specs.declared.Chosen.the-variants.{Refused, Unscored, Done}
-use Rattle.leaf_file.specs.LeafFile.{Leaves, fitOf, fileRefusal, leavesIn}
+use Rattle.leaf_file.specs.LeafFile.{Leaves, leavesFit, fileRefusal, leavesIn}
 
 -- ---- numbers
 
@@ -74,7 +74,7 @@ abbrev pub blank : List ℕ
 blank = replicate 64 0
 
 abbrev pub leavesText : Leaves → List ℕ
-leavesText l = textOf (fitOf l blank .answer) (take (length (l .weights)) (fitOf l blank .outputs .labels))
+leavesText l = textOf (leavesFit l blank .answer) (take (length (l .weights)) (leavesFit l blank .outputs .labels))
 
 abbrev pub listingBy : ℕ → Leaves → List ℕ
 listingBy zero l = leavesText l

@@ -12,11 +12,10 @@ pub record Sized (n weights coords m d : ℕ) : Type 0 where
 
 -- text was put at place `at`, `end` is the place after it, and what lies before and behind is as it was
 pub record Put (text before after : List ℕ) (at end : ℕ) : Type 0 where
-  pub same : length after ≡ length before
   pub ends : end ≡ at + length text
   pub front : take end after ≡ take at before ++ text
   pub rest : drop end after ≡ drop end before
 
--- n counts bytes at the start of an array. The second part follows from the first; both are stated, since lending that part of the array asks for both
-abbrev pub Counted : ℕ → List ℕ → Type 0
-Counted n bytes = (n ≤ length bytes) × (n ≡ length (take n bytes))
+-- n counts elements at the start of an array. The second part follows from the first; both are stated, since lending that part of the array asks for both
+abbrev pub Counted : {A : Type 0} → ℕ → List A → Type 0
+Counted n xs = (n ≤ length xs) × (n ≡ length (take n xs))

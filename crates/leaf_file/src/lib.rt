@@ -3,7 +3,7 @@ ghost use mathlib.Core.Path.{_≡_};
 ghost use mathlib.Core.List.{[], _∷_, _++_};
 ghost use Prim.Native.Nat.{_+_, _*_, _≤_, _<_};
 ghost use lib.ListN.{length, drop};
-ghost use Rattle.leaf_file.specs.LeafFile.{wholeAt, f64At, f64sAt, refusalBy, fileRefusal, leavesOf, leavesIn, KeepsBest, Filed, filedBy, filed};
+ghost use Rattle.leaf_file.specs.LeafFile.{wholeAt, f64At, f64sAt, refusalBy, fileRefusal, leavesOf, leavesIn, KeepsBest, FileFit, fileFitBy, fileFit};
 ghost use Rattle.leaf_file.specs.Listing.{decimalIn, numberLine, shopLine, shopLines, groupsText, refusedText, textOf, listing};
 ghost use Rattle.leaf_file.specs.Texts.{Sized, Put, Counted};
 
@@ -81,8 +81,8 @@ fn file_refusal(bytes: &[u8]) -> u32
 
 // The automatic fit of leaves: k 1 to 4, 100 rounds, seed 7, Free.
 fn fit_leaves(weights: &[f64], coords: &[f64], d: usize, labels: &mut [u32]) -> auto::Chosen
-    ensures { λ r. ⌜ _≡_ {A = Filed} (record { answer = r; labels = now (labels .exit) })
-        (filedBy 0 (record { d = d; weights = now (weights .entry); coords = now (coords .entry) }) (now (labels .entry))) ⌝ }
+    ensures { λ r. ⌜ _≡_ {A = FileFit} (record { answer = r; labels = now (labels .exit) })
+        (fileFitBy 0 (record { d = d; weights = now (weights .entry); coords = now (coords .entry) }) (now (labels .entry))) ⌝ }
     ensures { λ r. ⌜ KeepsBest (record { d = d; weights = now (weights .entry); coords = now (coords .entry) }) (now (labels .entry)) r ⌝ }
 {
     let mut responsibilities = [0.0; 256];
@@ -121,7 +121,7 @@ fn fit_sized(
     labels: &mut [u32],
 ) -> auto::Chosen
     requires { ⌜ Sized (length (now bytes)) (length (now weights)) (length (now coords)) m d ⌝ }
-    ensures { λ r. ⌜ _≡_ {A = Filed} (record { answer = r; labels = now (labels .exit) }) (filedBy 0 (leavesOf (now (bytes .entry)) m d) (now (labels .entry))) ⌝ }
+    ensures { λ r. ⌜ _≡_ {A = FileFit} (record { answer = r; labels = now (labels .exit) }) (fileFitBy 0 (leavesOf (now (bytes .entry)) m d) (now (labels .entry))) ⌝ }
     ensures { λ r. ⌜ KeepsBest (leavesOf (now (bytes .entry)) m d) (now (labels .entry)) r ⌝ }
 {
     let n = m * d;
@@ -132,7 +132,7 @@ fn fit_sized(
 
 // The automatic fit of a leaf file; the labels are as found where it is refused.
 pub fn fit_file(bytes: &[u8], labels: &mut [u32]) -> auto::Chosen
-    ensures { λ r. ⌜ _≡_ {A = Filed} (record { answer = r; labels = now (labels .exit) }) (filed (now (bytes .entry)) (now (labels .entry))) ⌝ }
+    ensures { λ r. ⌜ _≡_ {A = FileFit} (record { answer = r; labels = now (labels .exit) }) (fileFit (now (bytes .entry)) (now (labels .entry))) ⌝ }
     ensures { λ r. ⌜ (fileRefusal (now (bytes .entry)) ≡ 0 → KeepsBest (leavesIn (now (bytes .entry))) (now (labels .entry)) r) ⌝ }
 {
     let code = file_refusal(bytes);

@@ -48,13 +48,12 @@ startFrom kappa weights coords m k d warm =
 abbrev pub warmOf : List Float → List Float → ℕ → ℕ → ℕ → ℕ → Result
 warmOf weights coords m k d seed = resultOf weights coords m k d 50 seed
 
--- ---- one run: what the rounds leave, and the counts and the rounds begun of its warm start
+-- ---- one run: what the rounds leave, and the counts of its warm start
 pub record Once : Type 0 where
   pub em : Em
   pub made : ℕ
   pub saved : ℕ
   pub doubled : ℕ
-  pub begun : ℕ
 
 abbrev pub onceFrom : Settings → List Float → List Float → ℕ → ℕ → ℕ → Result → Once
 onceFrom s weights coords m k d warm =
@@ -63,7 +62,6 @@ onceFrom s weights coords m k d warm =
       made = warm .made;
       saved = warm .saved;
       doubled = warm .doubled;
-      begun = warm .begun;
     }
 
 unfoldable pub onceOf : Settings → List Float → List Float → ℕ → ℕ → ℕ → Once

@@ -8,7 +8,7 @@ use Rattle.mixture.specs.Mixture.{Em}
 use Rattle.mixture.specs.Fits.{Once, onceOf}
 use Rattle.mixture.specs.declared.Settings.{Settings}
 
--- what a run found, with the counts and the rounds begun of two
+-- what a run found, with the counts of two
 abbrev pub counted : Em → Once → Once → Once
 counted em held run =
     record {
@@ -16,7 +16,6 @@ counted em held run =
       made = held .made + run .made;
       saved = held .saved + run .saved;
       doubled = held .doubled + run .doubled;
-      begun = held .begun + run .begun;
     }
 
 -- a run replaces the held one unless its log-likelihood is ≤ the held one's, so a NaN replaces and is replaced

@@ -4,7 +4,7 @@
 // read case by case: `text` is one case, its words in and then the answer.
 ghost use Prim.Native.Nat.{_<_, _≤_};
 ghost use Rattle.bessel.specs.Concentration.{Dimension};
-ghost use Rattle.replay.specs.Parts.{Leads};
+ghost use Rattle.leaf_file.specs.Texts.{Counted};
 
 // The value of a hexadecimal digit; 0 for any other byte.
 fn digit(b: u8) -> u64
@@ -116,7 +116,7 @@ fn least(a: usize, b: usize) -> usize
 
 // Puts the n words from word `from` on at the start of v, and answers n; no more than v holds.
 fn load(v: &mut [f64], text: &[u8], from: usize, n: usize) -> usize
-    ensures { λ r. ⌜ Leads r (now (v .exit)) ⌝ }
+    ensures { λ r. ⌜ Counted r (now (v .exit)) ⌝ }
 {
     let m = least(n, v.len());
     let mut j = 0;
@@ -597,7 +597,7 @@ fn packed(text: &[u8], from: usize, i: usize) -> u8 {
 
 // Puts the first n packed bytes of the words in at the start of v, and answers n; no more than v holds.
 fn unpack(v: &mut [u8], text: &[u8], n: usize) -> usize
-    ensures { λ r. ⌜ Leads r (now (v .exit)) ⌝ }
+    ensures { λ r. ⌜ Counted r (now (v .exit)) ⌝ }
 {
     let m = least(n, v.len());
     let mut j = 0;

@@ -1,5 +1,5 @@
 -- `float::inner_exp8` meets its contract: what its calls ensure, put together for each four. Assumes nothing.
-use mathlib.Core.Path.{ap, ap₂, _∙_}
+use mathlib.Core.Path.{ap, ap₂}
 use Rattle.float.specs.Fours.{eightOf}
 use Rattle.float.specs.declared.Eight.{Eight}
 use Rattle.float.proofs.Fours.{four-done}

@@ -1,8 +1,4 @@
 -- `leaf_file::put_answer` meets its contract: a case of the text for each answer, which the match tells. Assumes nothing.
-use mathlib.Core.Path.{subst, sym}
-use Rattle.auto.specs.declared.Chosen.{Chosen}
-use Rattle.leaf_file.specs.Listing.{textOf}
-use Rattle.leaf_file.specs.Texts.{Put}
 use borrow.Author.Needs.{needs}
 use Rattle.leaf_file.proofs.put_answer.Statement.{statement}
 use Rattle.leaf_file.proofs.put_answer.Tie as tie

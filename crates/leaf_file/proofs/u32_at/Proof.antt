@@ -1,5 +1,4 @@
 -- `leaf_file::u32_at` meets its contract: the four bytes are those of the definition. Assumes nothing.
-use Prim.Native.Nat.{_+_}
 use native.Mathlib.Omega.{arith}
 use Rattle.leaf_file.proofs.Bytes.{whole-four}
 use borrow.Author.Needs.{needs}

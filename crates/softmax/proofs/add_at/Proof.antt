@@ -1,6 +1,5 @@
 -- `softmax::add_at` meets its contract: the test is that of the definition. Assumes nothing.
 use borrow.Author.Tests.{lt-ltb, le-ltb}
-use borrow.Author.Needs.{needs}
 use Rattle.softmax.proofs.add_at.Statement.{statement}
 use Rattle.softmax.proofs.add_at.Tie as tie
 
