@@ -9,7 +9,7 @@ use native.Mathlib.Omega.{arith}
 use lib.ListN.{length, drop}
 use lib.Seq.{drop-drop, drop-at}
 use lib.Ieee.{Float, lt}
-use Rattle.float.specs.Logarithm.{lnOf}
+use Rattle.logarithm.specs.Logarithm.{lnOf}
 use Rattle.vector.specs.Rows.{part, rowOf}
 use Rattle.vector.specs.Vectors.{argmaxOf}
 use Rattle.spherical.specs.Halves.{half, heldAt, freeAt}

@@ -4,7 +4,7 @@ use mathlib.Core.Bool.{Bool, true, false}
 use Prim.Native.Nat.{ℕ, zero, suc, _+_, min, max}
 use lib.Ieee.{Float, inf, binary64, add, mul, neg, lt}
 use Rattle.float.specs.Arithmetic.{number, minusZero, sumFrom}
-use Rattle.float.specs.Logarithm.{lnOf}
+use Rattle.logarithm.specs.Logarithm.{lnOf}
 use Rattle.mixture.specs.Kappas.{parametersOf}
 use Rattle.mixture.specs.declared.Kappa.{Kappa}
 use Rattle.auto.specs.declared.Choice.{Choice}

@@ -3,7 +3,7 @@
 ghost use mathlib.Core.Path.{_≡_};
 ghost use Prim.Native.Nat.{_+_, _*_, _-_, _≤_};
 ghost use lib.ListN.{length};
-ghost use Rattle.float.specs.Logarithm.{lnOf};
+ghost use Rattle.logarithm.specs.Logarithm.{lnOf};
 ghost use Rattle.mixture.specs.declared.Kappa.the-variants.{Free};
 ghost use Rattle.movmf.specs.Outcome.{arrays, lengthsOf};
 ghost use Rattle.auto.specs.Choice.{highest, lowest, totalOf, scoreBy, heldScore};
@@ -323,7 +323,7 @@ pub fn movmf_auto_with(
     if code != 0 {
         return Chosen::Refused(code);
     }
-    let ln_total = float::ln(vector::sum(weights));
+    let ln_total = logarithm::ln(vector::sum(weights));
     let t = try_numbers(
         weights,
         coords,

@@ -5,9 +5,9 @@ use mathlib.Core.Bool.{Bool, true, false, _&&_, _||_, cond}
 use Prim.Native.Nat.{ℕ, zero, suc}
 use lib.Ieee.{Float, binary64, add, sub, mul, div, neg, lt, le}
 use Rattle.float.specs.Arithmetic.{f64, number}
-use Rattle.float.specs.Root.{rootOf}
-use Rattle.float.specs.Exponential.{expOf}
-use Rattle.float.specs.Logarithm.{lnOf}
+use Rattle.root.specs.Root.{rootOf}
+use Rattle.exponential.specs.Exponential.{expOf}
+use Rattle.logarithm.specs.Logarithm.{lnOf}
 use Rattle.bessel.specs.declared.PeakSum.{PeakSum}
 
 -- 0.5, and TAU, 6.283185307179586

@@ -29,7 +29,7 @@ pub fn ln_gamma(y: f64) -> f64
     let x = y - 1.0;
     let t = x + 7.0 + 0.5;
     let a = lanczos_sum(x);
-    0.5 * LN_TAU + (x + 0.5) * float::ln(t) - t + float::ln(a)
+    0.5 * LN_TAU + (x + 0.5) * logarithm::ln(t) - t + logarithm::ln(a)
 }
 
 // The three terms of DLMF 10.41.3 at p = 1 / w.
@@ -49,10 +49,10 @@ pub fn log_iv_asymptotic(nu: f64, kappa: f64) -> f64
     ensures { λ r. ⌜ r ≡ asymptoticOf nu kappa ⌝ }
 {
     let z = kappa / nu;
-    let w = float::root(1.0 + z * z);
-    let eta = w + float::ln(z / (1.0 + w));
+    let w = root::root(1.0 + z * z);
+    let eta = w + logarithm::ln(z / (1.0 + w));
     let terms = asymptotic_terms(nu, w);
-    nu * eta - 0.5 * float::ln(6.283185307179586 * nu) - 0.5 * float::ln(w) + float::ln(terms)
+    nu * eta - 0.5 * logarithm::ln(6.283185307179586 * nu) - 0.5 * logarithm::ln(w) + logarithm::ln(terms)
 }
 
 // What the series hands out: the logarithm of its greatest term, and the sum of all terms over that one.
@@ -65,7 +65,7 @@ pub struct PeakSum {
 fn term_after(nu: f64, half_ln: f64, m: f64, log_a: f64) -> f64
     ensures { λ r. ⌜ r ≡ termAfter nu «half_ln» m «log_a» ⌝ }
 {
-    log_a + (2.0 * half_ln - float::ln(m) - float::ln(nu + m))
+    log_a + (2.0 * half_ln - logarithm::ln(m) - logarithm::ln(nu + m))
 }
 
 // The peak and the sum with one term more.
@@ -75,12 +75,12 @@ fn with_term(s: PeakSum, log_a: f64) -> PeakSum
     if s.peak < log_a {
         PeakSum {
             peak: log_a,
-            sum: s.sum * float::exp(s.peak - log_a) + 1.0,
+            sum: s.sum * exponential::exp(s.peak - log_a) + 1.0,
         }
     } else {
         PeakSum {
             peak: s.peak,
-            sum: s.sum + float::exp(log_a - s.peak),
+            sum: s.sum + exponential::exp(log_a - s.peak),
         }
     }
 }
@@ -119,10 +119,10 @@ fn peak_sum(nu: f64, kappa: f64, half_ln: f64, first: f64) -> PeakSum
 pub fn log_iv_series(nu: f64, kappa: f64) -> f64
     ensures { λ r. ⌜ r ≡ seriesOf nu kappa ⌝ }
 {
-    let half_ln = float::ln(kappa * 0.5);
+    let half_ln = logarithm::ln(kappa * 0.5);
     let first = -ln_gamma(nu + 1.0);
     let s = peak_sum(nu, kappa, half_ln, first);
-    nu * half_ln + s.peak + float::ln(s.sum)
+    nu * half_ln + s.peak + logarithm::ln(s.sum)
 }
 
 // log I_nu(kappa), by the evaluator that serves.
@@ -143,7 +143,7 @@ pub fn log_vmf_norm(dim: usize, kappa: f64) -> f64
 {
     let half_d = dim as f64 / 2.0;
     let nu = half_d - 1.0;
-    nu * float::ln(kappa) - half_d * LN_TAU - log_iv(nu, kappa)
+    nu * logarithm::ln(kappa) - half_d * LN_TAU - log_iv(nu, kappa)
 }
 
 // The greatest concentration in dim dimensions.

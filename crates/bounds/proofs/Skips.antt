@@ -9,12 +9,12 @@ use lib.Ieee.{Float, binary64, add, sub, mul, div, neg, lt, le, isNan, fits}
 use lib.Ieee.Bits.{is-false}
 use lib.Ieee.Fits.{mul-fits, sub-fits, cond-fits, and-l, and-r}
 use Rattle.float.specs.Arithmetic.{f64, number, plusZero, maxOf, clampOf}
-use Rattle.float.specs.Root.{rootOf}
+use Rattle.root.specs.Root.{rootOf}
 use Rattle.float.proofs.Bound.{Within}
 use Rattle.float.proofs.Ranges.{within-finite}
 use Rattle.float.proofs.Order.{nan-below, no-nan, nlt-of-le, le-of-nlt, lt-irrefl, le-trans}
-use Rattle.float.proofs.Monotone.{add-mono, sub-mono, sub-below, add-above, add-numbers, sub-numbers, mul-numbers, root-not-negative, unit-in, unit-clamp, unit-mul}
-use Rattle.float.proofs.RootValue.{root-reach}
+use Rattle.float.proofs.Monotone.{add-mono, sub-mono, sub-below, add-above, add-numbers, sub-numbers, mul-numbers, unit-in, unit-clamp, unit-mul}
+use Rattle.root.proofs.RootValue.{root-not-negative, root-reach}
 use borrow.Author.Tests.{not-false}
 use Rattle.float.proofs.Tests.{of-true}
 use Rattle.bounds.specs.Products.{slack, squaresOf, reachesOf, footOf, closeOf, maySkip}

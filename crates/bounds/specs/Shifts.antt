@@ -6,7 +6,7 @@ use lib.Dec.{eqb, ltb}
 use lib.ListN.{getD}
 use lib.Ieee.{Float, nan, inf, binary64, add, sub, mul, neg, lt, le}
 use Rattle.float.specs.Arithmetic.{f64, number, plusZero, maxOf, clampOf}
-use Rattle.float.specs.Root.{rootOf}
+use Rattle.root.specs.Root.{rootOf}
 use Rattle.bounds.specs.declared.Bounds.{Bounds}
 use Rattle.bounds.specs.declared.Slowest.{Slowest}
 

@@ -21,7 +21,7 @@ fn squares(a: f64, p: f64) -> f64
 fn sines(a: f64, p: f64) -> f64
     ensures { λ r. ⌜ r ≡ sinesOf a p ⌝ }
 {
-    float::root(squares(a, p))
+    root::root(squares(a, p))
 }
 
 // A lower bound on a cosine after its centre turned by p.
@@ -116,7 +116,7 @@ fn both_shifted(b: Bounds, own: f64, other: f64) -> Bounds
             high: shift_upper(b.high, other),
         };
     }
-    let s = float::root2(squares(l, p), squares(u, q));
+    let s = root::root2(squares(l, p), squares(u, q));
     Bounds {
         scale: b.scale,
         low: l * p - s.a,

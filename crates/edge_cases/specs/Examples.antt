@@ -8,9 +8,9 @@ use lib.IntN.{negsuc}
 use lib.ListN.{getD}
 use lib.Ieee.{Float, nan, inf, fin, add, sub, mul, div, neg, lt, le, isNan, ofInt, ofBits, round, size}
 use Rattle.float.specs.Arithmetic.{number, plusZero, minusZero, maxOf, clampOf}
-use Rattle.float.specs.Root.{rootOf}
-use Rattle.float.specs.Exponential.{expOf}
-use Rattle.float.specs.Logarithm.{lnOf}
+use Rattle.root.specs.Root.{rootOf}
+use Rattle.exponential.specs.Exponential.{expOf}
+use Rattle.logarithm.specs.Logarithm.{lnOf}
 use Rattle.bessel.specs.Concentration.{estimateOf, kappaMax}
 use Rattle.bounds.specs.declared.Slowest.{Slowest}
 use Rattle.bounds.specs.Shifts.{shiftLower, shiftUpper, slowestUpTo}

@@ -23,91 +23,91 @@ fn root_lines() {
     let f = float::of_bits(1);
     expect_line(
         b"root of 4 is 2",
-        is(float::root(4.0), 0x4000_0000_0000_0000),
+        is(root::root(4.0), 0x4000_0000_0000_0000),
     );
-    expect_line(b"root of +0 is +0", is(float::root(0.0), 0));
+    expect_line(b"root of +0 is +0", is(root::root(0.0), 0));
     expect_line(
         b"root of -0 is -0",
-        is(float::root(-0.0), 0x8000_0000_0000_0000),
+        is(root::root(-0.0), 0x8000_0000_0000_0000),
     );
     expect_line(
         b"root of 2^-1074 is 2^-537",
-        is(float::root(f), 0x1E60_0000_0000_0000),
+        is(root::root(f), 0x1E60_0000_0000_0000),
     );
     expect_line(
         b"root of 2 is 1.4142135623730951",
-        is(float::root(2.0), 0x3FF6_A09E_667F_3BCD),
+        is(root::root(2.0), 0x3FF6_A09E_667F_3BCD),
     );
     expect_line(
         b"root of +infinity is +infinity",
-        is(float::root(1.0 / 0.0), 0x7FF0_0000_0000_0000),
+        is(root::root(1.0 / 0.0), 0x7FF0_0000_0000_0000),
     );
     expect_line(
         b"root of -infinity is NaN",
-        is(float::root(-1.0 / 0.0), 0x7FF8_0000_0000_0000),
+        is(root::root(-1.0 / 0.0), 0x7FF8_0000_0000_0000),
     );
     expect_line(
         b"root of -2^-1074 is NaN",
-        is(float::root(-f), 0x7FF8_0000_0000_0000),
+        is(root::root(-f), 0x7FF8_0000_0000_0000),
     );
     expect_line(
         b"root of NaN is NaN",
-        is(float::root(0.0 / 0.0), 0x7FF8_0000_0000_0000),
+        is(root::root(0.0 / 0.0), 0x7FF8_0000_0000_0000),
     );
     let top = float::of_bits(0x7FEF_FFFF_FFFF_FFFF);
     expect_line(
         b"root of the greatest f64 is just under 2^512",
-        is(float::root(top), 0x5FEF_FFFF_FFFF_FFFF),
+        is(root::root(top), 0x5FEF_FFFF_FFFF_FFFF),
     );
 }
 
 fn exp_lines() {
-    expect_line(b"exp 0 is 1", is(float::exp(0.0), 0x3FF0_0000_0000_0000));
-    expect_line(b"exp -0 is 1", is(float::exp(-0.0), 0x3FF0_0000_0000_0000));
-    expect_line(b"exp -709 is +0", is(float::exp(-709.0), 0));
+    expect_line(b"exp 0 is 1", is(exponential::exp(0.0), 0x3FF0_0000_0000_0000));
+    expect_line(b"exp -0 is 1", is(exponential::exp(-0.0), 0x3FF0_0000_0000_0000));
+    expect_line(b"exp -709 is +0", is(exponential::exp(-709.0), 0));
     let low = float::of_bits(0xC086_2000_0000_0001);
-    expect_line(b"exp just below -708 is +0", is(float::exp(low), 0));
-    expect_line(b"exp -708 is above 0", float::exp(-708.0) > 0.0);
+    expect_line(b"exp just below -708 is +0", is(exponential::exp(low), 0));
+    expect_line(b"exp -708 is above 0", exponential::exp(-708.0) > 0.0);
     let high = float::of_bits(0x4086_2800_0000_0001);
     expect_line(
         b"exp just above 709 is +infinity",
-        is(float::exp(high), 0x7FF0_0000_0000_0000),
+        is(exponential::exp(high), 0x7FF0_0000_0000_0000),
     );
-    expect_line(b"exp 709 is below +infinity", float::exp(709.0) < 1.0 / 0.0);
+    expect_line(b"exp 709 is below +infinity", exponential::exp(709.0) < 1.0 / 0.0);
     expect_line(
         b"exp +infinity is +infinity",
-        is(float::exp(1.0 / 0.0), 0x7FF0_0000_0000_0000),
+        is(exponential::exp(1.0 / 0.0), 0x7FF0_0000_0000_0000),
     );
-    expect_line(b"exp -infinity is +0", is(float::exp(-1.0 / 0.0), 0));
+    expect_line(b"exp -infinity is +0", is(exponential::exp(-1.0 / 0.0), 0));
     expect_line(
         b"exp NaN is NaN",
-        is(float::exp(0.0 / 0.0), 0x7FF8_0000_0000_0000),
+        is(exponential::exp(0.0 / 0.0), 0x7FF8_0000_0000_0000),
     );
 }
 
 fn ln_lines() {
-    expect_line(b"ln 1 is +0", is(float::ln(1.0), 0));
+    expect_line(b"ln 1 is +0", is(logarithm::ln(1.0), 0));
     expect_line(
         b"ln -0 is -infinity",
-        is(float::ln(-0.0), 0xFFF0_0000_0000_0000),
+        is(logarithm::ln(-0.0), 0xFFF0_0000_0000_0000),
     );
     expect_line(
         b"ln +0 is -infinity",
-        is(float::ln(0.0), 0xFFF0_0000_0000_0000),
+        is(logarithm::ln(0.0), 0xFFF0_0000_0000_0000),
     );
     expect_line(
         b"ln +infinity is +infinity",
-        is(float::ln(1.0 / 0.0), 0x7FF0_0000_0000_0000),
+        is(logarithm::ln(1.0 / 0.0), 0x7FF0_0000_0000_0000),
     );
-    expect_line(b"ln -1 is NaN", is(float::ln(-1.0), 0x7FF8_0000_0000_0000));
+    expect_line(b"ln -1 is NaN", is(logarithm::ln(-1.0), 0x7FF8_0000_0000_0000));
     expect_line(
         b"ln NaN is NaN",
-        is(float::ln(0.0 / 0.0), 0x7FF8_0000_0000_0000),
+        is(logarithm::ln(0.0 / 0.0), 0x7FF8_0000_0000_0000),
     );
     let least = float::of_bits(1);
     expect_line(
         b"ln 2^-1074 lies between -745 and -744",
-        -745.0 < float::ln(least) && float::ln(least) < -744.0,
+        -745.0 < logarithm::ln(least) && logarithm::ln(least) < -744.0,
     );
 }
 

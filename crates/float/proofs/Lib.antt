@@ -20,14 +20,3 @@ pub mod Parts
 -- ---- the definitions of specs/
 pub mod ClampOf
 pub mod Monotone
-pub mod Floor
-pub mod Exponential
-pub mod Fours
-pub mod Logarithm
-pub mod Roots
-pub mod RootOf
-pub mod RootRule
-pub mod RootLaws
-pub mod RootValue
-pub mod RootUnit
-pub mod RootSame

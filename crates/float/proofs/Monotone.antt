@@ -1,5 +1,5 @@
 -- A rounded sum and a rounded difference keep the order, for every sign, infinities included, where neither is a NaN; so a value less one that is not negative
--- is no greater, and a value and such a one no smaller. A root is not negative, and products of two within ±1 lie there too. Assumes nothing.
+-- is no greater, and a value and such a one no smaller. A rounded fraction is not negative, and products of two within ±1 lie there too. Assumes nothing.
 use mathlib.Core.Path.{_≡_, refl, sym, ap, _∙_, subst}
 use mathlib.Core.Logic.{⊎-elim}
 use Prim.Native.Nat.{ℕ, zero, suc, _+_, _-_, _*_, _^_, _≤_, _<_, zero-le}
@@ -15,7 +15,6 @@ use lib.Ieee.Exact.{HasValue}
 use lib.Ieee.Order.{round-mono, le-of-values, kept, drop}
 use lib.Ieee.Scale.{finite}
 use Rattle.float.specs.Arithmetic.{number, plusZero, minusZero, clampOf}
-use Rattle.float.specs.Root.{radicandOf, placesOf, nearRoot, positiveRoot, rootOf}
 use Rattle.float.proofs.Order.{plus, less, over, is-below, lt-or-ge, le-of-nlt, nlt-of-le, le-trans, no-nan}
 use Rattle.float.proofs.Bound.{Signed, round-signed, round-within, held-whole, Within}
 use Rattle.float.proofs.Interval.{In}
@@ -84,7 +83,7 @@ signs (fin true m e) (fin true n d) h k = absurd (true≢false k)
 signs (fin true m e) (fin false n d) h k = le-of-nlt (fin false n d) (fin true m e) tt tt tt
 
 -- ±0 is level with ±0
-zeros : (x y : Float) → Within 0 1 x → Within 0 1 y → T (le x y)
+pub zeros : (x y : Float) → Within 0 1 x → Within 0 1 y → T (le x y)
 unfolding isNan lt
 zeros nan y h k = absurd h
 zeros (inf s) y h k = absurd h
@@ -340,23 +339,12 @@ mul-numbers f (fin s m e) nan g = absurd g
 mul-numbers f (fin s m e) (inf t) g = (tt, tt)
 mul-numbers f (fin s m e) (fin t n d) g = (tt, tt)
 
--- ---- a root is not negative
+-- ---- a rounded fraction is not negative
 pub round-not-negative : (a c : ℕ) → 0 < c → T (le plusZero (round binary64 false a c))
 round-not-negative a c C = subst (λ (z : Float). T (le z (round binary64 false a c))) at-zero (round-mono binary64 0 1 a c (lit< tt) C (omega arith))
   where
     at-zero : round binary64 false 0 1 ≡ plusZero
     at-zero = unfold round in refl
-
-pub root-not-negative : (x : Float) → T (not (isNan (rootOf x))) → T (le plusZero (rootOf x))
-unfolding rootOf positiveRoot isNan
-root-not-negative nan g = absurd g
-root-not-negative (inf true) g = absurd g
-root-not-negative (inf false) g = most plusZero tt
-root-not-negative (fin s zero e) g = zeros plusZero (fin s 0 e) (lit≤ tt) (omega arith)
-root-not-negative (fin true (suc m) e) g = absurd g
-root-not-negative (fin false (suc m) e) g =
-    let x = fin false (suc m) e in
-    round-not-negative (nearRoot (radicandOf x) * 2 ^ placesOf x) (2 ^ 590) (pow-pos 590)
 
 -- ---- within ±1
 abbrev pub Unit-in : Float → Type 0

@@ -1,6 +1,2 @@
 pub mod Arithmetic
-pub mod Root
-pub mod Exponential
-pub mod Logarithm
-pub mod Fours
-pub mod Steps
+pub mod Parts

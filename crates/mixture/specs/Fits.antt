@@ -5,7 +5,7 @@ use Prim.Native.Nat.{ℕ, zero, suc, _*_}
 use lib.ListN.{getD, set, replicate}
 use lib.Ieee.{Float, nan, inf, binary64, add}
 use Rattle.float.specs.Arithmetic.{f64, plusZero, sumFrom, maxOf}
-use Rattle.float.specs.Logarithm.{lnOf}
+use Rattle.logarithm.specs.Logarithm.{lnOf}
 use Rattle.vector.specs.Rows.{rowOf}
 use Rattle.vector.specs.Vectors.{argmaxOf}
 use Rattle.lloyd.specs.Lloyd.{normsUpTo, sumsUpTo}

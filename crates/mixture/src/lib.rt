@@ -7,7 +7,7 @@ ghost use Prim.Native.Nat.{_+_, _*_, _<_, _≤_};
 ghost use lib.ListN.{length, getD, replicate, take};
 ghost use lib.Ieee.{nan, inf, binary64, add, mul};
 ghost use Rattle.float.specs.Arithmetic.{plusZero, sumFrom, maxOf};
-ghost use Rattle.float.specs.Logarithm.{lnOf};
+ghost use Rattle.logarithm.specs.Logarithm.{lnOf};
 ghost use Rattle.vector.specs.Rows.{Apart, part, putPart, rowOf};
 ghost use Rattle.vector.specs.Vectors.{dividedBy};
 ghost use Rattle.bessel.specs.Concentration.{Dimension, estimateOf};
@@ -123,7 +123,7 @@ fn norm_for(kappa: f64, last: f64, norm: f64, d: usize) -> f64
 fn base(weight: f64, norm: f64) -> f64
     ensures { λ r. ⌜ r ≡ add binary64 (lnOf (maxOf weight weightFloor)) norm ⌝ }
 {
-    float::ln(float::max(weight, 1e-300)) + norm
+    logarithm::ln(float::max(weight, 1e-300)) + norm
 }
 
 // The base of each group.

@@ -292,7 +292,7 @@ fn put_labels(labels: &mut [u32], resp: &[f64], m: usize, k: usize)
 fn ln_weight(w: f64) -> f64
     ensures { λ r. ⌜ r ≡ lnWeight w ⌝ }
 {
-    float::ln(float::max(w, 2.2250738585072014e-308))
+    logarithm::ln(float::max(w, 2.2250738585072014e-308))
 }
 
 // ln weight + log normalizer of each group.

@@ -58,13 +58,13 @@ fn plus(a: usize, b: usize) -> usize {
 fn arithmetic_agrees(kind: u64, text: &[u8]) -> bool {
     let x = number(text, 0);
     if kind == 1 {
-        return is_number(float::root(x), text, 1);
+        return is_number(root::root(x), text, 1);
     }
     if kind == 2 {
-        return is_number(float::exp(x), text, 1);
+        return is_number(exponential::exp(x), text, 1);
     }
     if kind == 3 {
-        return is_number(float::ln(x), text, 1);
+        return is_number(logarithm::ln(x), text, 1);
     }
     let y = number(text, 1);
     if kind == 4 {

@@ -12,9 +12,9 @@ use lib.Seq.{drop-cons, take-suc-set, drop-set-lt, getD-set-other, take-all}
 use lib.Ieee.{Float, nan, binary64, add, sub}
 use borrow.Author.Tests.{lt-ltb, le-ltb}
 use Rattle.float.specs.Arithmetic.{maxOf, plusZero}
-use Rattle.float.specs.Exponential.{expOf}
+use Rattle.exponential.specs.Exponential.{expOf}
 use Rattle.float.specs.declared.Four.{Four}
-use Rattle.float.specs.declared.Eight.{Eight}
+use Rattle.exponential.specs.declared.Eight.{Eight}
 use Rattle.float.proofs.Order.{lt-or-ge}
 use Rattle.softmax.specs.Softmax.{greatestFrom, expSumFrom, sharesAfter, lessAt, fourLess, fourShares, eightShares, addedAt, fourAdded, fourSet}
 

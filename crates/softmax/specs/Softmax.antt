@@ -6,11 +6,11 @@ use lib.ListN.{length, getD, take, drop, set}
 use lib.Ieee.{Float, nan, inf, binary64, add, sub}
 use mathlib.Core.Bool.{true, cond}
 use Rattle.float.specs.Arithmetic.{plusZero, maxOf}
-use Rattle.float.specs.Exponential.{expOf}
-use Rattle.float.specs.Logarithm.{lnOf}
-use Rattle.float.specs.Fours.{exponentials, eightOf}
+use Rattle.exponential.specs.Exponential.{expOf}
+use Rattle.logarithm.specs.Logarithm.{lnOf}
+use Rattle.exponential.specs.Fours.{exponentials, eightOf}
 use Rattle.float.specs.declared.Four.{Four}
-use Rattle.float.specs.declared.Eight.{Eight}
+use Rattle.exponential.specs.declared.Eight.{Eight}
 
 -- the greatest of g and the elements, by `max` in order
 abbrev pub greatestFrom : Float → List Float → Float

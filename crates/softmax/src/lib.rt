@@ -53,15 +53,15 @@ fn exp_four(row: &[f64], i: usize, g: f64) -> float::Four
     requires { ⌜ i < length (now row) ⌝ }
     ensures { λ r. ⌜ r ≡ fourShares g (now (row .entry)) i ⌝ }
 {
-    float::exp4(less4(row, i, g))
+    exponential::exp4(less4(row, i, g))
 }
 
 // exp(x - g) of the elements i to i + 7.
-fn exp_eight(row: &[f64], i: usize, g: f64) -> float::Eight
+fn exp_eight(row: &[f64], i: usize, g: f64) -> exponential::Eight
     requires { ⌜ i + 4 < length (now row) ⌝ }
     ensures { λ r. ⌜ r ≡ eightShares g (now (row .entry)) i ⌝ }
 {
-    float::exp8(less4(row, i, g), less4(row, i + 4, g))
+    exponential::exp8(less4(row, i, g), less4(row, i + 4, g))
 }
 
 // s with v added, if there is an element i among n.
@@ -101,7 +101,7 @@ pub fn sum_exp(row: &[f64], g: f64) -> f64
         j += 4;
     }
     while j < n {
-        s = s + float::exp(row[j] - g);
+        s = s + exponential::exp(row[j] - g);
         j += 1;
     }
     s
@@ -112,7 +112,7 @@ pub fn log_sum_exp(row: &[f64]) -> f64
     ensures { λ r. ⌜ r ≡ logSumExp (now (row .entry)) ⌝ }
 {
     let g = greatest(row);
-    g + float::ln(sum_exp(row, g))
+    g + logarithm::ln(sum_exp(row, g))
 }
 
 // Element i becomes v, if there is one.
@@ -171,7 +171,7 @@ pub fn share(row: &mut [f64], lse: f64)
         j += 4;
     }
     while j < n {
-        row[j] = float::exp(row[j] - lse);
+        row[j] = exponential::exp(row[j] - lse);
         j += 1;
     }
 }

@@ -5,7 +5,7 @@ use Prim.Native.Nat.{ℕ, zero, suc}
 use lib.ListN.{length, getD}
 use lib.Ieee.{Float, nan, binary64, add, mul, div, lt}
 use Rattle.float.specs.Arithmetic.{minusZero, plusZero, dotFrom}
-use Rattle.float.specs.Root.{rootOf}
+use Rattle.root.specs.Root.{rootOf}
 
 -- the products of two vectors summed from −0, in index order, to the end of the shorter
 abbrev pub dotOf : List Float → List Float → Float

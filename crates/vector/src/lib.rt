@@ -57,7 +57,7 @@ pub fn dot4(x: &[f64], p: &[f64], q: &[f64], r: &[f64], s: &[f64]) -> float::Fou
 pub fn norm(v: &[f64]) -> f64
     ensures { λ r. ⌜ r ≡ normOf (now (v .entry)) ⌝ }
 {
-    float::root(dot(v, v))
+    root::root(dot(v, v))
 }
 
 // The sum from -0, as Rust's `sum`.

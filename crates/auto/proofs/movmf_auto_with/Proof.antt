@@ -2,7 +2,7 @@
 -- number of a range holds of the answer. Assumes nothing.
 use mathlib.Core.Path.{sym, ap, _∙_}
 use lib.ListN.{length}
-use Rattle.float.specs.Logarithm.{lnOf}
+use Rattle.logarithm.specs.Logarithm.{lnOf}
 use Rattle.movmf.specs.Outcome.{Outputs, lengthsOf, arrays}
 use Rattle.auto.proofs.Refusals.{ready}
 use Rattle.auto.proofs.Bests.{auto-best}

@@ -2,7 +2,7 @@
 use mathlib.Core.Path.{ap, ap₂, _∙_}
 use borrow.Author.Needs.{needs}
 use lib.Ieee.{Float, ofBits, ofInt}
-use Rattle.float.specs.Root.{rootOf}
+use Rattle.root.specs.Root.{rootOf}
 use Rattle.bounds.proofs.Turns.{lower-within, upper-within, neither}
 use Rattle.bounds.proofs.both_shifted.Statement.{statement}
 use Rattle.bounds.proofs.both_shifted.Tie as tie

@@ -6,7 +6,7 @@ use native.Mathlib.Omega.{arith}
 use lib.ListN.{length}
 use lib.Ieee.{binary64, add}
 use Rattle.float.specs.Arithmetic.{maxOf}
-use Rattle.float.specs.Logarithm.{lnOf}
+use Rattle.logarithm.specs.Logarithm.{lnOf}
 use Rattle.mixture.specs.Mixture.{weightFloor, logNormOf, baseOf, baseAt}
 use Rattle.mixture.specs.Areas.{partsIn, modelOf}
 use Rattle.mixture.proofs.Regions.{weightsR, kappasR, basesR}

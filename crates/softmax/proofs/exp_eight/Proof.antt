@@ -1,6 +1,6 @@
 -- `softmax::exp_eight` meets its contract, by what its three calls ensure. Assumes nothing.
 use mathlib.Core.Path.{ap₂, _∙_}
-use Rattle.float.specs.Fours.{exponentials, eightOf}
+use Rattle.exponential.specs.Fours.{exponentials, eightOf}
 use Rattle.float.specs.declared.Four.{Four}
 use borrow.Author.Needs.{needs}
 use Rattle.softmax.proofs.exp_eight.Statement.{statement}

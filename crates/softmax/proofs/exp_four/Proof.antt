@@ -1,6 +1,6 @@
 -- `softmax::exp_four` meets its contract, by what its two calls ensure. Assumes nothing.
 use mathlib.Core.Path.{ap, _∙_}
-use Rattle.float.specs.Fours.{exponentials}
+use Rattle.exponential.specs.Fours.{exponentials}
 use borrow.Author.Needs.{needs}
 use Rattle.softmax.proofs.exp_four.Statement.{statement}
 use Rattle.softmax.proofs.exp_four.Tie as tie

@@ -1,0 +1,91 @@
+-- The cases of four exponentials at once, each by the case of one exponential, and a turn and the end of the loop over their series. Assumes nothing.
+use mathlib.Core.Path.{_≡_, refl, sym, ap, _∙_}
+use mathlib.Core.Bool.{Bool, true, false, _&&_, true≢false}
+use Prim.Native.Nat.{ℕ, zero, suc, _-_, _<_}
+use native.Mathlib.Omega.{arith}
+use lib.Dec.{T}
+use lib.Ieee.{Float, lt, neg, ofInt, ofBits}
+use Rattle.float.specs.Arithmetic.{f64, number, plusZero}
+use Rattle.exponential.specs.Exponential.{floorOf, turnsOf, expFrom, expOf}
+use Rattle.exponential.specs.Fours.{exponentials}
+use Rattle.exponential.specs.Steps.{inside, allInside, raised, OnePower, PowersOf, AllInside, steppedFour, leftFour, seriesFour, onesFour, timesFour}
+use Rattle.float.specs.declared.Four.{Four}
+use Rattle.exponential.proofs.Exponential.{by-low, by-inside, by-whole}
+use Rattle.float.proofs.Tests.{of-true}
+
+-- one of four between the borders
+one-of : (x n w : Float) → T (inside x) → OnePower x n w → raised x n w ≡ expOf x
+one-of x n w h p = by-whole x n w (floorOf (turnsOf x)) (p .whole) (p .power) ∙ by-inside x h
+
+pub four-of : (x : Four) (a b c e : Float) → a ≡ expOf (x .a) → b ≡ expOf (x .b) → c ≡ expOf (x .c) → e ≡ expOf (x .e)
+    → _≡_ {A = Four} (record { a = a; b = b; c = c; e = e }) (exponentials x)
+four-of x a b c e p q r s = rw (p, q, r, s)
+
+-- four tests at once, each of which came out true
+record Each (p q r s : Bool) : Type 0 where
+  pub first : p ≡ true
+  pub second : q ≡ true
+  pub third : r ≡ true
+  pub last : s ≡ true
+
+each : (p q r s : Bool) → p && q && r && s ≡ true → Each p q r s
+each true true true true h = record { first = refl; second = refl; third = refl; last = refl }
+each false q r s h = absurd (true≢false (sym h))
+each true false r s h = absurd (true≢false (sym h))
+each true true false s h = absurd (true≢false (sym h))
+each true true true false h = absurd (true≢false (sym h))
+
+pub all-inside : (x : Four) → allInside x ≡ true → AllInside x
+all-inside x k =
+    let t = each (inside (x .a)) (inside (x .b)) (inside (x .c)) (inside (x .e)) k in
+    record {
+      at-a = of-true (inside (x .a)) (t .first);
+      at-b = of-true (inside (x .b)) (t .second);
+      at-c = of-true (inside (x .c)) (t .third);
+      at-e = of-true (inside (x .e)) (t .last);
+    }
+
+-- the same of two fours
+pub both-inside : (x y : Four) (p q : Bool) → p ≡ allInside x → q ≡ allInside y → p && q ≡ true → AllInside x × AllInside y
+both-inside x y true true e f h = (all-inside x (sym e), all-inside y (sym f))
+both-inside x y true false e f h = absurd (true≢false (sym h))
+both-inside x y false q e f h = absurd (true≢false (sym h))
+
+-- the test of the lower border
+abbrev pub under : Float → Bool
+under x = lt x (neg (number 708))
+
+pub all-below : (x : Four) → under (x .a) && under (x .b) && under (x .c) && under (x .e) ≡ true
+    → _≡_ {A = Four} (record { a = plusZero; b = plusZero; c = plusZero; e = plusZero }) (exponentials x)
+all-below x k =
+    let t = each (under (x .a)) (under (x .b)) (under (x .c)) (under (x .e)) k in
+    four-of x plusZero plusZero plusZero plusZero (by-low (x .a) (t .first)) (by-low (x .b) (t .second)) (by-low (x .c) (t .third)) (by-low (x .e) (t .last))
+
+-- ---- the series of each of the four
+
+one : f64 0x3FF0000000000000 ≡ number 1
+unfolding ofBits ofInt
+one = refl
+
+pub series-turn : (r p v : Four) (j : ℕ) → 0 < j → v ≡ steppedFour r p (number j) → seriesFour (j - 1) r v ≡ seriesFour j r p
+unfolding expFrom
+series-turn r p v zero h e = absurd (omega arith)
+series-turn r p v (suc j) h e =
+    let k : suc j - 1 ≡ j = omega arith in
+    rw (k, e, one)
+
+pub series-end : (r p : Four) (j : ℕ) → j ≡ 0 → seriesFour j r p ≡ p
+unfolding expFrom
+series-end r p j e = rw e
+
+four-raised : (x n w : Four) → AllInside x → PowersOf x n w → timesFour (seriesFour 13 (leftFour x n) onesFour) w ≡ exponentials x
+four-raised x n w h p =
+    four-of x _ _ _ _
+    (one-of (x .a) (n .a) (w .a) (h .at-a) (p .at-a))
+    (one-of (x .b) (n .b) (w .b) (h .at-b) (p .at-b))
+    (one-of (x .c) (n .c) (w .c) (h .at-c) (p .at-c))
+    (one-of (x .e) (n .e) (w .e) (h .at-e) (p .at-e))
+
+-- what is left of each x, its series, and that times the power
+pub four-done : (x n w r p v : Four) → AllInside x → PowersOf x n w → r ≡ leftFour x n → p ≡ seriesFour 13 r onesFour → v ≡ timesFour p w → v ≡ exponentials x
+four-done x n w r p v h k d e f = f ∙ ap (λ (z : Four). timesFour z w) (e ∙ ap (λ (z : Four). seriesFour 13 z onesFour) d) ∙ four-raised x n w h k

@@ -1,0 +1,76 @@
+-- What the inner functions of this crate promise one another: the field of a power of two, and the series of four. No definition of document 01 stands on this
+-- file. Definitions only.
+use mathlib.Core.Path.{_≡_}
+use mathlib.Core.Bool.{Bool, false, _&&_}
+use Prim.Native.Nat.{ℕ, _+_, _<_}
+use lib.Dec.{T}
+use lib.IntN.{ℤ}
+use lib.Ieee.{Float, fin, binary64, minus, add, mul, div, neg, le, ofInt}
+use Rattle.float.specs.Arithmetic.{f64, number}
+use Rattle.float.specs.declared.Four.{Four}
+use Rattle.exponential.specs.Exponential.{expFrom, leftOf, floorOf, turnsOf}
+
+-- ---- one exponential between its borders
+
+-- −708 ≤ x ≤ 709, and so x is no NaN
+abbrev pub inside : Float → Bool
+inside x = le (neg (number 708)) x && le x (number 709)
+
+-- b is the exponent's field of the normal number 2^n
+pub record FieldOf (n : ℤ) (b : ℕ) : Type 0 where
+  pub value : minus b 1023 ≡ n
+  pub least : 0 < b
+  pub most : b < 2047
+
+-- u is 2^52 + b, b being that field
+pub record Lifted (n : ℤ) (u : Float) : Type 0 where
+  pub b : ℕ
+  pub field : FieldOf n b
+  pub value : u ≡ number (4503599627370496 + b)
+
+-- the series at the rest of x, n being a whole number as a float, times w
+abbrev pub raised : Float → Float → Float → Float
+raised x n w = mul binary64 (expFrom 13 (leftOf x n) (number 1)) w
+
+-- ---- four exponentials at once
+
+-- 1 + (r·p)/j
+abbrev pub stepped : Float → Float → Float → Float
+stepped r p j = add binary64 (f64 0x3FF0000000000000) (div binary64 (mul binary64 r p) j)
+
+abbrev pub steppedFour : Four → Four → Float → Four
+steppedFour r p j = record { a = stepped (r .a) (p .a) j; b = stepped (r .b) (p .b) j; c = stepped (r .c) (p .c) j; e = stepped (r .e) (p .e) j }
+
+abbrev pub leftFour : Four → Four → Four
+leftFour x n = record { a = leftOf (x .a) (n .a); b = leftOf (x .b) (n .b); c = leftOf (x .c) (n .c); e = leftOf (x .e) (n .e) }
+
+-- the series of each from p, with j steps left; p begins at 1
+abbrev pub seriesFour : ℕ → Four → Four → Four
+seriesFour j r p = record { a = expFrom j (r .a) (p .a); b = expFrom j (r .b) (p .b); c = expFrom j (r .c) (p .c); e = expFrom j (r .e) (p .e) }
+
+abbrev pub onesFour : Four
+onesFour = record { a = number 1; b = number 1; c = number 1; e = number 1 }
+
+abbrev pub timesFour : Four → Four → Four
+timesFour p w =
+    record { a = mul binary64 (p .a) (w .a); b = mul binary64 (p .b) (w .b); c = mul binary64 (p .c) (w .c); e = mul binary64 (p .e) (w .e) }
+
+-- n is x's whole number as a float, and w is 2^n
+pub record OnePower (x n w : Float) : Type 0 where
+  pub whole : n ≡ ofInt binary64 (floorOf (turnsOf x))
+  pub power : w ≡ fin false 1 (floorOf (turnsOf x))
+
+pub record PowersOf (x n w : Four) : Type 0 where
+  pub at-a : OnePower (x .a) (n .a) (w .a)
+  pub at-b : OnePower (x .b) (n .b) (w .b)
+  pub at-c : OnePower (x .c) (n .c) (w .c)
+  pub at-e : OnePower (x .e) (n .e) (w .e)
+
+abbrev pub allInside : Four → Bool
+allInside x = inside (x .a) && inside (x .b) && inside (x .c) && inside (x .e)
+
+pub record AllInside (x : Four) : Type 0 where
+  pub at-a : T (inside (x .a))
+  pub at-b : T (inside (x .b))
+  pub at-c : T (inside (x .c))
+  pub at-e : T (inside (x .e))

@@ -1,0 +1,282 @@
+// The exponential of an f64, operation by operation (document 01, 'Arithmetic under the Rust'), singly, four and eight at once. It takes any f64.
+ghost use mathlib.Core.Path.{_≡_};
+ghost use lib.Dec.{T};
+ghost use Rattle.exponential.specs.Exponential.{expOf, expBy, floorOf, turnsOf};
+ghost use Rattle.exponential.specs.Fours.{exponentials, eightOf};
+ghost use Rattle.exponential.specs.Steps.{raised, inside, Lifted, OnePower, steppedFour, leftFour, seriesFour, onesFour, timesFour, allInside, AllInside, PowersOf};
+
+// The series of the exponential at what is left of x past n, times w.
+fn raise(x: f64, n: f64, w: f64) -> f64
+    ensures { λ r. ⌜ r ≡ raised x n w ⌝ }
+{
+    let r = (x - n * 0.6931471803691238) - n * 1.9082149292705877e-10;
+    let p = 1.0;
+    let p = 1.0 + (r * p) / 13.0;
+    let p = 1.0 + (r * p) / 12.0;
+    let p = 1.0 + (r * p) / 11.0;
+    let p = 1.0 + (r * p) / 10.0;
+    let p = 1.0 + (r * p) / 9.0;
+    let p = 1.0 + (r * p) / 8.0;
+    let p = 1.0 + (r * p) / 7.0;
+    let p = 1.0 + (r * p) / 6.0;
+    let p = 1.0 + (r * p) / 5.0;
+    let p = 1.0 + (r * p) / 4.0;
+    let p = 1.0 + (r * p) / 3.0;
+    let p = 1.0 + (r * p) / 2.0;
+    let p = 1.0 + (r * p) / 1.0;
+    p * w
+}
+
+// 2^52 + b, b being the exponent's field of 2^n and n the floor of y = x * 1.4426950408889634 + 0.5, for an x from -708 to 709. From 2^52 on an f64 is
+// a whole number, so adding 2^52 + 1023 rounds y to one; it is compared with y, since it may be the one above.
+fn lifted(x: f64) -> f64
+    requires { ⌜ T (inside x) ⌝ }
+    ensures { λ r. ⌜ Lifted (floorOf (turnsOf x)) r ⌝ }
+{
+    let y = x * 1.4426950408889634 + 0.5;
+    let s = y + 4503599627371519.0;
+    if y < s - 4503599627371519.0 {
+        s - 1.0
+    } else {
+        s
+    }
+}
+
+// A whole number n as a float, and 2^n.
+struct Exponent {
+    n: f64,
+    w: f64,
+}
+
+// n and 2^n of an x: the digits of 2^52 + b are those of b.
+fn power(x: f64) -> Exponent
+    requires { ⌜ T (inside x) ⌝ }
+    ensures { λ r. ⌜ OnePower x (r .n) (r .w) ⌝ }
+{
+    let u = lifted(x);
+    let b = f64::to_bits(u) % 4503599627370496;
+    Exponent {
+        n: u - 4503599627371519.0,
+        w: float::pow2(b),
+    }
+}
+
+// The exponential between its borders.
+fn inner_exp(x: f64) -> f64
+    requires { ⌜ T (inside x) ⌝ }
+    ensures { λ r. ⌜ r ≡ expBy x (floorOf (turnsOf x)) ⌝ }
+{
+    let p = power(x);
+    raise(x, p.n, p.w)
+}
+
+// The exponential: NaN for NaN, +infinity above 709, +0 below -708. That of a zero is 1, which needs no series.
+pub fn exp(x: f64) -> f64
+    ensures { λ r. ⌜ r ≡ expOf x ⌝ }
+{
+    if x != x {
+        return x;
+    }
+    if 709.0 < x {
+        return 1.0 / 0.0;
+    }
+    if x < -708.0 {
+        return 0.0;
+    }
+    if x == 0.0 {
+        return 1.0;
+    }
+    inner_exp(x)
+}
+
+// Whether x is from -708 to 709.
+fn is_inside(x: f64) -> bool
+    ensures { λ r. ⌜ r ≡ inside x ⌝ }
+{
+    (-708.0 <= x) & (x <= 709.0)
+}
+
+// One step of the series, four times.
+fn step4(r: float::Four, p: float::Four, j: f64) -> float::Four
+    ensures { λ q. ⌜ q ≡ steppedFour r p j ⌝ }
+{
+    float::Four {
+        a: 1.0 + (r.a * p.a) / j,
+        b: 1.0 + (r.b * p.b) / j,
+        c: 1.0 + (r.c * p.c) / j,
+        e: 1.0 + (r.e * p.e) / j,
+    }
+}
+
+// What is left of each x past its n.
+fn left4(x: float::Four, n: float::Four) -> float::Four
+    ensures { λ q. ⌜ q ≡ leftFour x n ⌝ }
+{
+    float::Four {
+        a: (x.a - n.a * 0.6931471803691238) - n.a * 1.9082149292705877e-10,
+        b: (x.b - n.b * 0.6931471803691238) - n.b * 1.9082149292705877e-10,
+        c: (x.c - n.c * 0.6931471803691238) - n.c * 1.9082149292705877e-10,
+        e: (x.e - n.e * 0.6931471803691238) - n.e * 1.9082149292705877e-10,
+    }
+}
+
+// The series at each of four: p = 1 + (r * p) / j, for j = 13 down to 1.
+fn series4(r: float::Four) -> float::Four
+    ensures { λ q. ⌜ q ≡ seriesFour 13 r onesFour ⌝ }
+{
+    let mut p = float::Four {
+        a: 1.0,
+        b: 1.0,
+        c: 1.0,
+        e: 1.0,
+    };
+    let mut j: u64 = 13;
+    while 0 < j {
+        p = step4(r, p, j as f64);
+        j -= 1;
+    }
+    p
+}
+
+// Each p times its w.
+fn times4(p: float::Four, w: float::Four) -> float::Four
+    ensures { λ q. ⌜ q ≡ timesFour p w ⌝ }
+{
+    float::Four {
+        a: p.a * w.a,
+        b: p.b * w.b,
+        c: p.c * w.c,
+        e: p.e * w.e,
+    }
+}
+
+// float::Four whole numbers as floats, and their powers of two.
+struct Powers {
+    n: float::Four,
+    w: float::Four,
+}
+
+// n and 2^n of each x.
+fn powers4(x: float::Four) -> Powers
+    requires { ⌜ AllInside x ⌝ }
+    ensures { λ r. ⌜ PowersOf x (r .n) (r .w) ⌝ }
+{
+    let i = power(x.a);
+    let j = power(x.b);
+    let k = power(x.c);
+    let l = power(x.e);
+    let n = float::Four {
+        a: i.n,
+        b: j.n,
+        c: k.n,
+        e: l.n,
+    };
+    let w = float::Four {
+        a: i.w,
+        b: j.w,
+        c: k.w,
+        e: l.w,
+    };
+    Powers { n, w }
+}
+
+// float::Four exponentials between their borders.
+fn inner_exp4(x: float::Four) -> float::Four
+    requires { ⌜ AllInside x ⌝ }
+    ensures { λ r. ⌜ r ≡ exponentials x ⌝ }
+{
+    let s = powers4(x);
+    let n = s.n;
+    let w = s.w;
+    times4(series4(left4(x, n)), w)
+}
+
+// Whether all four are from -708 to 709.
+fn all_inside(x: float::Four) -> bool
+    ensures { λ r. ⌜ r ≡ allInside x ⌝ }
+{
+    is_inside(x.a) & is_inside(x.b) & is_inside(x.c) & is_inside(x.e)
+}
+
+// float::Four exponentials: zeros where all are below -708, side by side where all are between the borders, else one by one.
+pub fn exp4(x: float::Four) -> float::Four
+    ensures { λ r. ⌜ r ≡ exponentials x ⌝ }
+{
+    if (x.a < -708.0) & (x.b < -708.0) & (x.c < -708.0) & (x.e < -708.0) {
+        return float::Four {
+            a: 0.0,
+            b: 0.0,
+            c: 0.0,
+            e: 0.0,
+        };
+    }
+    if all_inside(x) {
+        return inner_exp4(x);
+    }
+    float::Four {
+        a: exp(x.a),
+        b: exp(x.b),
+        c: exp(x.c),
+        e: exp(x.e),
+    }
+}
+
+// Eight floats.
+pub struct Eight {
+    pub first: float::Four,
+    pub last: float::Four,
+}
+
+// As series4, of eight: a loop in which no step waits for another one's, since each is a chain of its own.
+fn series8(r: float::Four, t: float::Four) -> Eight
+    ensures { λ q. ⌜ q ≡ eightOf (seriesFour 13 r onesFour) (seriesFour 13 t onesFour) ⌝ }
+{
+    let mut p = float::Four {
+        a: 1.0,
+        b: 1.0,
+        c: 1.0,
+        e: 1.0,
+    };
+    let mut q = p;
+    let mut j: u64 = 13;
+    while 0 < j {
+        let k = j as f64;
+        p = step4(r, p, k);
+        q = step4(t, q, k);
+        j -= 1;
+    }
+    Eight { first: p, last: q }
+}
+
+// Eight exponentials between their borders.
+fn inner_exp8(x: float::Four, y: float::Four) -> Eight
+    requires { ⌜ (AllInside x) × (AllInside y) ⌝ }
+    ensures { λ r. ⌜ r ≡ eightOf (exponentials x) (exponentials y) ⌝ }
+{
+    let s = powers4(x);
+    let t = powers4(y);
+    let n = s.n;
+    let u = t.n;
+    let p = series8(left4(x, n), left4(y, u));
+    let v = s.w;
+    let w = t.w;
+    let f = p.first;
+    let l = p.last;
+    Eight {
+        first: times4(f, v),
+        last: times4(l, w),
+    }
+}
+
+// Eight exponentials: side by side where all are between the borders, else by fours.
+pub fn exp8(x: float::Four, y: float::Four) -> Eight
+    ensures { λ r. ⌜ r ≡ eightOf (exponentials x) (exponentials y) ⌝ }
+{
+    if all_inside(x) & all_inside(y) {
+        return inner_exp8(x, y);
+    }
+    Eight {
+        first: exp4(x),
+        last: exp4(y),
+    }
+}

@@ -1,0 +1,64 @@
+-- `float::positive_ln` meets its contract: f is the fraction and e − 1074 the exponent of the split float, which one test raises. Assumes nothing.
+use mathlib.Core.Path.{sym, _∙_, subst}
+use native.Mathlib.Omega.{arith}
+use lib.Dec.{T, le→leb}
+use lib.Ieee.{inFloat, ofBits, ofInt}
+use borrow.Author.Needs.{needs}
+use Rattle.logarithm.proofs.Logarithm.{ln-above, ln-rest}
+use Rattle.logarithm.proofs.positive_ln.Statement.{statement}
+use Rattle.logarithm.proofs.positive_ln.Tie as tie
+
+split-requires : tie.Need-split-requires
+split-requires c κs = search needs
+
+compose-requires : tie.Need-compose-requires
+compose-requires c κs = search needs
+
+int-to-float-ln-at : tie.Need-int-to-float-ln-at
+unfolding inFloat
+int-to-float-ln-at c =
+    let s = c .before .before .before .split in
+    le→leb (s .result .e) 9007199254740992 (omega (arith, s .ensures .high))
+
+ln-at-requires : tie.Need-ln-at-requires
+ln-at-requires c κs = search needs
+
+int-to-float-ln-at-2 : tie.Need-int-to-float-ln-at-2
+unfolding inFloat
+int-to-float-ln-at-2 c =
+    let s = c .before .before .before .split in
+    le→leb (s .result .e) 9007199254740992 (omega (arith, s .ensures .high))
+
+ln-at-requires-2 : tie.Need-ln-at-requires-2
+ln-at-requires-2 c κs = search needs
+
+returns : tie.Need-returns
+unfolding ofBits ofInt
+returns c =
+    let a = c .before .before .before .before .before in
+    let s = c .before .before .before .before .split in
+    let f = c .before .before .before .compose in
+    c .ln-at .ensures
+    ∙ ln-above (a .args .x) (subst T (sym (a .good .0 .1)) tt) (a .pre) (s .result .m) (s .result .e) (s .ensures) (f .result) (f .ensures) (c .before .before .if1 .taken)
+
+returns-2 : tie.Need-returns-2
+unfolding ofBits ofInt
+returns-2 c =
+    let a = c .before .before .before .before .before in
+    let s = c .before .before .before .before .split in
+    let f = c .before .before .before .compose in
+    c .ln-at2 .ensures
+    ∙ ln-rest (a .args .x) (subst T (sym (a .good .0 .1)) tt) (a .pre) (s .result .m) (s .result .e) (s .ensures) (f .result) (f .ensures) (c .before .before .if1 .left)
+
+pub positive-ln-spec : {M : Type 1} → statement M
+positive-ln-spec =
+    tie.close
+    (tie.spec
+    split-requires
+    compose-requires
+    int-to-float-ln-at
+    ln-at-requires
+    int-to-float-ln-at-2
+    ln-at-requires-2
+    returns
+    returns-2)
