@@ -12,7 +12,7 @@ use lib.Ieee.{Float, lt}
 use Rattle.logarithm.specs.Logarithm.{lnOf}
 use Rattle.vector.specs.Rows.{part, rowOf}
 use Rattle.vector.specs.Vectors.{argmaxOf}
-use Rattle.spherical.specs.Halves.{half, heldAt, freeAt}
+use Rattle.limits.specs.Halves.{half, heldAt, freeAt}
 use Rattle.mixture.specs.Mixture.{Em}
 use Rattle.mixture.specs.Fits.{Once, labelsOf, logwAt, logwOf}
 use Rattle.mixture.specs.Areas.{Area}

@@ -9,8 +9,8 @@ use lib.Dec.{leb}
 use lib.ListN.{length}
 use lib.Ieee.{Float}
 use borrow.Author.Tests.{leb-true}
-use Rattle.spherical.specs.Refusals.{need, weightOk, coordinateOk, every, sizesOk, roundsOk}
-use Rattle.spherical.proofs.Refusals.{met, sizes-met}
+use Rattle.limits.specs.Limits.{need, weightOk, coordinateOk, every, sizesOk, roundsOk}
+use Rattle.limits.proofs.Limits.{met, sizes-met}
 use Rattle.movmf.specs.Refusals.{arraysOk}
 use Rattle.movmf.specs.Halves.{Roomy}
 use Rattle.movmf.specs.declared.Lengths.{Lengths}

@@ -4,7 +4,7 @@ use Prim.Native.Nat.{ℕ}
 use lib.Dec.{leb}
 use lib.ListN.{length}
 use lib.Ieee.{Float}
-use Rattle.spherical.specs.Refusals.{need, weightOk, coordinateOk, every, sizesOk, roundsOk}
+use Rattle.limits.specs.Limits.{need, weightOk, coordinateOk, every, sizesOk, roundsOk}
 use Rattle.movmf.specs.Refusals.{arraysOk}
 use Rattle.movmf.specs.declared.Lengths.{Lengths}
 

@@ -215,7 +215,7 @@ fn refusal(
     ensures { λ r. ⌜ r ≡ refusalOf (now (weights .entry)) (now (coords .entry)) d hi rounds l ⌝ }
 {
     let m = weights.len();
-    if !spherical::sizes_ok(m, d, coords.len()) {
+    if !limits::sizes_ok(m, d, coords.len()) {
         return 1;
     }
     if hi > 64 {
@@ -227,10 +227,10 @@ fn refusal(
     if !movmf::arrays_ok(m, hi, d, l) {
         return 4;
     }
-    if !spherical::weights_ok(weights) {
+    if !limits::weights_ok(weights) {
         return 5;
     }
-    if !spherical::coordinates_ok(coords) {
+    if !limits::coordinates_ok(coords) {
         return 6;
     }
     0

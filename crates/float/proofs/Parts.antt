@@ -12,8 +12,7 @@ use lib.Ieee.{Float, nan, inf, fin, binary64, down, size, fits}
 use lib.Ieee.Fits.{down-pos}
 use lib.Ieee.Digits.{size-le}
 use lib.Ieee.Positive.{num, den, den-pos, positive}
-use Rattle.float.specs.Parts.{unitsOf}
-use Rattle.float.specs.Parts.{SplitOf}
+use Rattle.float.specs.Parts.{unitsOf, SplitOf}
 use Rattle.float.proofs.Rounding.{size-gt}
 use Rattle.float.proofs.Scaling.{Multiple}
 use Rattle.float.proofs.Units.{grained-of-fits, parts-of, in-units, places}

@@ -8,7 +8,7 @@ use native.Mathlib.Omega.{arith}
 use lib.Dec.{leb, eqb}
 use borrow.Author.Tests.{le-leb, leb-true, eqb-true}
 use lib.ListN.{length, getD}
-use Rattle.spherical.proofs.Refusals.{both, met}
+use Rattle.limits.proofs.Limits.{both, met}
 use Rattle.leaf_file.specs.LeafFile.{wholeAt, refusalBy, fileRefusal}
 use Rattle.leaf_file.specs.Texts.{Sized}
 

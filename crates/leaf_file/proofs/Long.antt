@@ -10,8 +10,8 @@ use lib.Dec.{leb, eqb}
 use lib.ListN.{length, take}
 use lib.Seq.{length-take-le, getD-take}
 use borrow.Author.Tests.{le-leb, leb-true, ne-eqb}
-use Rattle.spherical.specs.Refusals.{need}
-use Rattle.spherical.proofs.Refusals.{both}
+use Rattle.limits.specs.Limits.{need}
+use Rattle.limits.proofs.Limits.{both}
 use Rattle.leaf_file.specs.LeafFile.{Leaves, wholeAt, refusalBy, fileRefusal, leavesIn}
 use Rattle.leaf_file.specs.Listing.{listingBy, listing}
 

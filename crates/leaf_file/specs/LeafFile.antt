@@ -8,7 +8,7 @@ use lib.Dec.{leb, eqb}
 use lib.ListN.{length, getD, replicate}
 use lib.Ieee.{Float, binary64, ofBits}
 use Rattle.float.specs.Arithmetic.{plusZero}
-use Rattle.spherical.specs.Refusals.{need, workLength, marksLength}
+use Rattle.limits.specs.Limits.{need, workLength, marksLength}
 use Rattle.mixture.specs.Kappas.{tabulate}
 use Rattle.mixture.specs.declared.Settings.{Settings}
 use Rattle.mixture.specs.declared.Kappa.the-variants.{Free}

@@ -16,9 +16,8 @@ use lib.Ieee.Exact.{HasValue, round-exact}
 use lib.Ieee.Positive.{num, den, den-pos, positive, positive-of-value, value→cross}
 use lib.Ieee.Scale.{round-same}
 use Rattle.float.specs.Arithmetic.{f64, number, plusZero}
-use Rattle.float.specs.Parts.{unitsOf}
+use Rattle.float.specs.Parts.{unitsOf, SplitOf, valueOf}
 use Rattle.logarithm.specs.Logarithm.{exponentOf, fractionOf, lnAt, lnBy, lnOf}
-use Rattle.float.specs.Parts.{SplitOf, valueOf}
 use Rattle.float.proofs.Order.{lt-or-ge}
 use Rattle.float.proofs.Pattern.{minus-same}
 use Rattle.float.proofs.Whole.{sub-whole}

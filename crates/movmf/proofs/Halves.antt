@@ -11,8 +11,8 @@ use lib.Seq.{take-take}
 use lib.Ieee.{Float, le}
 use Rattle.vector.specs.Rows.{part, putPart}
 use Rattle.vector.proofs.Rows.{length-part}
-use Rattle.spherical.specs.Halves.{half, heldAt, freeAt}
-use Rattle.spherical.proofs.Halves.{put-there}
+use Rattle.limits.specs.Halves.{half, heldAt, freeAt}
+use Rattle.limits.proofs.Halves.{put-there}
 use Rattle.mixture.specs.Mixture.{Em}
 use Rattle.mixture.specs.Fits.{Once}
 use Rattle.mixture.specs.Areas.{partsIn, emOf, Runnable, RunDone}

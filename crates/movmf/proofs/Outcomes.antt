@@ -10,7 +10,7 @@ use lib.Seq.{length-take-le}
 use lib.Ieee.{Float, le}
 use Rattle.vector.specs.Rows.{part}
 use Rattle.vector.proofs.Rows.{length-part}
-use Rattle.spherical.specs.Halves.{half, heldAt, freeAt}
+use Rattle.limits.specs.Halves.{half, heldAt, freeAt}
 use Rattle.mixture.specs.Mixture.{Em}
 use Rattle.mixture.specs.Fits.{labelsOf, logwOf}
 use Rattle.mixture.specs.Areas.{partsIn, modelOf, emOf, Area}

@@ -10,8 +10,8 @@ use lib.Dec.{leb}
 use lib.ListN.{length}
 use lib.Ieee.{Float}
 use borrow.Author.Tests.{leb-true}
-use Rattle.spherical.specs.Refusals.{need, weightOk, coordinateOk, every, workLength, marksLength, sizesOk, groupsOk, roundsOk}
-use Rattle.spherical.proofs.Refusals.{both, met, sizes-met, groups-met}
+use Rattle.limits.specs.Limits.{need, weightOk, coordinateOk, every, workLength, marksLength, sizesOk, groupsOk, roundsOk}
+use Rattle.limits.proofs.Limits.{both, met, sizes-met, groups-met}
 use Rattle.movmf.specs.Refusals.{outputsOk, arraysOk, refusalOf}
 use Rattle.movmf.specs.Halves.{Roomy, LeavesFit, GroupsFit}
 use Rattle.movmf.specs.declared.Lengths.{Lengths}

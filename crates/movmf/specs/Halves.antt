@@ -6,7 +6,7 @@ use Prim.Native.Nat.{ℕ, _+_, _*_, _≤_, _<_}
 use lib.ListN.{take, drop}
 use lib.Ieee.{Float, le}
 use Rattle.vector.specs.Rows.{part}
-use Rattle.spherical.specs.Halves.{half, heldAt, freeAt}
+use Rattle.limits.specs.Halves.{half, heldAt, freeAt}
 use Rattle.mixture.specs.Mixture.{Em}
 use Rattle.mixture.specs.Fits.{Once}
 use Rattle.mixture.specs.Areas.{partsIn, emOf}

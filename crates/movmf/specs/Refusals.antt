@@ -5,7 +5,7 @@ use Prim.Native.Nat.{ℕ, _*_}
 use lib.Dec.{leb}
 use lib.ListN.{length}
 use lib.Ieee.{Float}
-use Rattle.spherical.specs.Refusals.{need, weightOk, coordinateOk, every, workLength, marksLength, sizesOk, groupsOk, roundsOk}
+use Rattle.limits.specs.Limits.{need, weightOk, coordinateOk, every, workLength, marksLength, sizesOk, groupsOk, roundsOk}
 use Rattle.movmf.specs.declared.Lengths.{Lengths}
 
 -- 4 if an output or work array is too short: labels m, responsibilities m·k, weights k, directions k·d, concentrations k, logw k

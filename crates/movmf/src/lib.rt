@@ -5,7 +5,7 @@ ghost use mathlib.Core.List.{_++_};
 ghost use Prim.Native.Nat.{_+_, _*_, _≤_, _<_};
 ghost use lib.ListN.{length, drop};
 ghost use Rattle.vector.specs.Rows.{part};
-ghost use Rattle.spherical.specs.Halves.{half, heldAt, freeAt};
+ghost use Rattle.limits.specs.Halves.{half, heldAt, freeAt};
 ghost use Rattle.mixture.specs.Fits.{labelsOf, lnWeight, logwOf};
 ghost use Rattle.mixture.specs.Areas.{partsIn, modelOf, Area};
 ghost use Rattle.mixture.specs.declared.Kappa.the-variants.{Free};
@@ -58,10 +58,10 @@ fn refusal(weights: &[f64], coords: &[f64], d: usize, k: usize, rounds: usize, l
     ensures { λ r. ⌜ r ≡ refusalOf (now (weights .entry)) (now (coords .entry)) d k rounds l ⌝ }
 {
     let m = weights.len();
-    if !spherical::sizes_ok(m, d, coords.len()) {
+    if !limits::sizes_ok(m, d, coords.len()) {
         return 1;
     }
-    if !spherical::groups_ok(k, m) {
+    if !limits::groups_ok(k, m) {
         return 2;
     }
     if rounds > 10000 {
@@ -70,10 +70,10 @@ fn refusal(weights: &[f64], coords: &[f64], d: usize, k: usize, rounds: usize, l
     if !arrays_ok(m, k, d, l) {
         return 4;
     }
-    if !spherical::weights_ok(weights) {
+    if !limits::weights_ok(weights) {
         return 5;
     }
-    if !spherical::coordinates_ok(coords) {
+    if !limits::coordinates_ok(coords) {
         return 6;
     }
     0
@@ -162,7 +162,7 @@ fn run_beside(
 {
     let kd = k * d;
     let n = m * k + kd + kd + 4 * m + 8 * k;
-    let a = spherical::free_at(second, n);
+    let a = limits::free_at(second, n);
     run_at(work, marks, weights, coords, s, t, m, k, d, a)
 }
 
@@ -268,8 +268,8 @@ pub fn kept_part<'a>(work: &'a [f64], r: Runs, m: usize, k: usize, d: usize) -> 
 {
     let kd = k * d;
     let n = m * k + kd + kd + 4 * m + 8 * k;
-    let a = spherical::held_at(r.second, n);
-    let b = spherical::free_at(r.second, n);
+    let a = limits::held_at(r.second, n);
+    let b = limits::free_at(r.second, n);
     keeper(&work[a..a + n], &work[b..b + n], n, r.held, r.last)
 }
 

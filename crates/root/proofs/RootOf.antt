@@ -14,9 +14,8 @@ use lib.Ieee.Digits.{size-lt, size-le, size-reaches}
 use lib.Ieee.Positive.{num, den, positive}
 use lib.Ieee.Scale.{round-same}
 use Rattle.float.specs.Arithmetic.{plusZero}
-use Rattle.float.specs.Parts.{unitsOf}
+use Rattle.float.specs.Parts.{unitsOf, SplitOf, valueOf}
 use Rattle.root.specs.Root.{nearRoot, placesOf, radicandOf, positiveRoot, rootOf}
-use Rattle.float.specs.Parts.{SplitOf, valueOf}
 use Rattle.root.specs.Steps.{Nearest}
 use Rattle.float.proofs.Tests.{zero-digits, not-below}
 use Rattle.float.proofs.Parts.{InUnits, units-split, units-size}

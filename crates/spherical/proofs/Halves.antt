@@ -19,23 +19,12 @@ use Rattle.lloyd.proofs.Regions.{labels-are, centers-are}
 use Rattle.spherical.specs.Restarts.{keepBy, keep, restartsUpTo, kmeansOf}
 use Rattle.spherical.specs.Refusals.{refusalOf}
 use Rattle.spherical.specs.Outcome.{Outcome, outcome}
-use Rattle.spherical.specs.Halves.{half, heldAt, freeAt, stateAt, Roomy, InHalf, Tried, Holds, HeldSmall, Addable, keptBy, TriedAgain, Fillable}
+use Rattle.limits.specs.Halves.{half, heldAt, freeAt}
+use Rattle.spherical.specs.Halves.{stateAt, Roomy, InHalf, Tried, Holds, HeldSmall, Addable, keptBy, TriedAgain, Fillable}
 use Rattle.spherical.specs.declared.Held.{Held}
 use Rattle.spherical.specs.declared.Clustered.the-variants.{Refused, Done}
+use Rattle.limits.proofs.Halves.{put-there}
 use Rattle.spherical.proofs.Refusals.{Ready}
-
--- ---- the places of the halves
-pub held-within : (second : Bool) (n l x : ℕ) → n + n ≤ l → x ≡ heldAt second n → (x + n ≤ l) × (x ≤ n)
-held-within true n l x h e = (omega arith, omega arith)
-held-within false n l x h e = (omega arith, omega arith)
-
-pub free-within : (second : Bool) (n l x : ℕ) → n + n ≤ l → x ≡ freeAt second n → x + n ≤ l
-free-within true n l x h e = omega arith
-free-within false n l x h e = omega arith
-
--- ---- what is copied out
-pub alike : {A : Type 0} (o l : List A) (n at q : ℕ) → q ≡ n → n ≤ length o → at + n ≤ length l → Alike (take n o) (take q (drop at l))
-alike o l n at q e h g = record { same = length-take-le n o h ∙ rw e (sym (length-part l at n g)) }
 
 module _ (m k d : ℕ) (w : List Float) (u : List ℕ) (a b : ℕ) where
   pub labels-at : (from q : ℕ) → from ≡ b → q ≡ m → take q (drop from u) ≡ stateAt m k d w u a b .labels
@@ -72,14 +61,6 @@ runnable m k d rounds a b q p weights coords w u eq ep hw hu r =
       weights-long = r .weights-long;
       rounds-small = r .rounds-small;
     }
-
--- a part that came back
-pub put-there : {A : Type 0} (w x : List A) (a n q : ℕ) → q ≡ n → length x ≡ length (take q (drop a w)) → a + n ≤ length w
-    → (part (putPart w a q x) a n ≡ x) × (take a (putPart w a q x) ≡ take a w) × (drop (a + n) (putPart w a q x) ≡ drop (a + n) w)
-put-there w x a n q e l h =
-    let lx : length x ≡ n = rw e at l ∙ length-part w a n h in
-    let ln : length x ≡ q = lx ∙ sym e in
-    (rw e (part-put w a n x lx (omega arith)), take-put-after w a a q x (omega arith) (omega arith), rw (← ln) (drop-put w a (a + n) x (omega arith) h))
 
 pub try-done : (m k d a b q p : ℕ) (w x : List Float) (u y : List ℕ) (result : Result) (r : Ran) → q ≡ half m k d → p ≡ m + k → length x ≡ length (take q (drop a w))
     → length y ≡ length (take p (drop b u)) → a + half m k d ≤ length w → b + (m + k) ≤ length u → RunDone result (stateIn m k d x y) r

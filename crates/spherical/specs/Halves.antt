@@ -10,18 +10,8 @@ use Rattle.lloyd.specs.Lloyd.{State}
 use Rattle.lloyd.specs.Results.{Result}
 use Rattle.lloyd.specs.Areas.{stateIn}
 use Rattle.lloyd.specs.declared.Ran.{Ran}
+use Rattle.limits.specs.Halves.{half, heldAt, freeAt}
 use Rattle.spherical.specs.declared.Held.{Held}
-
--- half of document 01's work arrays: m·k + 2·k·d + 4·m + 8·k f64, and m + k u32
-abbrev pub half : ℕ → ℕ → ℕ → ℕ
-half m k d = m * k + k * d + k * d + 4 * m + 8 * k
-
--- where the held half starts, and the free one
-abbrev pub heldAt : Bool → ℕ → ℕ
-heldAt second n = cond second n 0
-
-abbrev pub freeAt : Bool → ℕ → ℕ
-freeAt second n = cond second 0 n
 
 -- the state in the half that starts at these places
 abbrev pub stateAt : ℕ → ℕ → ℕ → List Float → List ℕ → ℕ → ℕ → State

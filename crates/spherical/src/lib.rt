@@ -7,79 +7,12 @@ ghost use mathlib.Core.List.{_++_};
 ghost use lib.ListN.{length, drop};
 ghost use Rattle.lloyd.specs.Results.{resultOf};
 ghost use Rattle.spherical.specs.Restarts.{kmeansOf};
-ghost use Rattle.spherical.specs.Refusals.{weightOk, coordinateOk, every, sizesOk, groupsOk, arraysOk, refusalOf};
+ghost use Rattle.spherical.specs.Refusals.{arraysOk, refusalOf};
 ghost use Rattle.spherical.specs.Outcome.{Outcome, outcome};
-ghost use Rattle.spherical.specs.Halves.{half, heldAt, freeAt, stateAt, Roomy, Tried, TriedAgain, Holds, HeldSmall, Addable, keptHeld, Fillable};
+ghost use Rattle.limits.specs.Halves.{half};
+ghost use Rattle.spherical.specs.Halves.{stateAt, Roomy, Tried, TriedAgain, Holds, HeldSmall, Addable, keptHeld, Fillable};
 
 // ---- what is refused
-
-// A weight from 0 to 2^40.
-fn weight_ok(w: f64) -> bool
-    ensures { λ r. ⌜ r ≡ weightOk w ⌝ }
-{
-    (0.0 <= w) & (w <= 1099511627776.0)
-}
-
-// A coordinate within +-2.
-fn coordinate_ok(x: f64) -> bool
-    ensures { λ r. ⌜ r ≡ coordinateOk x ⌝ }
-{
-    (-2.0 <= x) & (x <= 2.0)
-}
-
-pub fn weights_ok(ws: &[f64]) -> bool
-    ensures { λ r. ⌜ r ≡ every weightOk (now (ws .entry)) ⌝ }
-{
-    let mut j = 0;
-    while j < ws.len() {
-        if weight_ok(ws[j]) {
-            j += 1;
-        } else {
-            return false;
-        }
-    }
-    true
-}
-
-pub fn coordinates_ok(xs: &[f64]) -> bool
-    ensures { λ r. ⌜ r ≡ every coordinateOk (now (xs .entry)) ⌝ }
-{
-    let mut j = 0;
-    while j < xs.len() {
-        if coordinate_ok(xs[j]) {
-            j += 1;
-        } else {
-            return false;
-        }
-    }
-    true
-}
-
-// m and d within their limits, and m * d coordinates.
-pub fn sizes_ok(m: usize, d: usize, coords: usize) -> bool
-    ensures { λ r. ⌜ r ≡ sizesOk m d coords ⌝ }
-{
-    if m < 1 {
-        return false;
-    }
-    if m > 4096 {
-        return false;
-    }
-    if d < 1 {
-        return false;
-    }
-    if d > 256 {
-        return false;
-    }
-    coords == m * d
-}
-
-// k within its limits.
-pub fn groups_ok(k: usize, m: usize) -> bool
-    ensures { λ r. ⌜ r ≡ groupsOk k m ⌝ }
-{
-    (1 <= k) & ((k <= 64) & (k <= m))
-}
 
 // The outputs and the work arrays are long enough.
 fn arrays_ok(
@@ -117,10 +50,10 @@ fn refusal(
     ensures { λ r. ⌜ r ≡ refusalOf (now (weights .entry)) (now (coords .entry)) d k rounds restarts labels directions work marks ⌝ }
 {
     let m = weights.len();
-    if !sizes_ok(m, d, coords.len()) {
+    if !limits::sizes_ok(m, d, coords.len()) {
         return 1;
     }
-    if !groups_ok(k, m) {
+    if !limits::groups_ok(k, m) {
         return 2;
     }
     if rounds > 10000 {
@@ -132,10 +65,10 @@ fn refusal(
     if !arrays_ok(m, k, d, labels, directions, work, marks) {
         return 4;
     }
-    if !weights_ok(weights) {
+    if !limits::weights_ok(weights) {
         return 5;
     }
-    if !coordinates_ok(coords) {
+    if !limits::coordinates_ok(coords) {
         return 6;
     }
     0
@@ -187,20 +120,6 @@ pub struct Held {
     pub state: u64,
 }
 
-// Where the free half starts, n being a half's length.
-pub fn free_at(second: bool, n: usize) -> usize
-    ensures { λ r. ⌜ r ≡ freeAt second n ⌝ }
-{
-    if second { 0 } else { n }
-}
-
-// Where the held half starts.
-pub fn held_at(second: bool, n: usize) -> usize
-    ensures { λ r. ⌜ r ≡ heldAt second n ⌝ }
-{
-    if second { n } else { 0 }
-}
-
 // With one run more, which stands in the free half.
 fn keep(h: Held, r: lloyd::Ran) -> Held
     requires { ⌜ Addable h r ⌝ }
@@ -247,8 +166,8 @@ fn try_again(
 {
     let kd = k * d;
     let n = m * k + kd + kd + 4 * m + 8 * k;
-    let a = free_at(h.second, n);
-    let b = free_at(h.second, m + k);
+    let a = limits::free_at(h.second, n);
+    let b = limits::free_at(h.second, m + k);
     let r = run_at(work, marks, weights, coords, h.state, m, k, d, rounds, a, b);
     keep(h, r)
 }
@@ -317,8 +236,8 @@ fn fill_outputs(
 {
     let kd = k * d;
     let n = m * k + kd + kd + 4 * m + 8 * k;
-    let a = held_at(second, n);
-    let b = held_at(second, m + k);
+    let a = limits::held_at(second, n);
+    let b = limits::held_at(second, m + k);
     vector::copy_u32(&mut labels[..m], &marks[b..b + m]);
     vector::copy(&mut directions[..kd], &work[a..a + kd]);
 }

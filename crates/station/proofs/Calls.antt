@@ -10,9 +10,7 @@ use Rattle.movmf.specs.Outcome.{Outputs, Outcome as FittedOutcome}
 use Rattle.movmf.specs.declared.Fitted.{Fitted}
 use Rattle.auto.specs.Outcome.{Outcome as ChosenOutcome}
 use Rattle.auto.specs.declared.Chosen.{Chosen}
-use Rattle.station.specs.Answers.{ClusteredNumbers, clusteredNumbers, ClusteredCall, clusteredCall}
-use Rattle.station.specs.Answers.{FittedNumbers, fittedNumbers, FittedCall, fittedCall}
-use Rattle.station.specs.Answers.{ChosenNumbers, chosenNumbers, ChosenCall, chosenCall}
+use Rattle.station.specs.Answers.{ClusteredNumbers, clusteredNumbers, ClusteredCall, clusteredCall, FittedNumbers, fittedNumbers, FittedCall, fittedCall, ChosenNumbers, chosenNumbers, ChosenCall, chosenCall}
 
 pub clustered : (cohesion : Float) (counts labels : List ℕ) (directions : List Float) (a : Clustered) (n : ClusteredNumbers) (o : ClusteredOutcome)
     → _≡_ {A = ClusteredOutcome} (record { answer = a; labels = labels; directions = directions }) o → n ≡ clusteredNumbers cohesion counts a

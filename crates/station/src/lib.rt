@@ -8,9 +8,7 @@ ghost use Rattle.auto.specs.Choice.{highest, lowest};
 ghost use Rattle.auto.specs.Refusals.{refusalOf};
 ghost use Rattle.auto.specs.Outcome.{outcome as chosenOutcome};
 ghost use Rattle.auto.specs.Best.{Best};
-ghost use Rattle.station.specs.Answers.{kappaOf, ClusteredNumbers, clusteredNumbers, ClusteredCall, clusteredCall};
-ghost use Rattle.station.specs.Answers.{FittedNumbers, fittedNumbers, FittedCall, fittedCall};
-ghost use Rattle.station.specs.Answers.{ChosenNumbers, chosenNumbers, ChosenCall, chosenCall};
+ghost use Rattle.station.specs.Answers.{kappaOf, ClusteredNumbers, clusteredNumbers, ClusteredCall, clusteredCall, FittedNumbers, fittedNumbers, FittedCall, fittedCall, ChosenNumbers, chosenNumbers, ChosenCall, chosenCall};
 
 // ---- the answers' cases
 

@@ -5,8 +5,8 @@ use mathlib.Core.Bool.{true, false}
 use lib.Dec.{leb}
 use lib.ListN.{length}
 use borrow.Author.Tests.{le-leb, lt-leb, not-true, not-false}
-use Rattle.spherical.specs.Refusals.{weightOk, every, sizesOk, roundsOk}
-use Rattle.spherical.proofs.Refusals.{sizes-met}
+use Rattle.limits.specs.Limits.{weightOk, every, sizesOk, roundsOk}
+use Rattle.limits.proofs.Limits.{sizes-met}
 use Rattle.movmf.specs.Refusals.{arraysOk}
 use Rattle.auto.proofs.Refusals.{refusal-by}
 use borrow.Author.Needs.{needs}

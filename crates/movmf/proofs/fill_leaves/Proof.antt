@@ -6,7 +6,7 @@ use native.Mathlib.Omega.{arith}
 use lib.ListN.{drop}
 use lib.Seq.{length-take-le}
 use lib.Ieee.{Float}
-use Rattle.spherical.proofs.Halves.{alike}
+use Rattle.limits.proofs.Halves.{alike}
 use Rattle.mixture.specs.Fits.{labelsOf}
 use Rattle.mixture.proofs.Regions.{respR}
 use Rattle.mixture.proofs.Groups.{region-cut}

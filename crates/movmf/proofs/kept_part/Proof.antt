@@ -2,8 +2,8 @@
 use Prim.Native.Nat.{_+_, _≤_}
 use native.Mathlib.Omega.{arith}
 use lib.ListN.{length}
-use Rattle.spherical.specs.Halves.{half}
-use Rattle.spherical.proofs.Halves.{held-within, free-within}
+use Rattle.limits.specs.Halves.{half}
+use Rattle.limits.proofs.Halves.{held-within, free-within}
 use Rattle.movmf.proofs.Halves.{parts-long, part-kept}
 use borrow.Author.Needs.{needs}
 use Rattle.movmf.proofs.kept_part.Statement.{statement}

@@ -4,8 +4,8 @@ use mathlib.Core.Path.{_≡_, refl, sym, _∙_}
 use mathlib.Core.Bool.{true, false}
 use lib.ListN.{length}
 use borrow.Author.Tests.{le-leb, lt-leb, not-true, not-false}
-use Rattle.spherical.specs.Refusals.{weightOk, every, sizesOk, groupsOk, roundsOk}
-use Rattle.spherical.proofs.Refusals.{sizes-met, groups-met}
+use Rattle.limits.specs.Limits.{weightOk, every, sizesOk, groupsOk, roundsOk}
+use Rattle.limits.proofs.Limits.{sizes-met, groups-met}
 use Rattle.movmf.specs.Refusals.{arraysOk}
 use Rattle.movmf.proofs.Refusals.{refusal-by}
 use borrow.Author.Needs.{needs}

@@ -3,7 +3,7 @@ use mathlib.Core.Path.{_≡_, ap, sym}
 use Prim.Native.Nat.{ℕ, _+_, _-_}
 use native.Mathlib.Omega.{arith}
 use lib.ListN.{length}
-use Rattle.spherical.specs.Halves.{half}
+use Rattle.limits.specs.Halves.{half}
 use Rattle.mixture.specs.Areas.{partsIn, RunDone}
 use Rattle.movmf.specs.Keeper.{runOf, settingsOf}
 use Rattle.movmf.proofs.Halves.{runnable, try-done}

@@ -1,7 +1,7 @@
 -- A run in the free half, which lies within the array by which half is held. Assumes nothing.
 use lib.ListN.{length}
-use Rattle.spherical.specs.Halves.{half, freeAt}
-use Rattle.spherical.proofs.Halves.{free-within}
+use Rattle.limits.specs.Halves.{half, freeAt}
+use Rattle.limits.proofs.Halves.{free-within}
 use Rattle.movmf.specs.Keeper.{runOf}
 use Rattle.movmf.proofs.Halves.{tried-of}
 use borrow.Author.Needs.{needs}

@@ -7,8 +7,9 @@ use borrow.Author.Needs.{needs}
 use lib.ListN.{length, drop}
 use lib.Seq.{length-take-le}
 use lib.Ieee.{Float}
-use Rattle.spherical.specs.Halves.{half, heldAt}
-use Rattle.spherical.proofs.Halves.{held-within, alike, labels-at, centers-at}
+use Rattle.limits.specs.Halves.{half, heldAt}
+use Rattle.limits.proofs.Halves.{held-within, alike}
+use Rattle.spherical.proofs.Halves.{labels-at, centers-at}
 use Rattle.spherical.proofs.fill_outputs.Statement.{statement}
 use Rattle.spherical.proofs.fill_outputs.Tie as tie
 

@@ -5,8 +5,10 @@ use mathlib.Core.Bool.{true, false}
 use lib.ListN.{length}
 use borrow.Author.Needs.{needs}
 use borrow.Author.Tests.{le-leb, lt-leb, not-true, not-false}
-use Rattle.spherical.specs.Refusals.{weightOk, every, sizesOk, groupsOk, roundsOk, restartsOk, arraysOk}
-use Rattle.spherical.proofs.Refusals.{sizes-met, groups-met, refusal-by}
+use Rattle.limits.specs.Limits.{weightOk, every, sizesOk, groupsOk, roundsOk}
+use Rattle.spherical.specs.Refusals.{restartsOk, arraysOk}
+use Rattle.limits.proofs.Limits.{sizes-met, groups-met}
+use Rattle.spherical.proofs.Refusals.{refusal-by}
 use Rattle.spherical.proofs.refusal.Statement.{statement}
 use Rattle.spherical.proofs.refusal.Tie as tie
 

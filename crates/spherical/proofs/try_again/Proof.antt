@@ -3,8 +3,9 @@ use Prim.Native.Nat.{_+_}
 use lib.ListN.{length}
 use borrow.Author.Needs.{needs}
 use Rattle.lloyd.specs.Results.{resultOf}
-use Rattle.spherical.specs.Halves.{half, freeAt}
-use Rattle.spherical.proofs.Halves.{free-within, tried-of, addable}
+use Rattle.limits.specs.Halves.{half, freeAt}
+use Rattle.limits.proofs.Halves.{free-within}
+use Rattle.spherical.proofs.Halves.{tried-of, addable}
 use Rattle.spherical.proofs.try_again.Statement.{statement}
 use Rattle.spherical.proofs.try_again.Tie as tie
 

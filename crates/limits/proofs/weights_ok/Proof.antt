@@ -5,10 +5,10 @@ use Prim.Native.Nat.{_≤_, _-_}
 use native.Mathlib.Omega.{arith}
 use borrow.Author.Needs.{needs}
 use lib.ListN.{length, drop}
-use Rattle.spherical.specs.Refusals.{weightOk, every}
-use Rattle.spherical.proofs.Refusals.{every-turn, every-end}
-use Rattle.spherical.proofs.weights_ok.Statement.{statement}
-use Rattle.spherical.proofs.weights_ok.Tie as tie
+use Rattle.limits.specs.Limits.{weightOk, every}
+use Rattle.limits.proofs.Limits.{every-turn, every-end}
+use Rattle.limits.proofs.weights_ok.Statement.{statement}
+use Rattle.limits.proofs.weights_ok.Tie as tie
 
 abbrev Inv-loop : tie.InvT-loop
 Inv-loop ws j₀ j = (j ≤ length ws) × (every weightOk (drop j ws) ≡ every weightOk ws)

@@ -5,10 +5,10 @@ use Prim.Native.Nat.{_≤_, _-_}
 use native.Mathlib.Omega.{arith}
 use borrow.Author.Needs.{needs}
 use lib.ListN.{length, drop}
-use Rattle.spherical.specs.Refusals.{coordinateOk, every}
-use Rattle.spherical.proofs.Refusals.{every-turn, every-end}
-use Rattle.spherical.proofs.coordinates_ok.Statement.{statement}
-use Rattle.spherical.proofs.coordinates_ok.Tie as tie
+use Rattle.limits.specs.Limits.{coordinateOk, every}
+use Rattle.limits.proofs.Limits.{every-turn, every-end}
+use Rattle.limits.proofs.coordinates_ok.Statement.{statement}
+use Rattle.limits.proofs.coordinates_ok.Tie as tie
 
 abbrev Inv-loop : tie.InvT-loop
 Inv-loop xs j₀ j = (j ≤ length xs) × (every coordinateOk (drop j xs) ≡ every coordinateOk xs)

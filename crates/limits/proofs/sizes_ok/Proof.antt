@@ -3,8 +3,8 @@ use native.Mathlib.Nat.{mul-le-mul}
 use native.Mathlib.Omega.{arith}
 use borrow.Author.Needs.{needs}
 use borrow.Author.Tests.{le-leb, lt-leb}
-use Rattle.spherical.proofs.sizes_ok.Statement.{statement}
-use Rattle.spherical.proofs.sizes_ok.Tie as tie
+use Rattle.limits.proofs.sizes_ok.Statement.{statement}
+use Rattle.limits.proofs.sizes_ok.Tie as tie
 
 returns : tie.Need-returns
 returns c = search (le-leb, lt-leb, needs)

@@ -1,0 +1,90 @@
+// The limits that the entries share (document 01, 'Leaves, settings, fit' and 'Refusals by call'), and where the two halves of the lent work arrays start.
+ghost use mathlib.Core.Path.{_≡_};
+ghost use Rattle.limits.specs.Limits.{weightOk, coordinateOk, every, sizesOk, groupsOk};
+ghost use Rattle.limits.specs.Halves.{heldAt, freeAt};
+
+// A weight from 0 to 2^40.
+fn weight_ok(w: f64) -> bool
+    ensures { λ r. ⌜ r ≡ weightOk w ⌝ }
+{
+    (0.0 <= w) & (w <= 1099511627776.0)
+}
+
+// A coordinate within +-2.
+fn coordinate_ok(x: f64) -> bool
+    ensures { λ r. ⌜ r ≡ coordinateOk x ⌝ }
+{
+    (-2.0 <= x) & (x <= 2.0)
+}
+
+// Every weight is one.
+pub fn weights_ok(ws: &[f64]) -> bool
+    ensures { λ r. ⌜ r ≡ every weightOk (now (ws .entry)) ⌝ }
+{
+    let mut j = 0;
+    while j < ws.len() {
+        if weight_ok(ws[j]) {
+            j += 1;
+        } else {
+            return false;
+        }
+    }
+    true
+}
+
+// Every coordinate is one.
+pub fn coordinates_ok(xs: &[f64]) -> bool
+    ensures { λ r. ⌜ r ≡ every coordinateOk (now (xs .entry)) ⌝ }
+{
+    let mut j = 0;
+    while j < xs.len() {
+        if coordinate_ok(xs[j]) {
+            j += 1;
+        } else {
+            return false;
+        }
+    }
+    true
+}
+
+// m and d within their limits, and m * d coordinates.
+pub fn sizes_ok(m: usize, d: usize, coords: usize) -> bool
+    ensures { λ r. ⌜ r ≡ sizesOk m d coords ⌝ }
+{
+    if m < 1 {
+        return false;
+    }
+    if m > 4096 {
+        return false;
+    }
+    if d < 1 {
+        return false;
+    }
+    if d > 256 {
+        return false;
+    }
+    coords == m * d
+}
+
+// k within its limits.
+pub fn groups_ok(k: usize, m: usize) -> bool
+    ensures { λ r. ⌜ r ≡ groupsOk k m ⌝ }
+{
+    (1 <= k) & ((k <= 64) & (k <= m))
+}
+
+// ---- the halves of the work arrays
+
+// Where the free half starts, n being a half's length.
+pub fn free_at(second: bool, n: usize) -> usize
+    ensures { λ r. ⌜ r ≡ freeAt second n ⌝ }
+{
+    if second { 0 } else { n }
+}
+
+// Where the held half starts.
+pub fn held_at(second: bool, n: usize) -> usize
+    ensures { λ r. ⌜ r ≡ heldAt second n ⌝ }
+{
+    if second { n } else { 0 }
+}
