@@ -17,7 +17,7 @@ use Rattle.lloyd.proofs.Runs.{run-counts}
 use Rattle.lloyd.proofs.Tallies.{begun-most}
 use Rattle.mixture.specs.Fits.{Once, onceOf}
 use Rattle.mixture.specs.declared.Settings.{Settings}
-use Rattle.movmf.specs.Keeper.{keepBy, runOf, runsUpTo}
+use Rattle.keeper.specs.Keeper.{keepBy, runOf, runsUpTo}
 use Rattle.movmf.specs.Outcome.{Outputs}
 use Rattle.auto.specs.Choice.{heldScore}
 use Rattle.auto.specs.Outcome.{tallyBy, lone, score, autoUpTo}

@@ -18,10 +18,11 @@ use Rattle.mixture.specs.Fits.{Once, labelsOf, logwAt, logwOf}
 use Rattle.mixture.specs.Areas.{Area}
 use Rattle.mixture.specs.declared.Settings.{Settings}
 use Rattle.mixture.proofs.Regions.{respR, weightsR, directionsR, kappasR, length-in, tabulate-length}
-use Rattle.movmf.specs.Keeper.{runOf, runsUpTo, fitOf}
+use Rattle.keeper.specs.Keeper.{runOf, runsUpTo, fitOf}
 use Rattle.movmf.specs.Outcome.{Outputs, written, lengthsOf}
-use Rattle.movmf.specs.Halves.{Both, keptPart, keptLoglik, keptEm, Fillable}
-use Rattle.movmf.specs.declared.Runs.{Runs}
+use Rattle.keeper.specs.Halves.{Both, keptPart, keptLoglik, keptEm}
+use Rattle.movmf.specs.Outputs.{Fillable}
+use Rattle.keeper.specs.declared.Runs.{Runs}
 use Rattle.movmf.proofs.Outcomes.{kept-area, fit-em, fit-counts}
 use Rattle.auto.specs.Choice.{totalOf, scoreBy, heldScore}
 use Rattle.auto.specs.Outcome.{Auto, tallyBy, outputsBy, lone, score, tryNumber, autoUpTo}

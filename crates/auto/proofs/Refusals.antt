@@ -12,7 +12,7 @@ use borrow.Author.Tests.{leb-true}
 use Rattle.limits.specs.Limits.{need, weightOk, coordinateOk, every, sizesOk, roundsOk}
 use Rattle.limits.proofs.Limits.{met, sizes-met}
 use Rattle.movmf.specs.Refusals.{arraysOk}
-use Rattle.movmf.specs.Halves.{Roomy}
+use Rattle.keeper.specs.Halves.{Roomy}
 use Rattle.movmf.specs.declared.Lengths.{Lengths}
 use Rattle.movmf.proofs.Refusals.{arrays-met, roomy-by}
 use Rattle.movmf.proofs.Outcomes.{fillable}

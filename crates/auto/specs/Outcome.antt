@@ -6,7 +6,7 @@ use lib.ListN.{length}
 use lib.Ieee.{Float, inf, lt}
 use Rattle.mixture.specs.Fits.{Once}
 use Rattle.mixture.specs.declared.Settings.{Settings}
-use Rattle.movmf.specs.Keeper.{fitOf}
+use Rattle.keeper.specs.Keeper.{fitOf}
 use Rattle.movmf.specs.Outcome.{Outputs, written, lengthsOf}
 use Rattle.auto.specs.Choice.{highest, lowest, scoreOf, heldScore}
 use Rattle.auto.specs.Refusals.{refusalOf}

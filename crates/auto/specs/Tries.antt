@@ -8,9 +8,10 @@ use lib.Ieee.{Float, lt}
 use Rattle.mixture.specs.Mixture.{Em}
 use Rattle.mixture.specs.declared.Settings.{Settings}
 use Rattle.movmf.specs.Outcome.{Outputs, written}
-use Rattle.movmf.specs.Halves.{Roomy, Fillable}
+use Rattle.keeper.specs.Halves.{Roomy}
+use Rattle.movmf.specs.Outputs.{Fillable}
 use Rattle.movmf.specs.declared.Lengths.{Lengths}
-use Rattle.movmf.specs.declared.Runs.{Runs}
+use Rattle.keeper.specs.declared.Runs.{Runs}
 use Rattle.auto.specs.Choice.{heldScore}
 use Rattle.auto.specs.Outcome.{lone, score, tallyBy, outputsBy}
 use Rattle.auto.specs.declared.Choice.the-variants.{Number}

@@ -66,7 +66,7 @@ pub struct Tally {
 }
 
 // With number k, which is kept.
-fn tally_kept(t: Tally, k: usize, score: f64, loglik: f64, r: movmf::Runs) -> Tally
+fn tally_kept(t: Tally, k: usize, score: f64, loglik: f64, r: keeper::Runs) -> Tally
     requires { ⌜ (TallySmall t 64) × (RunsSmall r) ⌝ }
     ensures { λ q. ⌜ q ≡ keptTally k score loglik r t ⌝ }
 {
@@ -80,7 +80,7 @@ fn tally_kept(t: Tally, k: usize, score: f64, loglik: f64, r: movmf::Runs) -> Ta
 }
 
 // With a number that is not.
-fn tally_left(t: Tally, r: movmf::Runs) -> Tally
+fn tally_left(t: Tally, r: keeper::Runs) -> Tally
     requires { ⌜ (TallySmall t 64) × (RunsSmall r) ⌝ }
     ensures { λ q. ⌜ q ≡ leftTally r t ⌝ }
 {
@@ -120,8 +120,8 @@ fn try_number(
         (arrays (now (labels .exit)) (now (responsibilities .exit)) (now («group_weights» .exit)) (now (directions .exit)) (now (concentrations .exit)) (now (logw .exit))) ⌝ }
 {
     let m = weights.len();
-    let r = movmf::four_runs(work, marks, weights, coords, s, m, k, d);
-    let loglik = movmf::kept_loglik(r);
+    let r = keeper::four_runs(work, marks, weights, coords, s, m, k, d);
+    let loglik = keeper::kept_loglik(r);
     let kappa = s.kappa;
     let score = score_at(kappa, k, d, loglik, ln_total);
     let choice = t.choice;

@@ -1,4 +1,3 @@
-pub mod Halves
 pub mod Refusals
 pub mod Outputs
 pub mod Outcomes

@@ -15,14 +15,15 @@ use Rattle.mixture.specs.Mixture.{Em}
 use Rattle.mixture.specs.Fits.{labelsOf, logwOf}
 use Rattle.mixture.specs.Areas.{partsIn, modelOf, emOf, Area}
 use Rattle.mixture.specs.declared.Settings.{Settings}
-use Rattle.movmf.specs.Keeper.{runOf, runsUpTo, fitOf}
+use Rattle.keeper.specs.Keeper.{runOf, runsUpTo, fitOf}
 use Rattle.movmf.specs.Refusals.{refusalOf}
 use Rattle.movmf.specs.Outcome.{Outputs, Outcome, written, lengthsOf, outcome}
-use Rattle.movmf.specs.Halves.{Both, keptPart, keptLoglik, keptEm, Halved, Fillable, Roomy}
-use Rattle.movmf.specs.declared.Runs.{Runs}
+use Rattle.keeper.specs.Halves.{Both, keptPart, keptLoglik, keptEm, Halved, Roomy}
+use Rattle.movmf.specs.Outputs.{Fillable}
+use Rattle.keeper.specs.declared.Runs.{Runs}
 use Rattle.movmf.specs.declared.Fitted.the-variants.{Refused, Done}
 use Rattle.movmf.specs.declared.Lengths.{Lengths}
-use Rattle.movmf.proofs.Halves.{kept-em, kept-counts, halved}
+use Rattle.keeper.proofs.Halves.{kept-em, kept-counts, halved}
 use Rattle.movmf.proofs.Refusals.{Arrays}
 
 -- ---- the kept part is an area

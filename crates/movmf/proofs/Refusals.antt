@@ -13,7 +13,8 @@ use borrow.Author.Tests.{leb-true}
 use Rattle.limits.specs.Limits.{need, weightOk, coordinateOk, every, workLength, marksLength, sizesOk, groupsOk, roundsOk}
 use Rattle.limits.proofs.Limits.{both, met, sizes-met, groups-met}
 use Rattle.movmf.specs.Refusals.{outputsOk, arraysOk, refusalOf}
-use Rattle.movmf.specs.Halves.{Roomy, LeavesFit, GroupsFit}
+use Rattle.keeper.specs.Halves.{Roomy}
+use Rattle.movmf.specs.Outputs.{LeavesFit, GroupsFit}
 use Rattle.movmf.specs.declared.Lengths.{Lengths}
 
 -- the arrays are long enough for k groups

@@ -1,4 +1,3 @@
-pub mod Keeper
 pub mod Refusals
 pub mod Outcome
-pub mod Halves
+pub mod Outputs

@@ -4,8 +4,8 @@ use mathlib.Core.Path.{_≡_, refl}
 use Prim.Native.Nat.{ℕ}
 use lib.ListN.{length}
 use Rattle.movmf.specs.Outcome.{Outputs, arrays}
-use Rattle.movmf.specs.Halves.{Fillable}
-use Rattle.movmf.specs.Keeper.{runOf, runsUpTo}
+use Rattle.movmf.specs.Outputs.{Fillable}
+use Rattle.keeper.specs.Keeper.{runOf, runsUpTo}
 use Rattle.auto.proofs.Numbers.{runs-small, fillable-of, tried-kept, tried-left}
 use borrow.Author.Needs.{needs}
 use Rattle.auto.proofs.try_number.Statement.{statement}

@@ -4,10 +4,10 @@ use native.Mathlib.Omega.{arith}
 use lib.ListN.{length}
 use Rattle.limits.specs.Halves.{half}
 use Rattle.limits.proofs.Halves.{held-within, free-within}
-use Rattle.movmf.proofs.Halves.{parts-long, part-kept}
+use Rattle.keeper.proofs.Halves.{parts-long, part-kept}
 use borrow.Author.Needs.{needs}
-use Rattle.movmf.proofs.kept_part.Statement.{statement}
-use Rattle.movmf.proofs.kept_part.Tie as tie
+use Rattle.keeper.proofs.kept_part.Statement.{statement}
+use Rattle.keeper.proofs.kept_part.Tie as tie
 
 -- both halves lie within the array
 held-in : (c : tie.After-free-at) → let a = c .before .before .before .args in c .before .held-at .result + half (a .m) (a .k) (a .d) ≤ length (a .work .now)

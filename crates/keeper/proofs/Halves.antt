@@ -18,10 +18,10 @@ use Rattle.mixture.specs.Fits.{Once}
 use Rattle.mixture.specs.Areas.{partsIn, emOf, Runnable, RunDone}
 use Rattle.mixture.specs.declared.Ran.{Ran}
 use Rattle.mixture.specs.declared.Settings.{Settings}
-use Rattle.movmf.specs.Keeper.{keepBy, keep, runOf, runsUpTo}
-use Rattle.movmf.specs.Halves.{emAt, Roomy, Tried, Holds, HeldSmall, Addable, keptBy, keptHeld, Both, keptPart, keptEm, Halved}
-use Rattle.movmf.specs.declared.Held.{Held}
-use Rattle.movmf.specs.declared.Runs.{Runs}
+use Rattle.keeper.specs.Keeper.{keepBy, keep, runOf, runsUpTo}
+use Rattle.keeper.specs.Halves.{emAt, Roomy, Tried, Holds, HeldSmall, Addable, keptBy, keptHeld, Both, keptPart, keptEm, Halved}
+use Rattle.keeper.specs.declared.Held.{Held}
+use Rattle.keeper.specs.declared.Runs.{Runs}
 
 -- ---- one run in one half
 pub roomy-of : (w w' u u' x y m k d rounds : ℕ) → w' ≡ w → u' ≡ u → Roomy w u x y m k d rounds → Roomy w' u' x y m k d rounds

@@ -3,8 +3,8 @@ use mathlib.Core.Path.{ap, sym}
 use mathlib.Core.Bool.{Bool, cond}
 use lib.ListN.{take}
 use lib.Seq.{length-take-le}
-use Rattle.movmf.proofs.keeper.Statement.{statement}
-use Rattle.movmf.proofs.keeper.Tie as tie
+use Rattle.keeper.proofs.keeper.Statement.{statement}
+use Rattle.keeper.proofs.keeper.Tie as tie
 
 slice-aggregate-result : tie.Need-slice-aggregate-result
 slice-aggregate-result c =

@@ -5,11 +5,11 @@ use native.Mathlib.Omega.{arith}
 use lib.ListN.{length}
 use Rattle.limits.specs.Halves.{half}
 use Rattle.mixture.specs.Areas.{partsIn, RunDone}
-use Rattle.movmf.specs.Keeper.{runOf, settingsOf}
-use Rattle.movmf.proofs.Halves.{runnable, try-done}
+use Rattle.keeper.specs.Keeper.{runOf, settingsOf}
+use Rattle.keeper.proofs.Halves.{runnable, try-done}
 use borrow.Author.Needs.{needs}
-use Rattle.movmf.proofs.run_at.Statement.{statement}
-use Rattle.movmf.proofs.run_at.Tie as tie
+use Rattle.keeper.proofs.run_at.Statement.{statement}
+use Rattle.keeper.proofs.run_at.Tie as tie
 
 mul-kd : tie.Need-mul-kd
 mul-kd c = search needs

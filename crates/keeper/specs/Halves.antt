@@ -11,8 +11,8 @@ use Rattle.mixture.specs.Mixture.{Em}
 use Rattle.mixture.specs.Fits.{Once}
 use Rattle.mixture.specs.Areas.{partsIn, emOf}
 use Rattle.mixture.specs.declared.Ran.{Ran}
-use Rattle.movmf.specs.declared.Held.{Held}
-use Rattle.movmf.specs.declared.Runs.{Runs}
+use Rattle.keeper.specs.declared.Held.{Held}
+use Rattle.keeper.specs.declared.Runs.{Runs}
 
 -- what the run found whose half starts at place a
 abbrev pub emAt : ℕ → ℕ → ℕ → List Float → ℕ → Float → Em
@@ -112,22 +112,3 @@ pub record Halved (work m k d : ℕ) : Type 0 where
   pub mk-small : m * k ≤ 262144
   pub kd-small : k * d ≤ 16384
   pub work-long : half m k d + half m k d ≤ work
-
--- the outputs are long enough
-pub record LeavesFit (labels responsibilities m k : ℕ) : Type 0 where
-  pub labels-long : m ≤ labels
-  pub responsibilities-long : m * k ≤ responsibilities
-
-pub record GroupsFit (weights directions concentrations logw k d : ℕ) : Type 0 where
-  pub weights-long : k ≤ weights
-  pub directions-long : k * d ≤ directions
-  pub concentrations-long : k ≤ concentrations
-  pub logw-long : k ≤ logw
-
-pub record Fillable (labels responsibilities weights directions concentrations logw work m k d : ℕ) : Type 0 where
-  pub k-some : 0 < k
-  pub d-some : 1 ≤ d
-  pub d-small : d ≤ 256
-  pub halved : Halved work m k d
-  pub leaves : LeavesFit labels responsibilities m k
-  pub groups : GroupsFit weights directions concentrations logw k d

@@ -1,0 +1,2 @@
+pub mod Keeper
+pub mod Halves
