@@ -9,17 +9,17 @@ use lib.Dec.{T-not}
 use lib.ListN.{length}
 use lib.Ieee.{Float, nan, inf, lt}
 use Rattle.mixture.specs.Fits.{Once}
-use Rattle.mixture.specs.declared.Settings.{Settings}
+use Rattle.groups.specs.declared.Settings.{Settings}
 use Rattle.movmf.specs.Outcome.{Outputs, written}
-use Rattle.auto.specs.Choice.{heldScore, chooseBy, choose, chosen}
+use Rattle.choice.specs.Choice.{heldScore, chooseBy, choose, chosen, BestOf}
 use Rattle.auto.specs.Outcome.{Auto, tallyBy, outputsBy, answerBy, lone, score, autoUpTo, ended}
-use Rattle.auto.specs.Best.{refusalIn, Keeps, sumOver, BestOf, products, Best}
-use Rattle.auto.specs.declared.Choice.{Choice}
-use Rattle.auto.specs.declared.Choice.the-variants.{Number, Nothing}
+use Rattle.auto.specs.Best.{refusalIn, Keeps, sumOver, products, Best}
+use Rattle.choice.specs.declared.Choice.{Choice}
+use Rattle.choice.specs.declared.Choice.the-variants.{Number, Nothing}
 use Rattle.auto.specs.declared.Tally.{Tally}
 use Rattle.auto.specs.declared.Chosen.{Chosen}
 use Rattle.auto.specs.declared.Chosen.the-variants.{Refused, Unscored, Done}
-use Rattle.auto.proofs.Choices.{Means, chosen-means, one-best}
+use Rattle.choice.proofs.Choices.{Means, chosen-means, one-best}
 use Rattle.auto.proofs.Counts.{made-sum, saved-sum, work-sum, work-most}
 
 -- ---- the parts of an answer

@@ -16,10 +16,10 @@ use Rattle.lloyd.specs.Results.{resultOf}
 use Rattle.lloyd.proofs.Runs.{run-counts}
 use Rattle.lloyd.proofs.Tallies.{begun-most}
 use Rattle.mixture.specs.Fits.{Once, onceOf}
-use Rattle.mixture.specs.declared.Settings.{Settings}
+use Rattle.groups.specs.declared.Settings.{Settings}
 use Rattle.keeper.specs.Keeper.{keepBy, runOf, runsUpTo}
 use Rattle.movmf.specs.Outcome.{Outputs}
-use Rattle.auto.specs.Choice.{heldScore}
+use Rattle.choice.specs.Choice.{heldScore}
 use Rattle.auto.specs.Outcome.{tallyBy, lone, score, autoUpTo}
 use Rattle.auto.specs.Best.{sumOver, begun, products}
 use Rattle.auto.specs.declared.Tally.{Tally}

@@ -1,5 +1,4 @@
 pub mod Refusals
-pub mod Choices
 pub mod Counts
 pub mod Bests
 pub mod Numbers

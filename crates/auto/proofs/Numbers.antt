@@ -16,7 +16,7 @@ use Rattle.limits.specs.Halves.{half, heldAt, freeAt}
 use Rattle.mixture.specs.Mixture.{Em}
 use Rattle.mixture.specs.Fits.{Once, labelsOf, logwAt, logwOf}
 use Rattle.mixture.specs.Areas.{Area}
-use Rattle.mixture.specs.declared.Settings.{Settings}
+use Rattle.groups.specs.declared.Settings.{Settings}
 use Rattle.mixture.proofs.Regions.{respR, weightsR, directionsR, kappasR, length-in, tabulate-length}
 use Rattle.keeper.specs.Keeper.{runOf, runsUpTo, fitOf}
 use Rattle.movmf.specs.Outcome.{Outputs, written, lengthsOf}
@@ -24,7 +24,7 @@ use Rattle.keeper.specs.Halves.{Both, keptPart, keptLoglik, keptEm}
 use Rattle.movmf.specs.Outputs.{Fillable}
 use Rattle.keeper.specs.declared.Runs.{Runs}
 use Rattle.movmf.proofs.Outcomes.{kept-area, fit-em, fit-counts}
-use Rattle.auto.specs.Choice.{totalOf, scoreBy, heldScore}
+use Rattle.choice.specs.Choice.{totalOf, scoreBy, heldScore}
 use Rattle.auto.specs.Outcome.{Auto, tallyBy, outputsBy, lone, score, tryNumber, autoUpTo}
 use Rattle.auto.specs.Tries.{TallySmall, RunsSmall, keptTally, leftTally, Full, Tails, TriedNumber}
 use Rattle.auto.specs.declared.Tally.{Tally}
@@ -70,16 +70,16 @@ module _ (weights coords : List Float) (d k : ℕ) (s : Settings) (w : List Floa
       } in
       subst (Full m k d) (fit-em s weights coords m k d w r b) e
 
-  module _ (o o' : Outputs) (t q : Tally) (loglik lnTotal x h : Float) (el : loglik ≡ keptLoglik (r .held) (r .last)) (en : lnTotal ≡ lnOf (totalOf weights))
-      (ex : x ≡ scoreBy (s .kappa) k d loglik lnTotal) (eh : h ≡ heldScore (t .choice)) where
+  module _ (o o' : Outputs) (t q : Tally) (loglik lnTotal x : Float) (beats : Bool) (el : loglik ≡ keptLoglik (r .held) (r .last)) (en : lnTotal ≡ lnOf (totalOf weights))
+      (ex : x ≡ scoreBy (s .kappa) k d loglik lnTotal) (eb : beats ≡ lt x (heldScore (t .choice))) where
     loglik-is : loglik ≡ found .loglik
     loglik-is = el ∙ ap (λ (y : Em). y .loglik) (fit-em s weights coords m k d w r b)
 
     score-is : x ≡ score o weights coords d s k
     score-is = ex ∙ ap₂ (scoreBy (s .kappa) k d) loglik-is en
 
-    test-is : (y : Bool) → lt x h ≡ y → lt (score o weights coords d s k) (heldScore (t .choice)) ≡ y
-    test-is y e = ap₂ lt (sym score-is) (sym eh) ∙ e
+    test-is : (y : Bool) → beats ≡ y → lt (score o weights coords d s k) (heldScore (t .choice)) ≡ y
+    test-is y e = ap (λ (z : Float). lt z (heldScore (t .choice))) (sym score-is) ∙ sym eb ∙ e
 
     kept-is : keptTally k x loglik r t ≡ tallyBy true k (score o weights coords d s k) (lone o weights coords d s k) t
     kept-is =
@@ -91,7 +91,7 @@ module _ (weights coords : List Float) (d k : ℕ) (s : Settings) (w : List Floa
         let n = fit-counts s weights coords m k d w r b in
         rw (n .0, n .1, n .2)
 
-    pub tried-kept : (labels resp ws directions kappas logw : ℕ) → Fillable labels resp ws directions kappas logw (length w) m k d → lt x h ≡ true
+    pub tried-kept : (labels resp ws directions kappas logw : ℕ) → Fillable labels resp ws directions kappas logw (length w) m k d → beats ≡ true
         → o' ≡ written m k d (keptEm m k d w r) o → q ≡ keptTally k x loglik r t → TriedNumber weights coords d k s t q o o'
     tried-kept labels resp ws directions kappas logw f taken eo eq =
         let e = sym (test-is true taken) in
@@ -104,7 +104,7 @@ module _ (weights coords : List Float) (d k : ℕ) (s : Settings) (w : List Floa
           small = λ (n : ℕ) (v : TallySmall t n). subst (λ (y : Tally). TallySmall y (n + 1)) (sym eq) (kept-small t k x loglik r n (runs-small _ _ w m k d r b) v);
         }
 
-    pub tried-left : (labels resp ws directions kappas logw : ℕ) → Fillable labels resp ws directions kappas logw (length w) m k d → lt x h ≡ false
+    pub tried-left : (labels resp ws directions kappas logw : ℕ) → Fillable labels resp ws directions kappas logw (length w) m k d → beats ≡ false
         → o' ≡ o → q ≡ leftTally r t → TriedNumber weights coords d k s t q o o'
     tried-left labels resp ws directions kappas logw f left eo eq =
         let e = sym (test-is false left) in

@@ -5,9 +5,9 @@ use Prim.Native.Nat.{ℕ, zero, suc, _+_, _-_, _≤_}
 use native.Mathlib.Omega.{arith}
 use lib.ListN.{length}
 use lib.Ieee.{Float}
-use Rattle.mixture.specs.declared.Settings.{Settings}
+use Rattle.groups.specs.declared.Settings.{Settings}
 use Rattle.movmf.specs.Outcome.{Outputs, lengthsOf}
-use Rattle.auto.specs.Choice.{highest, lowest}
+use Rattle.choice.specs.Choice.{highest, lowest}
 use Rattle.auto.specs.Refusals.{refusalOf}
 use Rattle.auto.specs.Outcome.{Auto, Outcome, answerBy, autoUpTo, ended, outcomeIn, outcome}
 use Rattle.auto.specs.Best.{Best}

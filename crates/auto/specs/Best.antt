@@ -3,15 +3,15 @@
 use mathlib.Core.Path.{_≡_}
 use mathlib.Core.List.{List}
 use mathlib.Core.Bool.{false, not}
-use mathlib.Core.Logic.{_⊎_}
-use Prim.Native.Nat.{ℕ, zero, suc, _+_, _-_, _*_, _≤_, _<_}
+use Prim.Native.Nat.{ℕ, zero, suc, _+_, _-_, _*_, _≤_}
 use lib.Dec.{T}
 use lib.ListN.{length}
-use lib.Ieee.{Float, inf, lt, le, isNan}
+use lib.Ieee.{Float, inf, lt}
 use Rattle.rng.specs.SplitMix.{restartSeedOf}
 use Rattle.mixture.specs.Fits.{warmOf}
-use Rattle.mixture.specs.declared.Settings.{Settings}
+use Rattle.groups.specs.declared.Settings.{Settings}
 use Rattle.movmf.specs.Outcome.{Outputs, written}
+use Rattle.choice.specs.Choice.{BestOf}
 use Rattle.auto.specs.Outcome.{lone, score}
 use Rattle.auto.specs.declared.Chosen.{Chosen}
 use Rattle.auto.specs.declared.Chosen.the-variants.{Refused, Unscored, Done}
@@ -41,14 +41,6 @@ pub record Keeps (answer : Chosen) (k : ℕ) (score loglik : Float) : Type 0 whe
 unfoldable pub sumOver : (ℕ → ℕ) → ℕ → ℕ → ℕ
 sumOver f lo zero = 0
 sumOver f lo (suc n) = sumOver f lo n + f (lo + n)
-
--- ---- the best number of a range: scores compare as f64
-pub record BestOf (score : ℕ → Float) (lo hi k : ℕ) : Type 0 where
-  pub least : lo ≤ k
-  pub most : k ≤ hi
-  pub below : T (lt (score k) (inf false))
-  pub smaller : (j : ℕ) → lo ≤ j → j < k → T (isNan (score j)) ⊎ T (lt (score k) (score j))
-  pub larger : (j : ℕ) → k < j → j ≤ hi → T (isNan (score j)) ⊎ T (le (score k) (score j))
 
 module _ (o : Outputs) (weights coords : List Float) (d : ℕ) (s : Settings) where
   -- the rounds begun by the warm start of restart t of the lone fit of k

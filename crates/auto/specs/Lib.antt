@@ -1,4 +1,3 @@
-pub mod Choice
 pub mod Refusals
 pub mod Outcome
 pub mod Best

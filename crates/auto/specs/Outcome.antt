@@ -5,13 +5,13 @@ use Prim.Native.Nat.{ℕ, zero, suc, _+_, _-_}
 use lib.ListN.{length}
 use lib.Ieee.{Float, inf, lt}
 use Rattle.mixture.specs.Fits.{Once}
-use Rattle.mixture.specs.declared.Settings.{Settings}
+use Rattle.groups.specs.declared.Settings.{Settings}
 use Rattle.keeper.specs.Keeper.{fitOf}
 use Rattle.movmf.specs.Outcome.{Outputs, written, lengthsOf}
-use Rattle.auto.specs.Choice.{highest, lowest, scoreOf, heldScore}
+use Rattle.choice.specs.Choice.{highest, lowest, scoreOf, heldScore}
 use Rattle.auto.specs.Refusals.{refusalOf}
-use Rattle.auto.specs.declared.Choice.{Choice}
-use Rattle.auto.specs.declared.Choice.the-variants.{Number, Nothing}
+use Rattle.choice.specs.declared.Choice.{Choice}
+use Rattle.choice.specs.declared.Choice.the-variants.{Number, Nothing}
 use Rattle.auto.specs.declared.Tally.{Tally}
 use Rattle.auto.specs.declared.Chosen.{Chosen}
 use Rattle.auto.specs.declared.Chosen.the-variants.{Refused, Unscored, Done}

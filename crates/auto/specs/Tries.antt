@@ -6,15 +6,15 @@ use Prim.Native.Nat.{ℕ, _+_, _*_, _≤_}
 use lib.ListN.{length, drop}
 use lib.Ieee.{Float, lt}
 use Rattle.mixture.specs.Mixture.{Em}
-use Rattle.mixture.specs.declared.Settings.{Settings}
+use Rattle.groups.specs.declared.Settings.{Settings}
 use Rattle.movmf.specs.Outcome.{Outputs, written}
 use Rattle.keeper.specs.Halves.{Roomy}
 use Rattle.movmf.specs.Outputs.{Fillable}
 use Rattle.movmf.specs.declared.Lengths.{Lengths}
 use Rattle.keeper.specs.declared.Runs.{Runs}
-use Rattle.auto.specs.Choice.{heldScore}
+use Rattle.choice.specs.Choice.{heldScore}
 use Rattle.auto.specs.Outcome.{lone, score, tallyBy, outputsBy}
-use Rattle.auto.specs.declared.Choice.the-variants.{Number}
+use Rattle.choice.specs.declared.Choice.the-variants.{Number}
 use Rattle.auto.specs.declared.Tally.{Tally}
 
 -- the counts after n numbers are far from the end of a u64

@@ -4,61 +4,19 @@ ghost use mathlib.Core.Path.{_≡_};
 ghost use Prim.Native.Nat.{_+_, _*_, _-_, _≤_};
 ghost use lib.ListN.{length};
 ghost use Rattle.logarithm.specs.Logarithm.{lnOf};
-ghost use Rattle.mixture.specs.declared.Kappa.the-variants.{Free};
+ghost use Rattle.groups.specs.declared.Kappa.the-variants.{Free};
 ghost use Rattle.movmf.specs.Outcome.{arrays, lengthsOf};
-ghost use Rattle.auto.specs.Choice.{highest, lowest, totalOf, scoreBy, heldScore};
+ghost use Rattle.choice.specs.Choice.{highest, lowest, totalOf, scoreBy, heldScore};
 ghost use Rattle.auto.specs.Refusals.{refusalOf};
 ghost use Rattle.auto.specs.Outcome.{Auto, Outcome, answerBy, autoUpTo, outcome};
 ghost use Rattle.auto.specs.Best.{Best};
 ghost use Rattle.auto.specs.Tries.{TallySmall, RunsSmall, keptTally, leftTally, Ready, TriedNumber};
 
-// ---- the range, the score and the choice
-
-// max(1, min(k_max, m)).
-fn highest_number(k_max: usize, m: usize) -> usize
-    ensures { λ r. ⌜ r ≡ highest «k_max» m ⌝ }
-{
-    let n = if k_max < m { k_max } else { m };
-    if n < 1 { 1 } else { n }
-}
-
-// min(max(k_min, 1), hi).
-fn lowest_number(k_min: usize, hi: usize) -> usize
-    ensures { λ r. ⌜ r ≡ lowest «k_min» hi ⌝ }
-{
-    let n = if k_min < 1 { 1 } else { k_min };
-    if n < hi { n } else { hi }
-}
-
-// The choice: a number with its score, or none.
-pub enum Choice {
-    Number(usize, f64),
-    Nothing,
-}
-
-// The score held, +infinity where there is none.
-fn held_score(c: Choice) -> f64
-    ensures { λ r. ⌜ r ≡ heldScore c ⌝ }
-{
-    match c {
-        Choice::Number(_, score) => score,
-        Choice::Nothing => 1.0 / 0.0,
-    }
-}
-
-// The score of k groups; ln_total is the logarithm of the whole weight.
-fn score_at(kappa: mixture::Kappa, k: usize, d: usize, loglik: f64, ln_total: f64) -> f64
-    requires { ⌜ (1 ≤ k) × (k ≤ 64) × (k * d ≤ 16384) ⌝ }
-    ensures { λ r. ⌜ r ≡ scoreBy kappa k d loglik «ln_total» ⌝ }
-{
-    -2.0 * loglik + mixture::parameters(kappa, k, d) as f64 * ln_total
-}
-
 // ---- one number after the other
 
 // After some numbers: the choice with its log-likelihood, and the counts of all fits.
 pub struct Tally {
-    pub choice: Choice,
+    pub choice: choice::Choice,
     pub loglik: f64,
     pub made: u64,
     pub saved: u64,
@@ -71,7 +29,7 @@ fn tally_kept(t: Tally, k: usize, score: f64, loglik: f64, r: keeper::Runs) -> T
     ensures { λ q. ⌜ q ≡ keptTally k score loglik r t ⌝ }
 {
     Tally {
-        choice: Choice::Number(k, score),
+        choice: choice::Choice::Number(k, score),
         loglik,
         made: t.made + r.made,
         saved: t.saved + r.saved,
@@ -100,7 +58,7 @@ fn try_number(
     coords: &[f64],
     d: usize,
     k: usize,
-    s: mixture::Settings,
+    s: groups::Settings,
     ln_total: f64,
     t: Tally,
     labels: &mut [u32],
@@ -123,9 +81,9 @@ fn try_number(
     let r = keeper::four_runs(work, marks, weights, coords, s, m, k, d);
     let loglik = keeper::kept_loglik(r);
     let kappa = s.kappa;
-    let score = score_at(kappa, k, d, loglik, ln_total);
+    let score = choice::score_at(kappa, k, d, loglik, ln_total);
     let choice = t.choice;
-    if score < held_score(choice) {
+    if choice::beats(score, choice) {
         movmf::fill_outputs(
             labels,
             responsibilities,
@@ -151,7 +109,7 @@ fn try_numbers(
     d: usize,
     lo: usize,
     hi: usize,
-    s: mixture::Settings,
+    s: groups::Settings,
     ln_total: f64,
     labels: &mut [u32],
     responsibilities: &mut [f64],
@@ -171,7 +129,7 @@ fn try_numbers(
         (now (weights .entry)) (now (coords .entry)) d s lo (hi + 1 - lo)) ⌝ }
 {
     let mut t = Tally {
-        choice: Choice::Nothing,
+        choice: choice::Choice::Nothing,
         loglik: -1.0 / 0.0,
         made: 0,
         saved: 0,
@@ -262,7 +220,7 @@ fn answer(t: Tally) -> Chosen
 {
     let choice = t.choice;
     match choice {
-        Choice::Number(k, score) => Chosen::Done {
+        choice::Choice::Number(k, score) => Chosen::Done {
             k,
             loglik: t.loglik,
             score,
@@ -270,7 +228,7 @@ fn answer(t: Tally) -> Chosen
             saved: t.saved,
             doubled: t.doubled,
         },
-        Choice::Nothing => Chosen::Unscored {
+        choice::Choice::Nothing => Chosen::Unscored {
             made: t.made,
             saved: t.saved,
             doubled: t.doubled,
@@ -286,7 +244,7 @@ pub fn movmf_auto_with(
     d: usize,
     k_min: usize,
     k_max: usize,
-    s: mixture::Settings,
+    s: groups::Settings,
     labels: &mut [u32],
     responsibilities: &mut [f64],
     group_weights: &mut [f64],
@@ -307,8 +265,8 @@ pub fn movmf_auto_with(
         (arrays (now (labels .exit)) (now (responsibilities .exit)) (now («group_weights» .exit)) (now (directions .exit)) (now (concentrations .exit)) (now (logw .exit)))) ⌝ }
 {
     let m = weights.len();
-    let hi = highest_number(k_max, m);
-    let lo = lowest_number(k_min, hi);
+    let hi = choice::highest_number(k_max, m);
+    let lo = choice::lowest_number(k_min, hi);
     let l = movmf::Lengths {
         labels: labels.len(),
         responsibilities: responsibilities.len(),
@@ -372,10 +330,10 @@ pub fn movmf_auto(
         (now (weights .entry)) (now (coords .entry)) d (record { rounds = rounds; seed = seed; kappa = Free }) (lowest «k_min» (highest «k_max» (length (now (weights .entry))))) (highest «k_max» (length (now (weights .entry)))) r
         (arrays (now (labels .exit)) (now (responsibilities .exit)) (now («group_weights» .exit)) (now (directions .exit)) (now (concentrations .exit)) (now (logw .exit)))) ⌝ }
 {
-    let s = mixture::Settings {
+    let s = groups::Settings {
         rounds,
         seed,
-        kappa: mixture::Kappa::Free,
+        kappa: groups::Kappa::Free,
     };
     movmf_auto_with(
         weights,

@@ -52,7 +52,8 @@ pub fn log_iv_asymptotic(nu: f64, kappa: f64) -> f64
     let w = root::root(1.0 + z * z);
     let eta = w + logarithm::ln(z / (1.0 + w));
     let terms = asymptotic_terms(nu, w);
-    nu * eta - 0.5 * logarithm::ln(6.283185307179586 * nu) - 0.5 * logarithm::ln(w) + logarithm::ln(terms)
+    nu * eta - 0.5 * logarithm::ln(6.283185307179586 * nu) - 0.5 * logarithm::ln(w)
+        + logarithm::ln(terms)
 }
 
 // What the series hands out: the logarithm of its greatest term, and the sum of all terms over that one.

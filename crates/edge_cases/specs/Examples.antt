@@ -14,9 +14,9 @@ use Rattle.logarithm.specs.Logarithm.{lnOf}
 use Rattle.bessel.specs.Concentration.{estimateOf, kappaMax}
 use Rattle.bounds.specs.declared.Slowest.{Slowest}
 use Rattle.bounds.specs.Shifts.{shiftLower, shiftUpper, slowestUpTo}
-use Rattle.auto.specs.Choice.{chosen}
-use Rattle.auto.specs.declared.Choice.{Choice}
-use Rattle.auto.specs.declared.Choice.the-variants.{Number, Nothing}
+use Rattle.choice.specs.Choice.{chosen}
+use Rattle.choice.specs.declared.Choice.{Choice}
+use Rattle.choice.specs.declared.Choice.the-variants.{Number, Nothing}
 
 -- an answer is one or more values
 pub data Value : Type 0 where

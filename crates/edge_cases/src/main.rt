@@ -62,8 +62,14 @@ fn root_lines() {
 }
 
 fn exp_lines() {
-    expect_line(b"exp 0 is 1", is(exponential::exp(0.0), 0x3FF0_0000_0000_0000));
-    expect_line(b"exp -0 is 1", is(exponential::exp(-0.0), 0x3FF0_0000_0000_0000));
+    expect_line(
+        b"exp 0 is 1",
+        is(exponential::exp(0.0), 0x3FF0_0000_0000_0000),
+    );
+    expect_line(
+        b"exp -0 is 1",
+        is(exponential::exp(-0.0), 0x3FF0_0000_0000_0000),
+    );
     expect_line(b"exp -709 is +0", is(exponential::exp(-709.0), 0));
     let low = float::of_bits(0xC086_2000_0000_0001);
     expect_line(b"exp just below -708 is +0", is(exponential::exp(low), 0));
@@ -73,7 +79,10 @@ fn exp_lines() {
         b"exp just above 709 is +infinity",
         is(exponential::exp(high), 0x7FF0_0000_0000_0000),
     );
-    expect_line(b"exp 709 is below +infinity", exponential::exp(709.0) < 1.0 / 0.0);
+    expect_line(
+        b"exp 709 is below +infinity",
+        exponential::exp(709.0) < 1.0 / 0.0,
+    );
     expect_line(
         b"exp +infinity is +infinity",
         is(exponential::exp(1.0 / 0.0), 0x7FF0_0000_0000_0000),
@@ -99,7 +108,10 @@ fn ln_lines() {
         b"ln +infinity is +infinity",
         is(logarithm::ln(1.0 / 0.0), 0x7FF0_0000_0000_0000),
     );
-    expect_line(b"ln -1 is NaN", is(logarithm::ln(-1.0), 0x7FF8_0000_0000_0000));
+    expect_line(
+        b"ln -1 is NaN",
+        is(logarithm::ln(-1.0), 0x7FF8_0000_0000_0000),
+    );
     expect_line(
         b"ln NaN is NaN",
         is(logarithm::ln(0.0 / 0.0), 0x7FF8_0000_0000_0000),
@@ -455,11 +467,11 @@ fn fit_code(r: movmf::Fitted) -> u32 {
     }
 }
 
-fn settings(rounds: usize) -> mixture::Settings {
-    mixture::Settings {
+fn settings(rounds: usize) -> groups::Settings {
+    groups::Settings {
         rounds,
         seed: 7,
-        kappa: mixture::Kappa::Free,
+        kappa: groups::Kappa::Free,
     }
 }
 

@@ -17,7 +17,7 @@ use Rattle.mixture.specs.Mixture.{Em}
 use Rattle.mixture.specs.Fits.{Once}
 use Rattle.mixture.specs.Areas.{partsIn, emOf, Runnable, RunDone}
 use Rattle.mixture.specs.declared.Ran.{Ran}
-use Rattle.mixture.specs.declared.Settings.{Settings}
+use Rattle.groups.specs.declared.Settings.{Settings}
 use Rattle.keeper.specs.Keeper.{keepBy, keep, runOf, runsUpTo}
 use Rattle.keeper.specs.Halves.{emAt, Roomy, Tried, Holds, HeldSmall, Addable, keptBy, keptHeld, Both, keptPart, keptEm, Halved}
 use Rattle.keeper.specs.declared.Held.{Held}

@@ -6,7 +6,7 @@ use lib.Ieee.{Float, le}
 use Rattle.rng.specs.SplitMix.{restartSeedOf}
 use Rattle.mixture.specs.Mixture.{Em}
 use Rattle.mixture.specs.Fits.{Once, onceOf}
-use Rattle.mixture.specs.declared.Settings.{Settings}
+use Rattle.groups.specs.declared.Settings.{Settings}
 
 -- what a run found, with the counts of two
 abbrev pub counted : Em → Once → Once → Once

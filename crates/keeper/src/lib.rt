@@ -16,7 +16,7 @@ fn run_at(
     marks: &mut [u32],
     weights: &[f64],
     coords: &[f64],
-    s: mixture::Settings,
+    s: groups::Settings,
     t: u64,
     m: usize,
     k: usize,
@@ -30,7 +30,7 @@ fn run_at(
     let kd = k * d;
     let n = m * k + kd + kd + 4 * m + 8 * k;
     let kappa = s.kappa;
-    let own = mixture::Settings {
+    let own = groups::Settings {
         rounds: s.rounds,
         seed: rng::restart_seed(s.seed, t),
         kappa,
@@ -79,7 +79,7 @@ fn run_beside(
     marks: &mut [u32],
     weights: &[f64],
     coords: &[f64],
-    s: mixture::Settings,
+    s: groups::Settings,
     t: u64,
     m: usize,
     k: usize,
@@ -101,7 +101,7 @@ fn first_runs(
     marks: &mut [u32],
     weights: &[f64],
     coords: &[f64],
-    s: mixture::Settings,
+    s: groups::Settings,
     m: usize,
     k: usize,
     d: usize,
@@ -143,7 +143,7 @@ pub fn four_runs(
     marks: &mut [u32],
     weights: &[f64],
     coords: &[f64],
-    s: mixture::Settings,
+    s: groups::Settings,
     m: usize,
     k: usize,
     d: usize,

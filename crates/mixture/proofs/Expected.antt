@@ -17,7 +17,7 @@ use Rattle.vector.specs.Fours.{dotsOf}
 use Rattle.vector.proofs.Rows.{row-within, part-put, put-more}
 use Rattle.lloyd.proofs.Seeds.{front-end}
 use Rattle.softmax.specs.Softmax.{logSumExp, sharesOf}
-use Rattle.mixture.specs.Kappas.{tabulate}
+use Rattle.groups.specs.Kappas.{tabulate}
 use Rattle.mixture.specs.Mixture.{Model, likenessAt, likenesses, softmax, expectUpTo}
 use Rattle.mixture.specs.Areas.{Parts, partsIn, total, modelOf, withResp, basedFour, fourLikenesses}
 use Rattle.mixture.proofs.Regions.{directionsR, kappasR, basesR, respR, part-cut, set-in, get-in, part-in, put-in, length-in, tabulate-length, tabulate-turn}

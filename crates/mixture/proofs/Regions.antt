@@ -10,7 +10,7 @@ use lib.Ieee.{Float}
 use Rattle.vector.specs.Rows.{part, putPart, cut, startOf}
 use Rattle.vector.proofs.Rows.{cut-set, cut-put, cut-whole, cut-length, cut-put-whole, cut-get, cut-part}
 use Rattle.lloyd.proofs.Seeds.{front-turn, front-end}
-use Rattle.mixture.specs.Kappas.{tabulate}
+use Rattle.groups.specs.Kappas.{tabulate}
 use Rattle.mixture.specs.Areas.{Parts, lengths, total, named, partsIn, withDirections, withSums, withWeights, withKappas, withBases, withTotals, withNorms, withResp}
 
 -- ---- a region: its number, and how its part is read and replaced

@@ -7,10 +7,10 @@ use Prim.Native.Nat.{ℕ, suc, _+_}
 use lib.Ieee.{Float}
 use Rattle.float.specs.Arithmetic.{minusZero, sumFrom}
 use Rattle.lloyd.specs.Lloyd.{normsUpTo}
-use Rattle.mixture.specs.Kappas.{tabulate, kappasOf}
+use Rattle.groups.specs.Kappas.{tabulate, kappasOf}
 use Rattle.mixture.specs.Mixture.{Gathered, Em, weightAt, directionsUpTo, maximize, maximizeBy, basesOf, expectUpTo, gatherUpTo, emRound, stopsAt, emFrom}
 use Rattle.mixture.specs.Areas.{Parts, modelOf, emOf, withGathered, withNorms, withWeights, withDirections, withKappas, withBases, withResp}
-use Rattle.mixture.specs.declared.Kappa.{Kappa}
+use Rattle.groups.specs.declared.Kappa.{Kappa}
 
 -- ---- the M-step
 module _ (kappa : Kappa) (k d : ℕ) (p₀ p₁ p₂ p₃ : Parts) (g : Gathered) (whole : Float) (gathered : p₁ ≡ withGathered g p₀) (normed : p₂ ≡ withNorms (normsUpTo (p₁ .sums) d k) p₁)

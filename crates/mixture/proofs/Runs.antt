@@ -14,12 +14,12 @@ use Rattle.lloyd.specs.Areas.{stateIn, RunLeft}
 use Rattle.lloyd.specs.Areas as lloyd
 use Rattle.lloyd.specs.declared.Ran as lloyd-ran
 use Rattle.lloyd.proofs.Regions.{centers-are, labels-are}
-use Rattle.mixture.specs.Kappas.{kappasOf}
+use Rattle.groups.specs.Kappas.{kappasOf}
 use Rattle.mixture.specs.Mixture.{evenWeight, emFrom}
 use Rattle.mixture.specs.Fits.{labelTotalsUpTo, startKappasBy, startFrom, warmOf, onceOf}
 use Rattle.mixture.specs.Areas.{Parts, partsIn, emOf, withTotals, withNorms, withKappas, withResp, withWeights, Labels, Runnable, RunDone}
-use Rattle.mixture.specs.declared.Kappa.{Kappa}
-use Rattle.mixture.specs.declared.Settings.{Settings}
+use Rattle.groups.specs.declared.Kappa.{Kappa}
+use Rattle.groups.specs.declared.Settings.{Settings}
 use Rattle.mixture.specs.declared.Ran.{Ran}
 use Rattle.mixture.proofs.Regions.{directionsR, sumsR, whole-in}
 

@@ -10,10 +10,11 @@ use Rattle.vector.specs.Rows.{rowOf}
 use Rattle.vector.specs.Vectors.{argmaxOf}
 use Rattle.lloyd.specs.Lloyd.{normsUpTo, sumsUpTo}
 use Rattle.lloyd.specs.Results.{Result, resultOf}
-use Rattle.mixture.specs.Kappas.{tabulate, kappasOf}
-use Rattle.mixture.specs.Mixture.{Model, Em, evenWeight, logNormOf, emFrom}
-use Rattle.mixture.specs.declared.Kappa.{Kappa}
-use Rattle.mixture.specs.declared.Settings.{Settings}
+use Rattle.groups.specs.Kappas.{tabulate, kappasOf}
+use Rattle.mixture.specs.Mixture.{Model, Em, evenWeight, emFrom}
+use Rattle.groups.specs.Groups.{logNormOf}
+use Rattle.groups.specs.declared.Kappa.{Kappa}
+use Rattle.groups.specs.declared.Settings.{Settings}
 
 -- ---- `init_kappas`: the weights of the groups that the first n labels make
 unfoldable pub labelTotalsUpTo : List Float → List ℕ → ℕ → ℕ → List Float

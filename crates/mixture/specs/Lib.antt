@@ -1,4 +1,3 @@
-pub mod Kappas
 pub mod Mixture
 pub mod Fits
 pub mod Areas

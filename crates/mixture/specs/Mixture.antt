@@ -13,8 +13,8 @@ use Rattle.bessel.specs.Concentration.{kappaMin}
 use Rattle.bessel.specs.Normalizer.{logVmfNormOf}
 use Rattle.lloyd.specs.Lloyd.{addLeaf, normsUpTo, centerBy}
 use Rattle.softmax.specs.Softmax.{logSumExp, sharesOf}
-use Rattle.mixture.specs.Kappas.{tabulate, kappasOf}
-use Rattle.mixture.specs.declared.Kappa.{Kappa}
+use Rattle.groups.specs.Kappas.{tabulate, kappasOf}
+use Rattle.groups.specs.declared.Kappa.{Kappa}
 
 -- what the groups are: their weights, directions row by row, and concentrations
 pub record Model : Type 0 where
@@ -22,19 +22,7 @@ pub record Model : Type 0 where
   pub directions : List Float
   pub kappas : List Float
 
--- ---- normalizers and log weights
-
--- 1e-300, the floor of a weight under the logarithm
-abbrev pub weightFloor : Float
-weightFloor = f64 0x01A56E1FC2F8F359
-
-abbrev pub logNormOf : ℕ → Float → Float
-logNormOf d kappa = logVmfNormOf d (maxOf kappa kappaMin)
-
--- ln weight + log normalizer, of group c and of all k
-abbrev pub baseOf : ℕ → Float → Float → Float
-baseOf d weight kappa = add binary64 (lnOf (maxOf weight weightFloor)) (logNormOf d kappa)
-
+-- ---- ln weight + log normalizer, of group c and of all k
 abbrev pub baseAt : ℕ → Model → ℕ → Float
 baseAt d p c = baseOf d (getD (p .weights) c nan) (getD (p .kappas) c nan)
 

@@ -13,23 +13,11 @@ ghost use Rattle.vector.specs.Vectors.{dividedBy};
 ghost use Rattle.bessel.specs.Concentration.{Dimension, estimateOf};
 ghost use Rattle.lloyd.specs.Lloyd.{normsUpTo};
 ghost use Rattle.softmax.specs.Softmax.{logSumExp};
-ghost use Rattle.mixture.specs.Kappas.{tabulate, meanLength, sharedKappa, kappaAt, kappasOf, parametersOf};
-ghost use Rattle.mixture.specs.Mixture.{weightFloor, basesOf, likenessAt, likenesses, softmax, expectUpTo, gatherGroup, gatherLeaf, gatherUpTo, evenWeight, weightBy, weightAt, directionsUpTo, maximize, emRound, stopsAt, emFrom, logNormOf};
+ghost use Rattle.groups.specs.Kappas.{tabulate, meanLength, sharedKappa, kappaAt, kappasOf, parametersOf};
+ghost use Rattle.groups.specs.Groups.{weightFloor, logNormOf};
+ghost use Rattle.mixture.specs.Mixture.{basesOf, likenessAt, likenesses, softmax, expectUpTo, gatherGroup, gatherLeaf, gatherUpTo, evenWeight, weightBy, weightAt, directionsUpTo, maximize, emRound, stopsAt, emFrom};
 ghost use Rattle.mixture.specs.Fits.{labelTotalsUpTo, startKappasBy, onceOf};
 ghost use Rattle.mixture.specs.Areas.{partsIn, modelOf, gatheredOf, emOf, withDirections, withWeights, withKappas, withBases, withTotals, withNorms, withResp, withGathered, basedFour, fourLikenesses, Area, Leaves, LeafOf, GroupOf, Labels, Runnable, RunDone};
-
-// How a mixture estimates its concentrations: one for each group, or one for all.
-pub enum Kappa {
-    Free,
-    Shared,
-}
-
-// The round limit, the seed and the Kappa of a fit.
-pub struct Settings {
-    pub rounds: usize,
-    pub seed: u64,
-    pub kappa: Kappa,
-}
 
 // ---- all that hangs on Kappa
 
@@ -76,37 +64,18 @@ fn shared_kappa(work: &mut [f64], whole: f64, m: usize, k: usize, d: usize)
 }
 
 // The concentrations by the lengths and the weights of the resultants, at the start and after each round.
-fn concentrate(work: &mut [f64], kappa: Kappa, whole: f64, m: usize, k: usize, d: usize)
+fn concentrate(work: &mut [f64], kappa: groups::Kappa, whole: f64, m: usize, k: usize, d: usize)
     requires { ⌜ Area (length (now work)) m k d ⌝ }
     ensures { λ _. ⌜ partsIn m k d (now (work .exit))
         ≡ withKappas (kappasOf kappa k d (partsIn m k d (now (work .entry)) .norms) (partsIn m k d (now (work .entry)) .totals) whole) (partsIn m k d (now (work .entry))) ⌝ }
 {
     match kappa {
-        Kappa::Free => free_kappas(work, m, k, d),
-        Kappa::Shared => shared_kappa(work, whole, m, k, d),
-    }
-}
-
-// The number of parameters that k groups have.
-pub fn parameters(kappa: Kappa, k: usize, d: usize) -> usize
-    requires { ⌜ (1 ≤ k) × (k ≤ 64) × (k * d ≤ 16384) ⌝ }
-    ensures { λ r. ⌜ r ≡ parametersOf kappa k d ⌝ }
-{
-    match kappa {
-        Kappa::Free => k * d + k - 1,
-        Kappa::Shared => k * d,
+        groups::Kappa::Free => free_kappas(work, m, k, d),
+        groups::Kappa::Shared => shared_kappa(work, whole, m, k, d),
     }
 }
 
 // ---- the E-step
-
-// The log normalizer of a concentration.
-pub fn log_norm(kappa: f64, d: usize) -> f64
-    requires { ⌜ Dimension d ⌝ }
-    ensures { λ r. ⌜ r ≡ logNormOf d kappa ⌝ }
-{
-    bessel::log_vmf_norm(d, float::max(kappa, 1e-8))
-}
 
 // That of a concentration after the last one, whose normalizer is `norm`; equal ones share it.
 fn norm_for(kappa: f64, last: f64, norm: f64, d: usize) -> f64
@@ -116,14 +85,7 @@ fn norm_for(kappa: f64, last: f64, norm: f64, d: usize) -> f64
     if float::bits_of(kappa) == float::bits_of(last) {
         return norm;
     }
-    log_norm(kappa, d)
-}
-
-// ln weight + log normalizer of a group.
-fn base(weight: f64, norm: f64) -> f64
-    ensures { λ r. ⌜ r ≡ add binary64 (lnOf (maxOf weight weightFloor)) norm ⌝ }
-{
-    logarithm::ln(float::max(weight, 1e-300)) + norm
+    groups::log_norm(kappa, d)
 }
 
 // The base of each group.
@@ -137,13 +99,13 @@ fn put_bases(work: &mut [f64], m: usize, k: usize, d: usize)
     let kappas = weights + k;
     let bases = kappas + k;
     let mut last = work[kappas];
-    let mut norm = log_norm(last, d);
+    let mut norm = groups::log_norm(last, d);
     let mut c = 0;
     while c < k {
         let kappa = work[kappas + c];
         norm = norm_for(kappa, last, norm, d);
         last = kappa;
-        work[bases + c] = base(work[weights + c], norm);
+        work[bases + c] = groups::base(work[weights + c], norm);
         c += 1;
     }
 }
@@ -432,7 +394,7 @@ fn maximize_model(
     work: &mut [f64],
     weights: &[f64],
     coords: &[f64],
-    kappa: Kappa,
+    kappa: groups::Kappa,
     m: usize,
     k: usize,
     d: usize,
@@ -461,7 +423,7 @@ fn em_round(
     work: &mut [f64],
     weights: &[f64],
     coords: &[f64],
-    kappa: Kappa,
+    kappa: groups::Kappa,
     m: usize,
     k: usize,
     d: usize,
@@ -488,7 +450,7 @@ fn em(
     work: &mut [f64],
     weights: &[f64],
     coords: &[f64],
-    kappa: Kappa,
+    kappa: groups::Kappa,
     rounds: usize,
     m: usize,
     k: usize,
@@ -536,7 +498,7 @@ fn init_kappas(
     work: &mut [f64],
     marks: &[u32],
     weights: &[f64],
-    kappa: Kappa,
+    kappa: groups::Kappa,
     m: usize,
     k: usize,
     d: usize,
@@ -581,7 +543,7 @@ pub fn movmf_once(
     marks: &mut [u32],
     weights: &[f64],
     coords: &[f64],
-    s: Settings,
+    s: groups::Settings,
     m: usize,
     k: usize,
     d: usize,

@@ -14,7 +14,7 @@ use Rattle.limits.specs.Halves.{half, heldAt, freeAt}
 use Rattle.mixture.specs.Mixture.{Em}
 use Rattle.mixture.specs.Fits.{labelsOf, logwOf}
 use Rattle.mixture.specs.Areas.{partsIn, modelOf, emOf, Area}
-use Rattle.mixture.specs.declared.Settings.{Settings}
+use Rattle.groups.specs.declared.Settings.{Settings}
 use Rattle.keeper.specs.Keeper.{runOf, runsUpTo, fitOf}
 use Rattle.movmf.specs.Refusals.{refusalOf}
 use Rattle.movmf.specs.Outcome.{Outputs, Outcome, written, lengthsOf, outcome}

@@ -12,8 +12,8 @@ use Rattle.vector.specs.Rows.{part}
 use Rattle.vector.specs.Vectors.{argmaxOf}
 use Rattle.vector.proofs.Rows.{length-part}
 use Rattle.vector.proofs.Vectors.{take-end, argmax-below}
-use Rattle.mixture.specs.Kappas.{tabulate}
-use Rattle.mixture.specs.Mixture.{logNormOf}
+use Rattle.groups.specs.Kappas.{tabulate}
+use Rattle.groups.specs.Groups.{logNormOf}
 use Rattle.mixture.specs.Fits.{lnWeight, logwAt}
 use Rattle.mixture.specs.Areas.{partsIn, modelOf}
 use Rattle.mixture.proofs.Regions.{weightsR, kappasR, part-cut, get-in, tabulate-turn}

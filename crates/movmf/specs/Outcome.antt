@@ -5,7 +5,7 @@ use lib.ListN.{length, drop}
 use lib.Ieee.{Float}
 use Rattle.mixture.specs.Mixture.{Em}
 use Rattle.mixture.specs.Fits.{Once, labelsOf, logwOf}
-use Rattle.mixture.specs.declared.Settings.{Settings}
+use Rattle.groups.specs.declared.Settings.{Settings}
 use Rattle.keeper.specs.Keeper.{fitOf}
 use Rattle.movmf.specs.Refusals.{refusalOf}
 use Rattle.movmf.specs.declared.Lengths.{Lengths}

@@ -6,7 +6,7 @@ ghost use Prim.Native.Nat.{_*_, _≤_, _<_};
 ghost use lib.ListN.{length, drop};
 ghost use Rattle.mixture.specs.Fits.{labelsOf, lnWeight, logwOf};
 ghost use Rattle.mixture.specs.Areas.{partsIn, modelOf, Area};
-ghost use Rattle.mixture.specs.declared.Kappa.the-variants.{Free};
+ghost use Rattle.groups.specs.declared.Kappa.the-variants.{Free};
 ghost use Rattle.keeper.specs.Halves.{keptEm};
 ghost use Rattle.movmf.specs.Refusals.{outputsOk, arraysOk, refusalOf};
 ghost use Rattle.movmf.specs.Outcome.{Outputs, arrays, Outcome, written, outcome};
@@ -109,7 +109,7 @@ fn put_logw(logw: &mut [f64], area: &[f64], m: usize, k: usize, d: usize)
     let kappas = weights + k;
     let mut c = 0;
     while c < k {
-        logw[c] = ln_weight(area[weights + c]) + mixture::log_norm(area[kappas + c], d);
+        logw[c] = ln_weight(area[weights + c]) + groups::log_norm(area[kappas + c], d);
         c += 1;
     }
 }
@@ -215,7 +215,7 @@ pub fn movmf_with(
     coords: &[f64],
     d: usize,
     k: usize,
-    s: mixture::Settings,
+    s: groups::Settings,
     labels: &mut [u32],
     responsibilities: &mut [f64],
     group_weights: &mut [f64],
@@ -290,10 +290,10 @@ pub fn movmf(
         (outcome (arrays (now (labels .entry)) (now (responsibilities .entry)) (now («group_weights» .entry)) (now (directions .entry)) (now (concentrations .entry)) (now (logw .entry)))
         (now (weights .entry)) (now (coords .entry)) d k (record { rounds = rounds; seed = seed; kappa = Free }) (length (now (work .entry))) (length (now (marks .entry)))) ⌝ }
 {
-    let s = mixture::Settings {
+    let s = groups::Settings {
         rounds,
         seed,
-        kappa: mixture::Kappa::Free,
+        kappa: groups::Kappa::Free,
     };
     movmf_with(
         weights,

@@ -329,11 +329,11 @@ fn spherical_agrees(text: &[u8]) -> bool {
 
 // ---- the mixture
 
-fn kappa_of(x: u64) -> mixture::Kappa {
+fn kappa_of(x: u64) -> groups::Kappa {
     if x == 0 {
-        mixture::Kappa::Free
+        groups::Kappa::Free
     } else {
-        mixture::Kappa::Shared
+        groups::Kappa::Shared
     }
 }
 
@@ -434,7 +434,7 @@ fn rows_agree(v: &[f64], n: usize, text: &[u8], p: Place) -> bool {
 fn mixture_agrees(text: &[u8], weights: &[f64], coords: &[f64], at: usize, digest: bool) -> bool {
     let d = word(text, 1) as usize;
     let k = word(text, 2) as usize;
-    let s = mixture::Settings {
+    let s = groups::Settings {
         rounds: word(text, 3) as usize,
         seed: word(text, 4),
         kappa: kappa_of(word(text, 5)),
@@ -532,7 +532,7 @@ fn choice_agrees(r: auto::Chosen, text: &[u8], at: usize) -> bool {
 // Kind 24 with these leaves; the answer's words are from word `at` on.
 fn auto_agrees(text: &[u8], weights: &[f64], coords: &[f64], at: usize) -> bool {
     let d = word(text, 1) as usize;
-    let s = mixture::Settings {
+    let s = groups::Settings {
         rounds: word(text, 4) as usize,
         seed: word(text, 5),
         kappa: kappa_of(word(text, 6)),

@@ -5,7 +5,7 @@ use Prim.Native.Nat.{ℕ}
 use lib.Ieee.{Float}
 use Rattle.spherical.specs.Outcome.{Outcome as ClusteredOutcome}
 use Rattle.spherical.specs.declared.Clustered.{Clustered}
-use Rattle.mixture.specs.declared.Kappa.{Kappa}
+use Rattle.groups.specs.declared.Kappa.{Kappa}
 use Rattle.movmf.specs.Outcome.{Outputs, Outcome as FittedOutcome}
 use Rattle.movmf.specs.declared.Fitted.{Fitted}
 use Rattle.auto.specs.Outcome.{Outcome as ChosenOutcome}

@@ -7,8 +7,8 @@ use lib.Ieee.{Float}
 use Rattle.spherical.specs.Outcome.{Outcome as ClusteredOutcome}
 use Rattle.spherical.specs.declared.Clustered.{Clustered}
 use Rattle.spherical.specs.declared.Clustered.the-variants.{Refused as NotClustered, Done as ClusteredDone}
-use Rattle.mixture.specs.declared.Kappa.{Kappa}
-use Rattle.mixture.specs.declared.Kappa.the-variants.{Free, Shared}
+use Rattle.groups.specs.declared.Kappa.{Kappa}
+use Rattle.groups.specs.declared.Kappa.the-variants.{Free, Shared}
 use Rattle.movmf.specs.Outcome.{Outputs, Outcome as FittedOutcome}
 use Rattle.movmf.specs.declared.Fitted.{Fitted}
 use Rattle.movmf.specs.declared.Fitted.the-variants.{Refused as NotFitted, Done as FittedDone}

@@ -4,7 +4,7 @@ ghost use mathlib.Core.Path.{_≡_};
 ghost use lib.ListN.{length};
 ghost use Rattle.spherical.specs.Outcome.{outcome as clusteredOutcome};
 ghost use Rattle.movmf.specs.Outcome.{arrays, lengthsOf, outcome as fittedOutcome};
-ghost use Rattle.auto.specs.Choice.{highest, lowest};
+ghost use Rattle.choice.specs.Choice.{highest, lowest};
 ghost use Rattle.auto.specs.Refusals.{refusalOf};
 ghost use Rattle.auto.specs.Outcome.{outcome as chosenOutcome};
 ghost use Rattle.auto.specs.Best.{Best};
@@ -13,13 +13,13 @@ ghost use Rattle.station.specs.Answers.{kappaOf, ClusteredNumbers, clust
 // ---- the answers' cases
 
 // Shared or Free.
-fn kappa_of(shared: bool) -> mixture::Kappa
+fn kappa_of(shared: bool) -> groups::Kappa
     ensures { λ r. ⌜ r ≡ kappaOf shared ⌝ }
 {
     if shared {
-        mixture::Kappa::Shared
+        groups::Kappa::Shared
     } else {
-        mixture::Kappa::Free
+        groups::Kappa::Free
     }
 }
 
@@ -177,7 +177,7 @@ pub extern "C" fn mosterklomp_movmf_with(
         (now (weights .entry)) (now (coords .entry)) d k (record { rounds = rounds; seed = seed; kappa = kappaOf shared }) (length (now (work .entry))) (length (now (marks .entry))))) ⌝ }
 {
     let kappa = kappa_of(shared);
-    let s = mixture::Settings {
+    let s = groups::Settings {
         rounds,
         seed,
         kappa,
@@ -241,7 +241,7 @@ pub extern "C" fn mosterklomp_movmf_auto_with(
         (arrays (now (labels .exit)) (now (responsibilities .exit)) (now («group_weights» .exit)) (now (directions .exit)) (now (concentrations .exit)) (now (logw .exit)))) ⌝ }
 {
     let kappa = kappa_of(shared);
-    let s = mixture::Settings {
+    let s = groups::Settings {
         rounds,
         seed,
         kappa,

@@ -35,8 +35,8 @@ kept-loglik-requires c κs = search needs
 score-at-requires : tie.Need-score-at-requires
 score-at-requires c κs = let r = c .before .before .before .before .before .before .before .before .before .before .before .before .before .before .before .before .before .before .pre .0 .roomy in (r .k-some, r .k-small, r .kd-small)
 
-held-score-requires : tie.Need-held-score-requires
-held-score-requires c κs = search needs
+beats-requires : tie.Need-beats-requires
+beats-requires c κs = search needs
 
 fill-outputs-requires : tie.Need-fill-outputs-requires
 fill-outputs-requires c κs = fillable-at (c .before .before .before .before .before .before .before .before .before .before .before .before .before .before .before .before .before .before .before .before .before .before .before .before .before .before .before .before) _ (c .before .before .before .before .before .before .before .before .before .before .before .before .before .before .before .four-runs .kept .0)
@@ -83,7 +83,7 @@ returns c =
     let r = c .before .before .before .before .before .before .before .before .before .before .before .before .before .before .before .before .before .before .before .before .before .before .before .before .before .before .before .before .before .four-runs in
     let l = c .before .before .before .before .before .before .before .before .before .before .before .before .before .before .before .before .before .before .before .before .before .before .before .before .kept-loglik in
     let x = c .before .before .before .before .before .before .before .before .before .before .before .before .before .before .before .before .before .before .before .before .before .before .before .score-at in
-    let h = c .before .before .before .before .before .before .before .before .before .before .before .before .before .before .before .before .before .before .before .before .before .before .held-score in
+    let h = c .before .before .before .before .before .before .before .before .before .before .before .before .before .before .before .before .before .before .before .before .before .before .beats in
     let f = fillable-at s (length (r .last .0)) (r .kept .0) in
     let x' = c .before .before .before .before .before .before .before .before .before .before .before .before .before .fill-outputs .last in
     let o = arrays (x' .0) (x' .1 .0) (x' .1 .1 .0) (x' .1 .1 .1 .0) (x' .1 .1 .1 .1 .0) (x' .1 .1 .1 .1 .1 .0) in
@@ -114,7 +114,7 @@ returns-2 c =
     let r = c .before .before .before .before .before .before .before .before .before .four-runs in
     let l = c .before .before .before .before .kept-loglik in
     let x = c .before .before .before .score-at in
-    let h = c .before .before .held-score in
+    let h = c .before .before .beats in
     let f = fillable-at s (length (r .last .0)) (r .kept .0) in
     tried-left (a .weights .now) (a .coords .now) (a .d) (a .k) (a .s) (r .last .0) (r .result) (r .ensures)
     (found s) (found s) (a .t) (c .tally-left .result) (l .result) (a .ln-total) (x .result) (h .result) (l .ensures) (s .pre .1 .1) (x .ensures) (h .ensures) _ _ _ _ _ _ f (c .before .if1 .left) refl (c .tally-left .ensures)
@@ -126,7 +126,7 @@ try-number-spec =
     four-runs-requires
     kept-loglik-requires
     score-at-requires
-    held-score-requires
+    beats-requires
     fill-outputs-requires
     tally-kept-requires
     same-length

@@ -5,7 +5,7 @@ use native.Mathlib.Omega.{arith}
 use lib.ListN.{length}
 use lib.Ieee.{Float}
 use Rattle.bessel.specs.Concentration.{estimateOf}
-use Rattle.mixture.specs.Kappas.{meanLength, kappaAt}
+use Rattle.groups.specs.Kappas.{meanLength, kappaAt}
 use Rattle.mixture.specs.Areas.{partsIn}
 use Rattle.mixture.proofs.Regions.{kappasR, totalsR, normsR}
 use Rattle.mixture.proofs.Groups.{Written, written-start, written-read, written-turn, written-end}

@@ -3,7 +3,7 @@ use mathlib.Core.Path.{_≡_, ap, sym, subst, _∙_}
 use lib.Dec.{T}
 use lib.Ieee.{Float, binary64, fits, toBits, ofBits}
 use lib.Ieee.Bits.{ofBits-toBits}
-use Rattle.mixture.specs.Mixture.{logNormOf}
+use Rattle.groups.specs.Groups.{logNormOf}
 use borrow.Author.Needs.{needs}
 use Rattle.mixture.proofs.norm_for.Statement.{statement}
 use Rattle.mixture.proofs.norm_for.Tie as tie

@@ -7,7 +7,8 @@ use lib.ListN.{length}
 use lib.Ieee.{binary64, add}
 use Rattle.float.specs.Arithmetic.{maxOf}
 use Rattle.logarithm.specs.Logarithm.{lnOf}
-use Rattle.mixture.specs.Mixture.{weightFloor, logNormOf, baseOf, baseAt}
+use Rattle.groups.specs.Groups.{weightFloor, logNormOf, baseOf}
+use Rattle.mixture.specs.Mixture.{baseAt}
 use Rattle.mixture.specs.Areas.{partsIn, modelOf}
 use Rattle.mixture.proofs.Regions.{weightsR, kappasR, basesR}
 use Rattle.mixture.proofs.Groups.{Written, written-start, written-read, written-turn, written-end}

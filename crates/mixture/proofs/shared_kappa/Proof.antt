@@ -5,7 +5,7 @@ use native.Mathlib.Omega.{arith}
 use lib.ListN.{replicate}
 use lib.Ieee.{Float}
 use Rattle.float.specs.Arithmetic.{plusZero, sumFrom}
-use Rattle.mixture.specs.Kappas.{sharedKappa}
+use Rattle.groups.specs.Kappas.{sharedKappa}
 use Rattle.mixture.specs.Areas.{partsIn, withKappas}
 use Rattle.mixture.proofs.Regions.{kappasR, normsR}
 use Rattle.mixture.proofs.Groups.{region-cut, fill-in}

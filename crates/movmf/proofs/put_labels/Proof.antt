@@ -7,7 +7,7 @@ use Rattle.vector.specs.Rows.{rowOf}
 use Rattle.vector.specs.Vectors.{argmaxOf}
 use Rattle.vector.proofs.Rows.{row-within}
 use Rattle.lloyd.proofs.Seeds.{row-cut}
-use Rattle.mixture.specs.Kappas.{tabulate}
+use Rattle.groups.specs.Kappas.{tabulate}
 use Rattle.movmf.proofs.Outputs.{listed-turn, listed-end, label-below}
 use borrow.Author.Needs.{needs}
 use Rattle.movmf.proofs.put_labels.Statement.{statement}

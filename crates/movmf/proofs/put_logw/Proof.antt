@@ -4,7 +4,7 @@ use Prim.Native.Nat.{_-_, _≤_, _<_}
 use native.Mathlib.Omega.{arith}
 use lib.ListN.{length, take}
 use lib.Ieee.{binary64, add}
-use Rattle.mixture.specs.Kappas.{tabulate}
+use Rattle.groups.specs.Kappas.{tabulate}
 use Rattle.mixture.specs.Fits.{logwAt}
 use Rattle.mixture.specs.Areas.{partsIn, modelOf}
 use Rattle.movmf.proofs.Outputs.{listed-turn, listed-end, logw-is}

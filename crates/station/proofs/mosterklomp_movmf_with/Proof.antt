@@ -1,6 +1,6 @@
 -- The call is the definition's: the entry ensures its outcome, the giver the numbers of its answer, and the settings' Kappa is the one that was passed. Assumes nothing.
 use lib.ListN.{length}
-use Rattle.mixture.specs.declared.Kappa.{Kappa}
+use Rattle.groups.specs.declared.Kappa.{Kappa}
 use Rattle.movmf.specs.Outcome.{arrays, outcome}
 use Rattle.station.specs.Answers.{kappaOf}
 use Rattle.station.proofs.Calls.{fitted}

@@ -1,8 +1,8 @@
--- `auto::held_score` meets its contract: a case of `heldScore` for each Choice, which the match tells. Assumes nothing.
+-- `choice::held_score` meets its contract: a case of `heldScore` for each Choice, which the match tells. Assumes nothing.
 use lib.Ieee.{ofBits, div}
 use borrow.Author.Needs.{needs}
-use Rattle.auto.proofs.held_score.Statement.{statement}
-use Rattle.auto.proofs.held_score.Tie as tie
+use Rattle.choice.proofs.held_score.Statement.{statement}
+use Rattle.choice.proofs.held_score.Tie as tie
 
 enum-known-c : tie.Need-enum-known-c
 enum-known-c c = search needs

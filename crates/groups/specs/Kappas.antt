@@ -7,8 +7,8 @@ use lib.ListN.{getD, replicate}
 use lib.Ieee.{Float, nan, binary64, div, lt}
 use Rattle.float.specs.Arithmetic.{plusZero, sumFrom}
 use Rattle.bessel.specs.Concentration.{estimateOf}
-use Rattle.mixture.specs.declared.Kappa.{Kappa}
-use Rattle.mixture.specs.declared.Kappa.the-variants.{Free, Shared}
+use Rattle.groups.specs.declared.Kappa.{Kappa}
+use Rattle.groups.specs.declared.Kappa.the-variants.{Free, Shared}
 
 -- f 0, f 1, .. f (n − 1)
 unfoldable pub tabulate : {A : Type 0} → (ℕ → A) → ℕ → List A

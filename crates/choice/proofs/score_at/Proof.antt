@@ -1,4 +1,4 @@
--- `auto::score_at` meets its contract: the number of parameters is what the call ensures and below 2^53, and the rest is one term once the constants are computed. Assumes
+-- `choice::score_at` meets its contract: the number of parameters is what the call ensures and below 2^53, and the rest is one term once the constants are computed. Assumes
 -- nothing.
 use mathlib.Core.Path.{ap}
 use Prim.Native.Nat.{ℕ, _*_, _≤_}
@@ -6,12 +6,12 @@ use native.Mathlib.Omega.{arith}
 use lib.Dec.{le→leb}
 use lib.Ieee.{inFloat, ofBits, ofInt, neg, binary64, add, mul}
 use Rattle.float.specs.Arithmetic.{number}
-use Rattle.mixture.specs.Kappas.{parametersOf}
-use Rattle.mixture.specs.declared.Kappa.{Kappa}
-use Rattle.mixture.specs.declared.Kappa.the-variants.{Free, Shared}
+use Rattle.groups.specs.Kappas.{parametersOf}
+use Rattle.groups.specs.declared.Kappa.{Kappa}
+use Rattle.groups.specs.declared.Kappa.the-variants.{Free, Shared}
 use borrow.Author.Needs.{needs}
-use Rattle.auto.proofs.score_at.Statement.{statement}
-use Rattle.auto.proofs.score_at.Tie as tie
+use Rattle.choice.proofs.score_at.Statement.{statement}
+use Rattle.choice.proofs.score_at.Tie as tie
 
 few : (kappa : Kappa) (k d : ℕ) → k ≤ 64 → k * d ≤ 16384 → parametersOf kappa k d ≤ 20000
 few Free k d h g = omega arith

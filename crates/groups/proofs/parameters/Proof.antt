@@ -1,7 +1,7 @@
 -- `mixture::parameters` meets its contract: a case of `parametersOf` for each Kappa, which the match tells. Assumes nothing.
 use borrow.Author.Needs.{needs}
-use Rattle.mixture.proofs.parameters.Statement.{statement}
-use Rattle.mixture.proofs.parameters.Tie as tie
+use Rattle.groups.proofs.parameters.Statement.{statement}
+use Rattle.groups.proofs.parameters.Tie as tie
 
 enum-told : tie.Need-enum-told
 enum-told c = search needs

@@ -1,8 +1,8 @@
 -- `mixture::log_norm` meets its contract: the normalizer of the concentration, which is kept from 0. Assumes nothing.
 use borrow.Author.Needs.{needs}
 use lib.Ieee.{ofBits}
-use Rattle.mixture.proofs.log_norm.Statement.{statement}
-use Rattle.mixture.proofs.log_norm.Tie as tie
+use Rattle.groups.proofs.log_norm.Statement.{statement}
+use Rattle.groups.proofs.log_norm.Tie as tie
 
 max-requires : tie.Need-max-requires
 max-requires c κs = search needs

@@ -1,8 +1,8 @@
--- `auto::highest_number` meets its contract: both tests decide the lesser and the greater. Assumes nothing.
+-- `choice::highest_number` meets its contract: both tests decide the lesser and the greater. Assumes nothing.
 use mathlib.Core.Logic.{⊎-elim}
 use native.Mathlib.Omega.{arith}
-use Rattle.auto.proofs.highest_number.Statement.{statement}
-use Rattle.auto.proofs.highest_number.Tie as tie
+use Rattle.choice.proofs.highest_number.Statement.{statement}
+use Rattle.choice.proofs.highest_number.Tie as tie
 
 returns : tie.Need-returns
 returns c = ⊎-elim (λ w. omega (arith, w .0 .taken, w .1, c .if2 .taken)) (λ w. omega (arith, w .0 .left, w .1, c .if2 .taken)) (c .before .if1 .came)

@@ -1,14 +1,16 @@
 -- Document 01, 'Choosing the number of groups': the clamped range, the score and the choice. Definitions only.
 use mathlib.Core.List.{List}
 use mathlib.Core.Bool.{Bool, true, false}
-use Prim.Native.Nat.{ℕ, zero, suc, _+_, min, max}
-use lib.Ieee.{Float, inf, binary64, add, mul, neg, lt}
+use mathlib.Core.Logic.{_⊎_}
+use Prim.Native.Nat.{ℕ, zero, suc, _+_, _≤_, _<_, min, max}
+use lib.Dec.{T}
+use lib.Ieee.{Float, inf, binary64, add, mul, neg, lt, le, isNan}
 use Rattle.float.specs.Arithmetic.{number, minusZero, sumFrom}
 use Rattle.logarithm.specs.Logarithm.{lnOf}
-use Rattle.mixture.specs.Kappas.{parametersOf}
-use Rattle.mixture.specs.declared.Kappa.{Kappa}
-use Rattle.auto.specs.declared.Choice.{Choice}
-use Rattle.auto.specs.declared.Choice.the-variants.{Number, Nothing}
+use Rattle.groups.specs.Kappas.{parametersOf}
+use Rattle.groups.specs.declared.Kappa.{Kappa}
+use Rattle.choice.specs.declared.Choice.{Choice}
+use Rattle.choice.specs.declared.Choice.the-variants.{Number, Nothing}
 
 -- k_hi = max(1, min(k_max, m)), k_lo = min(max(k_min, 1), k_hi)
 abbrev pub highest : ℕ → ℕ → ℕ
@@ -45,3 +47,11 @@ choose held k score = chooseBy (lt score (heldScore held)) (Number k score) held
 unfoldable pub chosen : (ℕ → Float) → ℕ → ℕ → Choice
 chosen score lo zero = Nothing
 chosen score lo (suc n) = choose (chosen score lo n) (lo + n) (score (lo + n))
+
+-- ---- the best number of a range: scores compare as f64
+pub record BestOf (score : ℕ → Float) (lo hi k : ℕ) : Type 0 where
+  pub least : lo ≤ k
+  pub most : k ≤ hi
+  pub below : T (lt (score k) (inf false))
+  pub smaller : (j : ℕ) → lo ≤ j → j < k → T (isNan (score j)) ⊎ T (lt (score k) (score j))
+  pub larger : (j : ℕ) → k < j → j ≤ hi → T (isNan (score j)) ⊎ T (le (score k) (score j))

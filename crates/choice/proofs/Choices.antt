@@ -8,10 +8,9 @@ use native.Mathlib.Omega.{arith}
 use lib.Dec.{T, T-not, not-T}
 use lib.Ieee.{Float, inf, lt, le, isNan}
 use Rattle.float.proofs.Order.{lt-or-ge, nan-below, lt-irrefl, lt-trans, lt-splits, le-of-nlt, nlt-of-le}
-use Rattle.auto.specs.Choice.{heldScore, chooseBy, choose, chosen}
-use Rattle.auto.specs.Best.{BestOf}
-use Rattle.auto.specs.declared.Choice.{Choice}
-use Rattle.auto.specs.declared.Choice.the-variants.{Number, Nothing}
+use Rattle.choice.specs.Choice.{heldScore, chooseBy, choose, chosen, BestOf}
+use Rattle.choice.specs.declared.Choice.{Choice}
+use Rattle.choice.specs.declared.Choice.the-variants.{Number, Nothing}
 
 either : (b : Bool) → T b ⊎ T (not b)
 either true = inl tt

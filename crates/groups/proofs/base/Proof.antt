@@ -1,8 +1,8 @@
 -- `mixture::base` meets its contract: the logarithm of the weight, which is kept from 0, and the normalizer. Assumes nothing.
 use lib.Ieee.{ofBits}
 use borrow.Author.Needs.{needs}
-use Rattle.mixture.proofs.base.Statement.{statement}
-use Rattle.mixture.proofs.base.Tie as tie
+use Rattle.groups.proofs.base.Statement.{statement}
+use Rattle.groups.proofs.base.Tie as tie
 
 max-requires : tie.Need-max-requires
 max-requires c κs = search needs

@@ -1,0 +1,2 @@
+pub mod Kappas
+pub mod Groups
