@@ -6,7 +6,7 @@ ghost use lib.ListN.{length};
 ghost use Rattle.logarithm.specs.Logarithm.{lnOf};
 ghost use Rattle.groups.specs.declared.Kappa.the-variants.{Free};
 ghost use Rattle.movmf.specs.Outcome.{arrays, lengthsOf};
-ghost use Rattle.choice.specs.Choice.{highest, lowest, totalOf, scoreBy, heldScore};
+ghost use Rattle.choice.specs.Choice.{highest, lowest, totalOf};
 ghost use Rattle.auto.specs.Refusals.{refusalOf};
 ghost use Rattle.auto.specs.Outcome.{Auto, Outcome, answerBy, autoUpTo, outcome};
 ghost use Rattle.auto.specs.Best.{Best};

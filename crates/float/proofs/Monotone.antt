@@ -7,7 +7,6 @@ use native.Mathlib.Nat.{le-refl, mul-comm, mul-assoc, mul-left-comm, add-mul, mu
 use native.Mathlib.Omega.{arith}
 use mathlib.Core.Bool.{Bool, true, false, not, cond, true≢false}
 use lib.Dec.{T, not-T, ltb, ltb→lt, nltb→le, lit<, lit≤}
-use lib.Pow.{pow-pos}
 use lib.Ieee.{Float, nan, inf, fin, Format, binary64, prec, emax, low, up, down, below, odd, units, round, neg, sum, add, sub, mul, lt, eq, le, ofInt, isNan, fits}
 use lib.IntN.{ℤ, pos}
 use lib.Ieee.Fits.{round-is, down-pos}

@@ -6,11 +6,8 @@ use lib.Dec.{ltb}
 use lib.ListN.{getD, set, replicate}
 use lib.Ieee.{Float, nan, binary64, add, sub, mul, div, lt, le}
 use Rattle.float.specs.Arithmetic.{f64, number, plusZero, minusZero, sumFrom, maxOf, absOf}
-use Rattle.logarithm.specs.Logarithm.{lnOf}
 use Rattle.vector.specs.Rows.{rowOf, putPart}
 use Rattle.vector.specs.Vectors.{dotOf}
-use Rattle.bessel.specs.Concentration.{kappaMin}
-use Rattle.bessel.specs.Normalizer.{logVmfNormOf}
 use Rattle.lloyd.specs.Lloyd.{addLeaf, normsUpTo, centerBy}
 use Rattle.softmax.specs.Softmax.{logSumExp, sharesOf}
 use Rattle.groups.specs.Kappas.{tabulate, kappasOf}

@@ -7,10 +7,10 @@ use Prim.Native.Nat.{ℕ, zero, suc, _+_, _*_, _-_, _≤_, max}
 use native.Mathlib.Nat.{zero-add, mul-le-mul}
 use native.Mathlib.Omega.{arith}
 use lib.ListN.{length, take, drop}
-use lib.Seq.{take-take, length-take-le}
+use lib.Seq.{take-take}
 use lib.Ieee.{Float, le}
-use Rattle.vector.specs.Rows.{Alike, part, putPart}
-use Rattle.vector.proofs.Rows.{length-part, part-put, drop-put, take-put-after}
+use Rattle.vector.specs.Rows.{part, putPart}
+use Rattle.vector.proofs.Rows.{length-part}
 use Rattle.lloyd.specs.Lloyd.{State}
 use Rattle.lloyd.specs.Results.{Result, resultOf}
 use Rattle.lloyd.specs.Areas.{stateIn, Runnable, RunDone}
