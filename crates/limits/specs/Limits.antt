@@ -30,6 +30,10 @@ workLength m k d = 2 * (m * k) + 4 * (k * d) + 8 * m + 16 * k
 abbrev pub marksLength : ℕ → ℕ → ℕ
 marksLength m k = 2 * m + 2 * k
 
+-- 4 if one of them is too short
+abbrev pub workOk : ℕ → ℕ → ℕ → ℕ → ℕ → Bool
+workOk m k d work marks = leb (workLength m k d) work && leb (marksLength m k) marks
+
 -- 1 if m or d is out of limits or the coordinates aren't m·d
 abbrev pub sizesOk : ℕ → ℕ → ℕ → Bool
 sizesOk m d coords = leb 1 m && (leb m 4096 && (leb 1 d && (leb d 256 && eqb coords (m * d))))

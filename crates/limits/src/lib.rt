@@ -1,6 +1,7 @@
 // The limits that the entries share (document 01, 'Leaves, settings, fit' and 'Refusals by call'), and where the two halves of the lent work arrays start.
 ghost use mathlib.Core.Path.{_≡_};
-ghost use Rattle.limits.specs.Limits.{weightOk, coordinateOk, every, sizesOk, groupsOk};
+ghost use Prim.Native.Nat.{_≤_};
+ghost use Rattle.limits.specs.Limits.{weightOk, coordinateOk, every, sizesOk, groupsOk, workOk};
 ghost use Rattle.limits.specs.Halves.{heldAt, freeAt};
 
 // A weight from 0 to 2^40.
@@ -71,6 +72,18 @@ pub fn groups_ok(k: usize, m: usize) -> bool
     ensures { λ r. ⌜ r ≡ groupsOk k m ⌝ }
 {
     (1 <= k) & ((k <= 64) & (k <= m))
+}
+
+// The lent work arrays are long enough.
+pub fn work_ok(m: usize, k: usize, d: usize, work: usize, marks: usize) -> bool
+    requires { ⌜ (m ≤ 4096) × (k ≤ 64) × (d ≤ 256) ⌝ }
+    ensures { λ r. ⌜ r ≡ workOk m k d work marks ⌝ }
+{
+    let mk = m * k;
+    let kd = k * d;
+    let needed = 2 * mk + 4 * kd + 8 * m + 16 * k;
+    let noted = 2 * m + 2 * k;
+    (needed <= work) & (noted <= marks)
 }
 
 // ---- the halves of the work arrays

@@ -44,11 +44,7 @@ pub fn arrays_ok(m: usize, k: usize, d: usize, l: Lengths) -> bool
     requires { ⌜ (m ≤ 4096) × (k ≤ 64) × (d ≤ 256) ⌝ }
     ensures { λ r. ⌜ r ≡ arraysOk m k d l ⌝ }
 {
-    let mk = m * k;
-    let kd = k * d;
-    let needed = 2 * mk + 4 * kd + 8 * m + 16 * k;
-    let noted = 2 * m + 2 * k;
-    outputs_ok(m, k, d, l) & ((needed <= l.work) & (noted <= l.marks))
+    outputs_ok(m, k, d, l) & limits::work_ok(m, k, d, l.work, l.marks)
 }
 
 // The first refusal that holds, or 0.

@@ -5,7 +5,7 @@ use Prim.Native.Nat.{ℕ, _*_}
 use lib.Dec.{leb}
 use lib.ListN.{length}
 use lib.Ieee.{Float}
-use Rattle.limits.specs.Limits.{need, weightOk, coordinateOk, every, workLength, marksLength, sizesOk, groupsOk, roundsOk}
+use Rattle.limits.specs.Limits.{need, weightOk, coordinateOk, every, workOk, sizesOk, groupsOk, roundsOk}
 
 -- 3 if restarts are above 64
 abbrev pub restartsOk : ℕ → Bool
@@ -14,7 +14,7 @@ restartsOk restarts = leb restarts 64
 -- 4 if an output or work array is too short: labels m, directions k·d
 abbrev pub arraysOk : ℕ → ℕ → ℕ → ℕ → ℕ → ℕ → ℕ → Bool
 arraysOk m k d labels directions work marks =
-    leb m labels && (leb (k * d) directions && (leb (workLength m k d) work && leb (marksLength m k) marks))
+    leb m labels && (leb (k * d) directions && workOk m k d work marks)
 
 -- the first refusal that holds, in this order, or 0; of the arrays only the lengths count, but of weights and coordinates the values
 unfoldable pub refusalOf : List Float → List Float → ℕ → ℕ → ℕ → ℕ → ℕ → ℕ → ℕ → ℕ → ℕ

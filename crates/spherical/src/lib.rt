@@ -27,11 +27,8 @@ fn arrays_ok(
     requires { ⌜ (m ≤ 4096) × (k ≤ 64) × (d ≤ 256) ⌝ }
     ensures { λ r. ⌜ r ≡ arraysOk m k d labels directions work marks ⌝ }
 {
-    let mk = m * k;
     let kd = k * d;
-    let needed = 2 * mk + 4 * kd + 8 * m + 16 * k;
-    let noted = 2 * m + 2 * k;
-    (m <= labels) & ((kd <= directions) & ((needed <= work) & (noted <= marks)))
+    (m <= labels) & ((kd <= directions) & limits::work_ok(m, k, d, work, marks))
 }
 
 // The first refusal that holds, or 0.
