@@ -10,7 +10,7 @@ use lib.ListN.{length, drop}
 use lib.Seq.{drop-drop, drop-at}
 use lib.Ieee.{Float, lt}
 use Rattle.logarithm.specs.Logarithm.{lnOf}
-use Rattle.vector.specs.Rows.{part, rowOf}
+use Rattle.rows.specs.Rows.{part, rowOf}
 use Rattle.vector.specs.Vectors.{argmaxOf}
 use Rattle.limits.specs.Halves.{half, heldAt, freeAt}
 use Rattle.mixture.specs.Mixture.{Em}

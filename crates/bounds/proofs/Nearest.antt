@@ -9,7 +9,7 @@ use native.Mathlib.Omega.{arith}
 use lib.ListN.{getD}
 use lib.Ieee.{Float, nan, lt}
 use Rattle.float.specs.declared.Four.{Four}
-use Rattle.vector.specs.Rows.{rowOf}
+use Rattle.rows.specs.Rows.{rowOf}
 use Rattle.vector.specs.Vectors.{dotOf}
 use Rattle.bounds.specs.Shifts.{slowerOf, slowestUpTo}
 use Rattle.bounds.specs.Nearest.{betterOf, bestTo, rowDots}

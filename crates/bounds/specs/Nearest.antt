@@ -5,7 +5,7 @@ use mathlib.Core.Path.{_≡_}
 use Prim.Native.Nat.{ℕ, zero, suc, _+_, _*_, _≤_, _<_}
 use lib.Ieee.{Float, inf, lt}
 use Rattle.float.specs.declared.Four.{Four}
-use Rattle.vector.specs.Rows.{rowOf}
+use Rattle.rows.specs.Rows.{rowOf}
 use Rattle.vector.specs.Vectors.{dotOf}
 use Rattle.vector.specs.Fours.{dotsOf}
 use Rattle.bounds.specs.declared.Best.{Best}

@@ -4,7 +4,7 @@ ghost use mathlib.Core.Path.{_≡_};
 ghost use mathlib.Core.Bool.{true, false};
 ghost use Prim.Native.Nat.{_+_, _*_, _-_, _<_, _≤_};
 ghost use lib.ListN.{length};
-ghost use Rattle.vector.specs.Rows.{rowOf};
+ghost use Rattle.rows.specs.Rows.{rowOf};
 ghost use Rattle.vector.specs.Vectors.{dotOf};
 ghost use Rattle.bounds.specs.Shifts.{sinesOf, shiftLower, shiftUpper, slowerOf, slowestUpTo, shiftedBounds, skips};
 ghost use Rattle.bounds.specs.Products.{squaresOf, reachesOf, footOf, closeOf, maySkip};

@@ -9,8 +9,8 @@ use native.Mathlib.Omega.{arith}
 use lib.ListN.{length, take, drop}
 use lib.Seq.{take-take}
 use lib.Ieee.{Float, le}
-use Rattle.vector.specs.Rows.{part, putPart}
-use Rattle.vector.proofs.Rows.{length-part}
+use Rattle.rows.specs.Rows.{part, putPart}
+use Rattle.rows.proofs.Rows.{length-part}
 use Rattle.limits.specs.Halves.{half, heldAt, freeAt}
 use Rattle.limits.proofs.Halves.{put-there}
 use Rattle.mixture.specs.Mixture.{Em}

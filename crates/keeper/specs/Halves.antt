@@ -5,7 +5,7 @@ use mathlib.Core.Bool.{Bool, true, false, not, cond}
 use Prim.Native.Nat.{ℕ, _+_, _*_, _≤_, _<_}
 use lib.ListN.{take, drop}
 use lib.Ieee.{Float, le}
-use Rattle.vector.specs.Rows.{part}
+use Rattle.rows.specs.Rows.{part}
 use Rattle.limits.specs.Halves.{half, heldAt, freeAt}
 use Rattle.mixture.specs.Mixture.{Em}
 use Rattle.mixture.specs.Fits.{Once}

@@ -3,7 +3,7 @@
 ghost use mathlib.Core.Path.{_≡_};
 ghost use Prim.Native.Nat.{_+_, _≤_};
 ghost use lib.ListN.{length};
-ghost use Rattle.vector.specs.Rows.{part};
+ghost use Rattle.rows.specs.Rows.{part};
 ghost use Rattle.limits.specs.Halves.{half, heldAt, freeAt};
 ghost use Rattle.keeper.specs.Keeper.{runOf, runsUpTo};
 ghost use Rattle.keeper.specs.Halves.{Roomy, Tried, Holds, Addable, keptHeld, Both, keptPart, keptLoglik, Halved};

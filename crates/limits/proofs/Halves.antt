@@ -6,8 +6,8 @@ use Prim.Native.Nat.{ℕ, _+_, _≤_}
 use native.Mathlib.Omega.{arith}
 use lib.ListN.{length, take, drop}
 use lib.Seq.{length-take-le}
-use Rattle.vector.specs.Rows.{Alike, part, putPart}
-use Rattle.vector.proofs.Rows.{length-part, part-put, drop-put, take-put-after}
+use Rattle.rows.specs.Rows.{Alike, part, putPart}
+use Rattle.rows.proofs.Rows.{length-part, part-put, drop-put, take-put-after}
 use Rattle.limits.specs.Halves.{heldAt, freeAt}
 
 -- ---- the places of the halves

@@ -11,7 +11,7 @@ use borrow.Author.Tests.{lt-ltb, le-ltb}
 use lib.Dec.{eqb, ltb}
 use lib.ListN.{length, getD, take, drop, set, length-set}
 use lib.Ieee.{Float, nan}
-use Rattle.vector.specs.Rows.{rowOf}
+use Rattle.rows.specs.Rows.{rowOf}
 use Rattle.bounds.specs.Shifts.{shiftedBounds, skips, otherThan, slowestUpTo}
 use Rattle.bounds.specs.Nearest.{bestTo}
 use Rattle.bounds.specs.declared.Best.{Best}

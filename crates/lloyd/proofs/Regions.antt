@@ -6,8 +6,8 @@ use Prim.Native.Nat.{ℕ, _+_, _*_, _≤_, _<_}
 use native.Mathlib.Omega.{arith}
 use lib.ListN.{length, getD, take, set}
 use lib.Ieee.{Float, nan}
-use Rattle.vector.specs.Rows.{part, putPart, cut, rowOf}
-use Rattle.vector.proofs.Rows.{row-within, cut-set, cut-put, cut-whole, cut-length, cut-put-whole, cut-get, cut-part}
+use Rattle.rows.specs.Rows.{part, putPart, cut, rowOf}
+use Rattle.rows.proofs.Rows.{row-within, cut-set, cut-put, cut-whole, cut-length, cut-put-whole, cut-get, cut-part}
 use Rattle.bounds.specs.declared.Bounds.{Bounds}
 use Rattle.lloyd.specs.Lloyd.{State, boundsAt, putBounds, putLabel}
 use Rattle.lloyd.specs.Areas.{lengths, markLengths, total, named, stateIn, sumsIn, countsIn, sumsAt, scaleAt, lowAt, highAt, servedAt, driftAt}

@@ -11,9 +11,9 @@ use lib.ListN.{length, getD, take, drop, set, replicate, length-append, length-r
 use lib.Seq.{drop-cons, take-suc, take-all, set-at, take-at, getD-at, length-take-le}
 use lib.Ieee.{Float, nan, inf, binary64, sub, mul, lt}
 use Rattle.float.specs.Arithmetic.{number, plusZero, maxOf}
-use Rattle.vector.specs.Rows.{putPart, rowOf}
+use Rattle.rows.specs.Rows.{putPart, rowOf}
 use Rattle.vector.specs.Vectors.{dotOf, normOf, unitVector}
-use Rattle.vector.proofs.Rows.{row-within, length-part, part-put}
+use Rattle.rows.proofs.Rows.{row-within, length-part, part-put}
 use Rattle.vector.specs.Pick.{pickOf}
 use Rattle.vector.specs.declared.Picked.{Picked}
 use Rattle.vector.proofs.Vectors.{unit-length, pick-below}

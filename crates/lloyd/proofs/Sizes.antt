@@ -1,7 +1,7 @@
 -- What the functions on the work areas ask, of arrays of the same lengths, of the f64 area alone, and of each leaf and group. Assumes nothing.
 use mathlib.Core.Path.{_≡_}
 use Prim.Native.Nat.{ℕ, _<_}
-use Rattle.vector.proofs.Rows.{row-within}
+use Rattle.rows.proofs.Rows.{row-within}
 use Rattle.lloyd.specs.Areas.{Sized, Area, LeafOf, GroupOf}
 
 -- arrays of the same lengths are sized as well

@@ -11,9 +11,9 @@ use lib.ListN.{length, getD, drop, set, replicate, length-replicate, length-appe
 use lib.Seq.{drop-cons, set-at}
 use lib.Ieee.{Float, nan, binary64, add}
 use Rattle.float.specs.Arithmetic.{plusZero, sumFrom}
-use Rattle.vector.specs.Rows.{part, putPart, rowOf}
+use Rattle.rows.specs.Rows.{part, putPart, rowOf}
 use Rattle.vector.specs.Vectors.{dotOf, normOf, addScaled}
-use Rattle.vector.proofs.Rows.{row-within, length-part}
+use Rattle.rows.proofs.Rows.{row-within, length-part}
 use Rattle.vector.proofs.Vectors.{add-scaled-length}
 use Rattle.lloyd.specs.Lloyd.{State, sumsUpTo, countsUpTo, emptyUpTo, servedUpTo, putServed, normsUpTo}
 use Rattle.lloyd.specs.Cohesion.{cohesionOf}

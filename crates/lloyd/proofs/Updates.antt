@@ -13,9 +13,9 @@ use lib.Seq.{length-take-le, getD-set-same, getD-set-other}
 use borrow.Author.Tests.{eqb-true, eqb-false, eq-eqb, ne-eqb}
 use lib.Ieee.{Float, inf, lt}
 use Rattle.float.specs.Arithmetic.{plusZero}
-use Rattle.vector.specs.Rows.{part, putPart, rowOf}
+use Rattle.rows.specs.Rows.{part, putPart, rowOf}
 use Rattle.vector.specs.Vectors.{dotOf, normOf, dividedBy, unitVector, argminOf}
-use Rattle.vector.proofs.Rows.{row-within, length-part, part-put, drop-put}
+use Rattle.rows.proofs.Rows.{row-within, length-part, part-put, drop-put}
 use Rattle.vector.proofs.Vectors.{argmin-below}
 use Rattle.bounds.specs.Shifts.{cosine}
 use Rattle.lloyd.specs.Lloyd.{State, Update, putServed, moveCenter, centerBy, among, reseedFrom, recenter, updateUpTo}

@@ -5,7 +5,7 @@ use mathlib.Core.Bool.{Bool, true, false, not, _&&_, _||_, cond}
 use Prim.Native.Nat.{ℕ, zero, suc, _+_, _*_, _≤_, _<_}
 use lib.ListN.{length, getD, set}
 use lib.Ieee.{Float, nan, inf, lt}
-use Rattle.vector.specs.Rows.{part, putPart, cut, rowOf}
+use Rattle.rows.specs.Rows.{part, putPart, cut, rowOf}
 use Rattle.vector.specs.Pick.{pickOf}
 use Rattle.vector.specs.declared.Picked.{Picked}
 use Rattle.vector.specs.Vectors.{dotOf, argminOf, unitVector}

@@ -6,7 +6,7 @@ use lib.Dec.{eqb, ltb}
 use lib.ListN.{getD, set, replicate}
 use lib.Ieee.{Float, nan, inf, binary64, div, lt}
 use Rattle.float.specs.Arithmetic.{number, plusZero}
-use Rattle.vector.specs.Rows.{rowOf, putPart}
+use Rattle.rows.specs.Rows.{rowOf, putPart}
 use Rattle.vector.specs.Vectors.{dotOf, normOf, dividedBy, unitVector, addScaled, argminOf}
 use Rattle.bounds.specs.Shifts.{cosine, shiftedBounds, skips, slowestUpTo, otherThan}
 use Rattle.bounds.specs.Nearest.{bestTo}

@@ -4,7 +4,7 @@ use mathlib.Core.Bool.{cond}
 use Prim.Native.Nat.{ℕ, zero, suc, _-_}
 use lib.Ieee.{Float, binary64, sub, mul, lt}
 use Rattle.float.specs.Arithmetic.{number, plusZero, maxOf}
-use Rattle.vector.specs.Rows.{rowOf}
+use Rattle.rows.specs.Rows.{rowOf}
 use Rattle.vector.specs.Vectors.{dotOf, unitVector}
 use Rattle.vector.specs.Pick.{pickOf}
 use Rattle.vector.specs.declared.Picked.{Picked}

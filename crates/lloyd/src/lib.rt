@@ -8,7 +8,7 @@ ghost use Prim.Native.Nat.{ℕ, _+_, _*_, _<_, _≤_};
 ghost use lib.Dec.{eqb};
 ghost use lib.ListN.{length, getD, replicate};
 ghost use lib.Ieee.{lt};
-ghost use Rattle.vector.specs.Rows.{rowOf, putPart};
+ghost use Rattle.rows.specs.Rows.{rowOf, putPart};
 ghost use Rattle.bounds.specs.Shifts.{slowestUpTo, otherThan};
 ghost use Rattle.lloyd.specs.Lloyd.{Pass, boundsAt, putBounds, shiftLeaf, shiftUpTo, boundsBy, bestOf, putBest, passUpTo, emptyUpTo, servedUpTo, putServed, moveCenter, centerBy, passOf, roundsFrom, startedFrom, normsUpTo, sumsUpTo};
 ghost use Rattle.lloyd.specs.Seeding.{angleOf, anglesUpTo, lowered, chances, seedsOf};
@@ -318,8 +318,8 @@ fn accumulate(
     ensures { λ _. ⌜ Accumulated (now (weights .entry)) (now (coords .entry)) m k d (now (work .entry)) (now (work .exit)) (now (marks .entry)) (now (marks .exit)) ⌝ }
 {
     let kd = k * d;
-    vector::fill(&mut work[kd..kd + kd], 0.0);
-    vector::fill_u32(&mut marks[m..m + k], 0);
+    rows::fill(&mut work[kd..kd + kd], 0.0);
+    rows::fill_u32(&mut marks[m..m + k], 0);
     let mut i = 0;
     while i < m {
         gain(work, marks, weights, coords, i, m, k, d);
@@ -397,7 +397,7 @@ fn move_center(work: &mut [f64], c: usize, m: usize, k: usize, d: usize)
     let v = float::clamp(vector::dot(&s[to..to + d], &s[from..from + d]), -1.0, 1.0);
     let drift = kd + kd + m + m + m + m;
     work[drift + c] = v;
-    vector::copy_within(work, from, to, d);
+    rows::copy_within(work, from, to, d);
 }
 
 // Centre c stays; its drift is that of a centre which did not turn.
@@ -664,7 +664,7 @@ fn fill_at(work: &mut [f64], at: usize, n: usize, x: f64)
     requires { ⌜ at + n ≤ length (now work) ⌝ }
     ensures { λ _. ⌜ now (work .exit) ≡ putPart (now (work .entry)) at n (replicate n x) ⌝ }
 {
-    vector::fill(&mut work[at..at + n], x);
+    rows::fill(&mut work[at..at + n], x);
 }
 
 // Everything but the centres as before the first round.
@@ -682,7 +682,7 @@ fn start(work: &mut [f64], marks: &mut [u32], coords: &[f64], m: usize, k: usize
     fill_at(work, high, m, 1.0 / 0.0);
     fill_at(work, served, m, -1.0 / 0.0);
     fill_at(work, drift, k, 1.0);
-    vector::fill_u32(&mut marks[..m], 0);
+    rows::fill_u32(&mut marks[..m], 0);
 }
 
 // ---- seeding: the distances stand in the place of the lower bounds, the chances in that of the upper ones

@@ -12,9 +12,9 @@ use lib.Seq.{getD-drop, getD-at, drop-drop, paste, paste-suc, drop-paste}
 use lib.Ieee.{Float, nan, binary64, div, lt}
 use Rattle.float.specs.Arithmetic.{plusZero}
 use Rattle.float.proofs.Order.{lt-or-ge}
-use Rattle.vector.specs.Rows.{part, putPart, rowOf}
+use Rattle.rows.specs.Rows.{part, putPart, rowOf}
 use Rattle.vector.specs.Vectors.{normOf, dividedBy}
-use Rattle.vector.proofs.Rows.{length-part, row-within}
+use Rattle.rows.proofs.Rows.{length-part, row-within}
 use Rattle.vector.proofs.Vectors.{divide-length}
 use Rattle.lloyd.specs.Lloyd.{normsUpTo, centerBy}
 use Rattle.lloyd.proofs.Seeds.{norms-length}

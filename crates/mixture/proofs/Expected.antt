@@ -11,10 +11,10 @@ use lib.Seq.{drop-drop, take-at, drop-at, length-take-le}
 use lib.Ieee.{Float, nan, binary64, add, mul}
 use Rattle.float.specs.Arithmetic.{plusZero}
 use Rattle.float.specs.declared.Four.{Four}
-use Rattle.vector.specs.Rows.{part, putPart, rowOf}
+use Rattle.rows.specs.Rows.{part, putPart, rowOf}
 use Rattle.vector.specs.Vectors.{dotOf}
 use Rattle.vector.specs.Fours.{dotsOf}
-use Rattle.vector.proofs.Rows.{row-within, part-put, put-more}
+use Rattle.rows.proofs.Rows.{row-within, part-put, put-more}
 use Rattle.lloyd.proofs.Seeds.{front-end}
 use Rattle.softmax.specs.Softmax.{logSumExp, sharesOf}
 use Rattle.groups.specs.Kappas.{tabulate}

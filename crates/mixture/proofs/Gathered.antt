@@ -9,9 +9,9 @@ use lib.ListN.{length, getD, take, drop, set, replicate, length-set, length-appe
 use lib.Seq.{getD-take, getD-drop, length-front}
 use lib.Ieee.{Float, nan, binary64, add, mul}
 use Rattle.float.specs.Arithmetic.{plusZero}
-use Rattle.vector.specs.Rows.{part, putPart, rowOf}
+use Rattle.rows.specs.Rows.{part, putPart, rowOf}
 use Rattle.vector.specs.Vectors.{addScaled}
-use Rattle.vector.proofs.Rows.{length-part}
+use Rattle.rows.proofs.Rows.{length-part}
 use Rattle.vector.proofs.Vectors.{add-scaled-length}
 use Rattle.mixture.specs.Mixture.{gatherGroup, gatherLeaf, gatherUpTo}
 use Rattle.mixture.specs.Areas.{Parts, partsIn, gatheredOf, withSums, withTotals, withGathered, Area, LeafOf, GroupOf, total}

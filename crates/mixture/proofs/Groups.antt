@@ -6,8 +6,8 @@ use Prim.Native.Nat.{ℕ, _+_, _-_, _≤_, _<_}
 use native.Mathlib.Omega.{arith}
 use lib.ListN.{length, getD, drop, set, replicate, length-replicate}
 use lib.Ieee.{Float, nan}
-use Rattle.vector.specs.Rows.{part, putPart, startOf}
-use Rattle.vector.proofs.Rows.{length-part}
+use Rattle.rows.specs.Rows.{part, putPart, startOf}
+use Rattle.rows.proofs.Rows.{length-part}
 use Rattle.groups.specs.Kappas.{tabulate}
 use Rattle.mixture.specs.Areas.{Parts, lengths, total, partsIn}
 use Rattle.mixture.proofs.Regions.{Region, part-cut, get-in, whole-in, put-whole-in, frontIn, front-in-start, front-in-turn, front-in-end, tabulate-length, tabulate-turn}

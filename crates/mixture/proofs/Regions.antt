@@ -7,8 +7,8 @@ use native.Mathlib.Numerals.{add-one}
 use native.Mathlib.Omega.{arith}
 use lib.ListN.{length, getD, drop, set, length-append}
 use lib.Ieee.{Float}
-use Rattle.vector.specs.Rows.{part, putPart, cut, startOf}
-use Rattle.vector.proofs.Rows.{cut-set, cut-put, cut-whole, cut-length, cut-put-whole, cut-get, cut-part}
+use Rattle.rows.specs.Rows.{part, putPart, cut, startOf}
+use Rattle.rows.proofs.Rows.{cut-set, cut-put, cut-whole, cut-length, cut-put-whole, cut-get, cut-part}
 use Rattle.lloyd.proofs.Seeds.{front-turn, front-end}
 use Rattle.groups.specs.Kappas.{tabulate}
 use Rattle.mixture.specs.Areas.{Parts, lengths, total, named, partsIn, withDirections, withSums, withWeights, withKappas, withBases, withTotals, withNorms, withResp}

@@ -1,7 +1,7 @@
 -- What the functions on an area ask: of an area of the same length, and of each leaf and group. Assumes nothing.
 use mathlib.Core.Path.{_≡_}
 use Prim.Native.Nat.{ℕ, _<_}
-use Rattle.vector.proofs.Rows.{row-within}
+use Rattle.rows.proofs.Rows.{row-within}
 use Rattle.mixture.specs.Areas.{Area, LeafOf, GroupOf}
 
 pub area-of : (work work' m k d : ℕ) → work' ≡ work → Area work m k d → Area work' m k d

@@ -5,7 +5,7 @@ use Prim.Native.Nat.{ℕ, _+_, _*_, _≤_, _<_}
 use lib.ListN.{getD}
 use lib.Ieee.{Float, nan, binary64, add, mul}
 use Rattle.float.specs.declared.Four.{Four}
-use Rattle.vector.specs.Rows.{cut}
+use Rattle.rows.specs.Rows.{cut}
 use Rattle.lloyd.specs.Areas as lloyd
 use Rattle.mixture.specs.Mixture.{Model, Gathered, Em, likenessAt}
 use Rattle.mixture.specs.Fits.{Once}

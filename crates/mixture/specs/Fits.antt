@@ -6,7 +6,7 @@ use lib.ListN.{getD, set, replicate}
 use lib.Ieee.{Float, nan, inf, binary64, add}
 use Rattle.float.specs.Arithmetic.{f64, plusZero, sumFrom, maxOf}
 use Rattle.logarithm.specs.Logarithm.{lnOf}
-use Rattle.vector.specs.Rows.{rowOf}
+use Rattle.rows.specs.Rows.{rowOf}
 use Rattle.vector.specs.Vectors.{argmaxOf}
 use Rattle.lloyd.specs.Lloyd.{normsUpTo, sumsUpTo}
 use Rattle.lloyd.specs.Results.{Result, resultOf}

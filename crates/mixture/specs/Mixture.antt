@@ -6,7 +6,7 @@ use lib.Dec.{ltb}
 use lib.ListN.{getD, set, replicate}
 use lib.Ieee.{Float, nan, binary64, add, sub, mul, div, lt, le}
 use Rattle.float.specs.Arithmetic.{f64, number, plusZero, minusZero, sumFrom, maxOf, absOf}
-use Rattle.vector.specs.Rows.{rowOf, putPart}
+use Rattle.rows.specs.Rows.{rowOf, putPart}
 use Rattle.vector.specs.Vectors.{dotOf}
 use Rattle.lloyd.specs.Lloyd.{addLeaf, normsUpTo, centerBy}
 use Rattle.softmax.specs.Softmax.{logSumExp, sharesOf}

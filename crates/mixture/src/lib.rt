@@ -7,7 +7,7 @@ ghost use Prim.Native.Nat.{_+_, _*_, _<_, _≤_};
 ghost use lib.ListN.{length, getD, replicate, take};
 ghost use lib.Ieee.{nan, inf, binary64, mul};
 ghost use Rattle.float.specs.Arithmetic.{plusZero, sumFrom};
-ghost use Rattle.vector.specs.Rows.{Apart, part, putPart, rowOf};
+ghost use Rattle.rows.specs.Rows.{Apart, part, putPart, rowOf};
 ghost use Rattle.vector.specs.Vectors.{dividedBy};
 ghost use Rattle.bessel.specs.Concentration.{Dimension, estimateOf};
 ghost use Rattle.lloyd.specs.Lloyd.{normsUpTo};
@@ -59,7 +59,7 @@ fn shared_kappa(work: &mut [f64], whole: f64, m: usize, k: usize, d: usize)
     let norms = kappas + k + k + k;
     let s = &work[..];
     let pooled = vector::fold(&s[norms..norms + k]);
-    vector::fill(&mut work[kappas..kappas + k], kappa_by(pooled, whole, d));
+    rows::fill(&mut work[kappas..kappas + k], kappa_by(pooled, whole, d));
 }
 
 // The concentrations by the lengths and the weights of the resultants, at the start and after each round.
@@ -295,8 +295,8 @@ fn gather(work: &mut [f64], weights: &[f64], coords: &[f64], m: usize, k: usize,
 {
     let kd = k * d;
     let totals = kd + kd + k + k + k;
-    vector::fill(&mut work[kd..kd + kd], 0.0);
-    vector::fill(&mut work[totals..totals + k], 0.0);
+    rows::fill(&mut work[kd..kd + kd], 0.0);
+    rows::fill(&mut work[totals..totals + k], 0.0);
     let mut i = 0;
     while i < m {
         gather_leaf(work, weights, coords, i, m, k, d);
@@ -483,7 +483,7 @@ fn label_totals(work: &mut [f64], marks: &[u32], weights: &[f64], m: usize, k: u
 {
     let kd = k * d;
     let totals = kd + kd + k + k + k;
-    vector::fill(&mut work[totals..totals + k], 0.0);
+    rows::fill(&mut work[totals..totals + k], 0.0);
     let mut i = 0;
     while i < m {
         let at = totals + marks[i] as usize;
@@ -524,8 +524,8 @@ fn clear(work: &mut [f64], m: usize, k: usize, d: usize)
     let kd = k * d;
     let weights = kd + kd;
     let resp = weights + k + k + k + k + k;
-    vector::fill(&mut work[weights..weights + k], even_weight(k));
-    vector::fill(&mut work[resp..resp + m * k], 0.0);
+    rows::fill(&mut work[weights..weights + k], even_weight(k));
+    rows::fill(&mut work[resp..resp + m * k], 0.0);
 }
 
 // What a run answers: its log-likelihood, and the counts of its warm start.

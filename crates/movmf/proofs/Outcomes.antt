@@ -8,8 +8,8 @@ use native.Mathlib.Omega.{arith}
 use lib.ListN.{length, take, drop}
 use lib.Seq.{length-take-le}
 use lib.Ieee.{Float, le}
-use Rattle.vector.specs.Rows.{part}
-use Rattle.vector.proofs.Rows.{length-part}
+use Rattle.rows.specs.Rows.{part}
+use Rattle.rows.proofs.Rows.{length-part}
 use Rattle.limits.specs.Halves.{half, heldAt, freeAt}
 use Rattle.mixture.specs.Mixture.{Em}
 use Rattle.mixture.specs.Fits.{labelsOf, logwOf}

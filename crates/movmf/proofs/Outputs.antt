@@ -8,10 +8,11 @@ use native.Mathlib.Omega.{arith}
 use lib.ListN.{length, getD, take, set}
 use lib.Seq.{take-suc-set}
 use lib.Ieee.{Float, nan, binary64, add}
-use Rattle.vector.specs.Rows.{part}
+use Rattle.rows.specs.Rows.{part}
 use Rattle.vector.specs.Vectors.{argmaxOf}
-use Rattle.vector.proofs.Rows.{length-part}
-use Rattle.vector.proofs.Vectors.{take-end, argmax-below}
+use Rattle.rows.proofs.Rows.{length-part}
+use Rattle.rows.proofs.Fills.{take-end}
+use Rattle.vector.proofs.Vectors.{argmax-below}
 use Rattle.groups.specs.Kappas.{tabulate}
 use Rattle.groups.specs.Groups.{logNormOf}
 use Rattle.mixture.specs.Fits.{lnWeight, logwAt}

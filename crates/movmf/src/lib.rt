@@ -127,7 +127,7 @@ fn fill_leaves(
     let mk = m * k;
     let resp = kd + kd + k + k + k + k + k;
     put_labels(&mut labels[..m], &area[resp..resp + mk], m, k);
-    vector::copy(&mut responsibilities[..mk], &area[resp..resp + mk]);
+    rows::copy(&mut responsibilities[..mk], &area[resp..resp + mk]);
 }
 
 // What is found of the groups, copied out.
@@ -150,9 +150,9 @@ fn fill_groups(
     let kd = k * d;
     let at = kd + kd;
     let kappas = at + k;
-    vector::copy(&mut weights[..k], &area[at..at + k]);
-    vector::copy(&mut directions[..kd], &area[..kd]);
-    vector::copy(&mut concentrations[..k], &area[kappas..kappas + k]);
+    rows::copy(&mut weights[..k], &area[at..at + k]);
+    rows::copy(&mut directions[..kd], &area[..kd]);
+    rows::copy(&mut concentrations[..k], &area[kappas..kappas + k]);
     put_logw(&mut logw[..k], area, m, k, d);
 }
 

@@ -9,8 +9,8 @@ use native.Mathlib.Omega.{arith}
 use lib.ListN.{length, take, drop}
 use lib.Seq.{take-take}
 use lib.Ieee.{Float, le}
-use Rattle.vector.specs.Rows.{part, putPart}
-use Rattle.vector.proofs.Rows.{length-part}
+use Rattle.rows.specs.Rows.{part, putPart}
+use Rattle.rows.proofs.Rows.{length-part}
 use Rattle.lloyd.specs.Lloyd.{State}
 use Rattle.lloyd.specs.Results.{Result, resultOf}
 use Rattle.lloyd.specs.Areas.{stateIn, Runnable, RunDone}

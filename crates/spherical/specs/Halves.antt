@@ -5,7 +5,7 @@ use mathlib.Core.Bool.{Bool, true, false, not}
 use Prim.Native.Nat.{ℕ, _+_, _*_, _≤_, _<_}
 use lib.ListN.{take, drop}
 use lib.Ieee.{Float, le}
-use Rattle.vector.specs.Rows.{part}
+use Rattle.rows.specs.Rows.{part}
 use Rattle.lloyd.specs.Lloyd.{State}
 use Rattle.lloyd.specs.Results.{Result}
 use Rattle.lloyd.specs.Areas.{stateIn}

@@ -235,8 +235,8 @@ fn fill_outputs(
     let n = m * k + kd + kd + 4 * m + 8 * k;
     let a = limits::held_at(second, n);
     let b = limits::held_at(second, m + k);
-    vector::copy_u32(&mut labels[..m], &marks[b..b + m]);
-    vector::copy(&mut directions[..kd], &work[a..a + kd]);
+    rows::copy_u32(&mut labels[..m], &marks[b..b + m]);
+    rows::copy(&mut directions[..kd], &work[a..a + kd]);
 }
 
 // Spherical k-means of m leaves (m weights, m * d coordinates) into k groups. The outputs hold m labels and k * d directions

@@ -1,3 +1,2 @@
-pub mod Rows
 pub mod Vectors
 pub mod Fours

@@ -41,19 +41,6 @@ module _ (s : Float) (a b : List Float) (j : ℕ) where
       (λ (g : length a ≤ j). rw (drop-of-length-le a g))
       (lt-or-ge j (length a))
 
--- lists that are filled or copied, of any elements
-module _ {A : Type 0} where
-  pub fill-turn : (s : List A) (j : ℕ) (x : A) → j < length s → take j s ≡ replicate j x → take (j + 1) (set s j x) ≡ replicate (j + 1) x
-  fill-turn s j x h e =
-      let t : take (j + 1) (set s j x) ≡ take j s ++ (x ∷ []) = rw add-one (take-suc-set s j x h) in
-      t ∙ ap (λ (l : List A). l ++ (x ∷ [])) e ∙ replicate-append-replicate j 1 x
-
-  pub copy-turn : (s t : List A) (j : ℕ) (z : A) → j < length s → j < length t → take j s ≡ take j t → take (j + 1) (set s j (getD t j z)) ≡ take (j + 1) t
-  copy-turn s t j z hs ht e = rw (add-one, take-suc-set, take-suc t j z, e)
-
-  pub take-end : (s t : List A) (j : ℕ) → length s ≤ j → take j s ≡ t → s ≡ t
-  take-end s t j h e = sym (take-all j s h) ∙ e
-
 -- a list divided by n
 module _ (n : Float) (l from : List Float) (j : ℕ) where
   pub divide-turn : j < length l → j < length from

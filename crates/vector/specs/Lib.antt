@@ -1,4 +1,3 @@
-pub mod Rows
 pub mod Vectors
 pub mod Pick
 pub mod Fours

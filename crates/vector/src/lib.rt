@@ -1,11 +1,9 @@
 // The helpers that vmf.rs shares among its methods, on lent slices of f64: dot, norm, unit, argmax, argmin, the weighted
-// pick, sums, and rows that are filled, copied, scaled and added. Vectors of vectors are flat arrays with a row length; a row
-// is lent as a part.
+// pick, sums, and rows that are divided, scaled and added.
 ghost use mathlib.Core.Path.{_≡_};
 ghost use Prim.Native.Nat.{min, max};
-ghost use lib.ListN.{length, replicate};
 ghost use Rattle.float.specs.Arithmetic.{minusZero, plusZero, sumFrom};
-ghost use Rattle.vector.specs.Rows.{Alike, Apart, part, putPart};
+ghost use Rattle.rows.specs.Rows.{Alike};
 ghost use Rattle.vector.specs.Fours.{FourRows, dotsOf};
 ghost use Rattle.vector.specs.Vectors.{dotOf, normOf, dividedBy, unitVector, addScaled, argmaxOf, argminOf};
 ghost use Rattle.vector.specs.Pick.{pickOf, pickFrom};
@@ -75,7 +73,7 @@ pub fn fold(v: &[f64]) -> f64
 }
 
 // start, with each element added in order.
-pub fn accumulate(start: f64, v: &[f64]) -> f64
+fn accumulate(start: f64, v: &[f64]) -> f64
     ensures { λ r. ⌜ r ≡ sumFrom start (now (v .entry)) ⌝ }
 {
     let mut s = start;
@@ -85,52 +83,6 @@ pub fn accumulate(start: f64, v: &[f64]) -> f64
         j += 1;
     }
     s
-}
-
-// Every element becomes x.
-pub fn fill(v: &mut [f64], x: f64)
-    ensures { λ _. ⌜ now (v .exit) ≡ replicate (length (now (v .entry))) x ⌝ }
-{
-    let mut j = 0;
-    while j < v.len() {
-        v[j] = x;
-        j += 1;
-    }
-}
-
-// The same of whole numbers.
-pub fn fill_u32(v: &mut [u32], x: u32)
-    ensures { λ _. ⌜ now (v .exit) ≡ replicate (length (now (v .entry))) x ⌝ }
-{
-    let mut j = 0;
-    while j < v.len() {
-        v[j] = x;
-        j += 1;
-    }
-}
-
-// to becomes from.
-pub fn copy(to: &mut [f64], from: &[f64])
-    requires { ⌜ Alike (now to) (now from) ⌝ }
-    ensures { λ _. ⌜ now (to .exit) ≡ now (from .entry) ⌝ }
-{
-    let mut j = 0;
-    while j < from.len() {
-        to[j] = from[j];
-        j += 1;
-    }
-}
-
-// The same of whole numbers.
-pub fn copy_u32(to: &mut [u32], from: &[u32])
-    requires { ⌜ Alike (now to) (now from) ⌝ }
-    ensures { λ _. ⌜ now (to .exit) ≡ now (from .entry) ⌝ }
-{
-    let mut j = 0;
-    while j < from.len() {
-        to[j] = from[j];
-        j += 1;
-    }
 }
 
 // to becomes from divided by n.
@@ -156,18 +108,6 @@ pub fn divide_by(row: &mut [f64], n: f64)
     }
 }
 
-// A part of an array copied over an earlier one of the same array.
-pub fn copy_within(w: &mut [f64], from: usize, to: usize, n: usize)
-    requires { ⌜ Apart (length (now w)) from to n ⌝ }
-    ensures { λ _. ⌜ now (w .exit) ≡ putPart (now (w .entry)) to n (part (now (w .entry)) from n) ⌝ }
-{
-    let mut j = 0;
-    while j < n {
-        w[to + j] = w[from + j];
-        j += 1;
-    }
-}
-
 // to becomes from divided by its norm; a vector whose norm is 0 or NaN is copied unchanged.
 pub fn unit(to: &mut [f64], from: &[f64])
     requires { ⌜ Alike (now to) (now from) ⌝ }
@@ -177,7 +117,7 @@ pub fn unit(to: &mut [f64], from: &[f64])
     if 0.0 < n {
         divide(to, from, n);
     } else {
-        copy(to, from);
+        rows::copy(to, from);
     }
 }
 

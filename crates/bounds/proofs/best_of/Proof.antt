@@ -5,7 +5,7 @@ use Prim.Native.Nat.{_+_, _≤_, _<_, _-_}
 use native.Mathlib.Nat.{mul-le-mul-right}
 use native.Mathlib.Omega.{arith}
 use lib.Ieee.{neg, div, ofBits}
-use Rattle.vector.proofs.Rows.{row-within}
+use Rattle.rows.proofs.Rows.{row-within}
 use Rattle.bounds.specs.Nearest.{bestTo}
 use Rattle.bounds.proofs.Nearest.{best-turn, best-four}
 use borrow.Author.Needs.{needs}

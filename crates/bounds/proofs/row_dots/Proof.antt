@@ -5,7 +5,7 @@ use Prim.Native.Nat.{ℕ, _+_, _*_, _-_}
 use native.Mathlib.Nat.{add-mul}
 use native.Mathlib.Omega.{arith}
 use lib.Ieee.{Float}
-use Rattle.vector.specs.Rows.{part}
+use Rattle.rows.specs.Rows.{part}
 use Rattle.vector.specs.Fours.{dotsOf}
 use Rattle.bounds.specs.Nearest.{rowDots}
 use borrow.Author.Needs.{needs}

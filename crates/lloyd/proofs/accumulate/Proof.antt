@@ -5,7 +5,7 @@ use Prim.Native.Nat.{_+_, _*_, _-_, _≤_}
 use native.Mathlib.Omega.{arith}
 use lib.ListN.{length}
 use lib.Ieee.{ofBits}
-use Rattle.vector.specs.Rows.{putPart}
+use Rattle.rows.specs.Rows.{putPart}
 use Rattle.lloyd.specs.Areas.{stateIn, Sized}
 use Rattle.lloyd.proofs.Sizes.{sized-of}
 use Rattle.lloyd.proofs.Sums.{Gathered, cleared, gathered-own, gains-of, gather-turn, gather-end}

@@ -4,7 +4,7 @@ use Prim.Native.Nat.{ℕ, _+_, _*_, _-_, _≤_}
 use native.Mathlib.Omega.{arith}
 use lib.Ieee.{ofBits}
 use Rattle.float.specs.Arithmetic.{plusZero, sumFrom}
-use Rattle.vector.proofs.Rows.{row-within}
+use Rattle.rows.proofs.Rows.{row-within}
 use Rattle.lloyd.specs.Lloyd.{normsUpTo}
 use Rattle.lloyd.specs.Areas.{sumsIn}
 use Rattle.lloyd.proofs.Sums.{norms-turn}

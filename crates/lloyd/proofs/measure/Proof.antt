@@ -4,7 +4,7 @@ use mathlib.Core.List.{List}
 use Prim.Native.Nat.{ℕ, _+_, _*_, _≤_, _-_}
 use native.Mathlib.Omega.{arith}
 use lib.ListN.{length}
-use Rattle.vector.proofs.Rows.{row-within}
+use Rattle.rows.proofs.Rows.{row-within}
 use Rattle.lloyd.specs.Areas.{stateIn}
 use Rattle.lloyd.proofs.Seeds.{normed, norms-start, norms-turn, norms-end}
 use borrow.Author.Needs.{needs}

@@ -4,7 +4,7 @@ use mathlib.Core.Path.{_≡_, ap, _∙_}
 use borrow.Author.Needs.{needs}
 use lib.ListN.{length}
 use lib.Ieee.{ofBits}
-use Rattle.vector.specs.Rows.{rowOf}
+use Rattle.rows.specs.Rows.{rowOf}
 use Rattle.lloyd.specs.Areas.{stateIn}
 use Rattle.lloyd.proofs.Updates.{length-lent, later-of, moved-row, center-divided, center-kept}
 use Rattle.lloyd.proofs.recenter.Statement.{statement}

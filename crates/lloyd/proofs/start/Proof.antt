@@ -3,7 +3,7 @@ use mathlib.Core.Path.{refl, sym, _∙_}
 use native.Mathlib.Omega.{arith}
 use lib.Seq.{length-take-le}
 use lib.Ieee.{div, neg, ofBits, ofInt}
-use Rattle.vector.specs.Rows.{putPart}
+use Rattle.rows.specs.Rows.{putPart}
 use Rattle.lloyd.proofs.Seeds.{start-done}
 use borrow.Author.Needs.{needs}
 use Rattle.lloyd.proofs.start.Statement.{statement}

@@ -5,7 +5,7 @@ use native.Mathlib.Omega.{arith}
 use lib.ListN.{length, replicate}
 use lib.Ieee.{Float, ofBits}
 use Rattle.float.specs.Arithmetic.{plusZero}
-use Rattle.vector.specs.Rows.{putPart}
+use Rattle.rows.specs.Rows.{putPart}
 use Rattle.mixture.specs.Areas.{total, partsIn, withWeights, withResp}
 use Rattle.mixture.proofs.Regions.{weightsR, respR}
 use Rattle.mixture.proofs.Groups.{fill-in}

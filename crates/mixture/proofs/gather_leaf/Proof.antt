@@ -5,7 +5,7 @@ use Prim.Native.Nat.{ℕ, _≤_, _-_}
 use native.Mathlib.Omega.{arith}
 use lib.ListN.{length, getD}
 use lib.Ieee.{nan}
-use Rattle.vector.specs.Rows.{rowOf}
+use Rattle.rows.specs.Rows.{rowOf}
 use Rattle.mixture.specs.Areas.{partsIn}
 use Rattle.mixture.proofs.Sizes.{area-of, group-of}
 use Rattle.mixture.proofs.Gathered.{leafDone, leaf-start, leaf-turn}

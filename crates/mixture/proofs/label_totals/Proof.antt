@@ -5,7 +5,7 @@ use native.Mathlib.Omega.{arith}
 use lib.ListN.{length, getD, replicate}
 use lib.Ieee.{ofBits}
 use Rattle.float.specs.Arithmetic.{plusZero}
-use Rattle.vector.specs.Rows.{putPart}
+use Rattle.rows.specs.Rows.{putPart}
 use Rattle.mixture.specs.Areas.{partsIn, withTotals}
 use Rattle.mixture.proofs.Regions.{totalsR}
 use Rattle.mixture.proofs.Groups.{fill-in}

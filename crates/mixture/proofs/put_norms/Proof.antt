@@ -4,7 +4,7 @@ use mathlib.Core.Path.{_≡_, refl}
 use Prim.Native.Nat.{_+_, _*_, _≤_, _-_}
 use native.Mathlib.Omega.{arith}
 use lib.ListN.{length}
-use Rattle.vector.proofs.Rows.{row-within}
+use Rattle.rows.proofs.Rows.{row-within}
 use Rattle.mixture.specs.Areas.{partsIn}
 use Rattle.mixture.proofs.Directions.{normsDone, norms-start, norms-turn, norms-end}
 use borrow.Author.Needs.{needs}

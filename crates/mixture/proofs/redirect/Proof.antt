@@ -6,7 +6,7 @@ use Prim.Native.Nat.{ℕ, _+_, _*_, _≤_, _-_}
 use native.Mathlib.Omega.{arith}
 use lib.ListN.{length}
 use lib.Ieee.{ofBits}
-use Rattle.vector.proofs.Rows.{row-within}
+use Rattle.rows.proofs.Rows.{row-within}
 use Rattle.mixture.specs.Areas.{partsIn, total}
 use Rattle.mixture.proofs.Directions.{directionsDone, directions-start, directed, direction-kept}
 use borrow.Author.Needs.{needs}

@@ -3,9 +3,9 @@ use mathlib.Core.Path.{_≡_, refl, ap, _∙_}
 use Prim.Native.Nat.{ℕ, _+_, _*_, _-_, _≤_}
 use native.Mathlib.Omega.{arith}
 use lib.ListN.{length, take}
-use Rattle.vector.specs.Rows.{rowOf}
+use Rattle.rows.specs.Rows.{rowOf}
 use Rattle.vector.specs.Vectors.{argmaxOf}
-use Rattle.vector.proofs.Rows.{row-within}
+use Rattle.rows.proofs.Rows.{row-within}
 use Rattle.lloyd.proofs.Seeds.{row-cut}
 use Rattle.groups.specs.Kappas.{tabulate}
 use Rattle.movmf.proofs.Outputs.{listed-turn, listed-end, label-below}

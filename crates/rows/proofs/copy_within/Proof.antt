@@ -7,9 +7,9 @@ use borrow.Author.Needs.{needs}
 use lib.ListN.{length, drop, length-set}
 use lib.Seq.{paste, paste-zero}
 use lib.Ieee.{nan}
-use Rattle.vector.proofs.Rows.{copy-turn, copy-end}
-use Rattle.vector.proofs.copy_within.Statement.{statement}
-use Rattle.vector.proofs.copy_within.Tie as tie
+use Rattle.rows.proofs.Rows.{copy-turn, copy-end}
+use Rattle.rows.proofs.copy_within.Statement.{statement}
+use Rattle.rows.proofs.copy_within.Tie as tie
 
 abbrev Inv-loop : tie.InvT-loop
 Inv-loop w₀ from to n j₀ w j = (j ≤ n) × (length w ≡ length w₀) × (w ≡ paste w₀ to (drop from w₀) j)

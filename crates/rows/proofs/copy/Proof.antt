@@ -1,4 +1,4 @@
--- `vector::copy_u32` meets its contract. The loop's invariant: the elements passed are those of `from`. The measure is what is left of the length.
+-- `vector::copy` meets its contract. The loop's invariant: the elements passed are those of `from`. The measure is what is left of the length.
 -- Assumes nothing.
 use mathlib.Core.Path.{_≡_, refl, sym, _∙_}
 use Prim.Native.Nat.{_≤_, _-_}
@@ -6,9 +6,10 @@ use native.Mathlib.Omega.{arith}
 use borrow.Author.Needs.{needs}
 use lib.ListN.{length, take, length-set}
 use lib.Seq.{take-all}
-use Rattle.vector.proofs.Vectors.{copy-turn, take-end}
-use Rattle.vector.proofs.copy_u32.Statement.{statement}
-use Rattle.vector.proofs.copy_u32.Tie as tie
+use lib.Ieee.{nan}
+use Rattle.rows.proofs.Fills.{copy-turn, take-end}
+use Rattle.rows.proofs.copy.Statement.{statement}
+use Rattle.rows.proofs.copy.Tie as tie
 
 abbrev Inv-loop : tie.InvT-loop
 Inv-loop to₀ from j₀ to j = (length to ≡ length from) × (j ≤ length from) × (take j to ≡ take j from)
@@ -41,7 +42,7 @@ loop-again : tie.Need-loop-again Inv-loop μ-loop
 loop-again c =
     let t = c .before .before in
     let l = t .loop in
-    (simp length-set (l .inv .0), omega arith, copy-turn (l .to) (t .before .args .from .now) (l .j) 0 (omega arith) (omega arith) (l .inv .2))
+    (simp length-set (l .inv .0), omega arith, copy-turn (l .to) (t .before .args .from .now) (l .j) nan (omega arith) (omega arith) (l .inv .2))
 
 same-length : tie.Need-same-length Inv-loop μ-loop
 same-length c = c .before .loop .inv .0 ∙ sym (c .before .before .pre .same)
@@ -52,8 +53,8 @@ returns c =
     let x = c .before .before .args .from .now in
     take-end (l .to) x (l .j) (omega arith) (l .inv .2 ∙ take-all (l .j) x (omega arith))
 
-pub copy-u32-spec : {M : Type 1} → statement M
-copy-u32-spec =
+pub copy-spec : {M : Type 1} → statement M
+copy-spec =
     tie.close
     (tie.spec
     Inv-loop

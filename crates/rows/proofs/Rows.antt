@@ -8,7 +8,7 @@ use native.Mathlib.Numerals.{add-one}
 use native.Mathlib.Omega.{arith}
 use lib.ListN.{length, getD, take, drop, set, drop-of-length-le, length-append, length-drop}
 use lib.Seq.{take-set-le, drop-set-lt, take-set-lt, drop-set-add, drop-drop, take-take, length-take-le, take-at, drop-at, getD-take, getD-drop, drop-cons, set-at, paste, paste-suc, drop-paste}
-use Rattle.vector.specs.Rows.{part, putPart, cut, startOf}
+use Rattle.rows.specs.Rows.{part, putPart, cut, startOf}
 
 -- row c of k rows of d elements lies within k * d
 pub row-within : (c k d : ℕ) → c < k → c * d + d ≤ k * d

@@ -1,4 +1,4 @@
--- `vector::copy` meets its contract. The loop's invariant: the elements passed are those of `from`. The measure is what is left of the length.
+-- `vector::copy_u32` meets its contract. The loop's invariant: the elements passed are those of `from`. The measure is what is left of the length.
 -- Assumes nothing.
 use mathlib.Core.Path.{_≡_, refl, sym, _∙_}
 use Prim.Native.Nat.{_≤_, _-_}
@@ -6,16 +6,15 @@ use native.Mathlib.Omega.{arith}
 use borrow.Author.Needs.{needs}
 use lib.ListN.{length, take, length-set}
 use lib.Seq.{take-all}
-use lib.Ieee.{nan}
-use Rattle.vector.proofs.Vectors.{copy-turn, take-end}
-use Rattle.vector.proofs.copy.Statement.{statement}
-use Rattle.vector.proofs.copy.Tie as tie
+use Rattle.rows.proofs.Fills.{copy-turn, take-end}
+use Rattle.rows.proofs.copy_u32.Statement.{statement}
+use Rattle.rows.proofs.copy_u32.Tie as tie
 
 abbrev Inv-loop : tie.InvT-loop
-Inv-loop to₀ from j₀ to j = (length to ≡ length from) × (j ≤ length from) × (take j to ≡ take j from)
+Inv-loop to₀ from i₀ to i = (length to ≡ length from) × (i ≤ length from) × (take i to ≡ take i from)
 
 abbrev μ-loop : tie.MeasureT-loop
-μ-loop to₀ from j₀ to j = length from - j
+μ-loop to₀ from i₀ to i = length from - i
 
 loop-holds : tie.Need-loop-holds Inv-loop μ-loop
 loop-holds c = (c .pre .same, omega arith, refl)
@@ -32,8 +31,8 @@ mul-to-2 c = search needs
 slice-write-to : tie.Need-slice-write-to Inv-loop μ-loop
 slice-write-to c = search needs
 
-add-j : tie.Need-add-j Inv-loop μ-loop
-add-j c = search needs
+add-i : tie.Need-add-i Inv-loop μ-loop
+add-i c = search needs
 
 loop-less : tie.Need-loop-less Inv-loop μ-loop
 loop-less c = search needs
@@ -42,7 +41,7 @@ loop-again : tie.Need-loop-again Inv-loop μ-loop
 loop-again c =
     let t = c .before .before in
     let l = t .loop in
-    (simp length-set (l .inv .0), omega arith, copy-turn (l .to) (t .before .args .from .now) (l .j) nan (omega arith) (omega arith) (l .inv .2))
+    (simp length-set (l .inv .0), omega arith, copy-turn (l .to) (t .before .args .from .now) (l .i) 0 (omega arith) (omega arith) (l .inv .2))
 
 same-length : tie.Need-same-length Inv-loop μ-loop
 same-length c = c .before .loop .inv .0 ∙ sym (c .before .before .pre .same)
@@ -51,10 +50,10 @@ returns : tie.Need-returns Inv-loop μ-loop
 returns c =
     let l = c .before .loop in
     let x = c .before .before .args .from .now in
-    take-end (l .to) x (l .j) (omega arith) (l .inv .2 ∙ take-all (l .j) x (omega arith))
+    take-end (l .to) x (l .i) (omega arith) (l .inv .2 ∙ take-all (l .i) x (omega arith))
 
-pub copy-spec : {M : Type 1} → statement M
-copy-spec =
+pub copy-u32-spec : {M : Type 1} → statement M
+copy-u32-spec =
     tie.close
     (tie.spec
     Inv-loop
@@ -64,7 +63,7 @@ copy-spec =
     shared-slice-read-to
     mul-to-2
     slice-write-to
-    add-j
+    add-i
     loop-less
     loop-again
     same-length

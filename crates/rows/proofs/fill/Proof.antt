@@ -1,12 +1,12 @@
--- `vector::fill_u32` meets its contract. The loop's invariant: the elements passed are all x. The measure is what is left of the length. Assumes nothing.
+-- `vector::fill` meets its contract. The loop's invariant: the elements passed are all x. The measure is what is left of the length. Assumes nothing.
 use mathlib.Core.Path.{_≡_}
 use Prim.Native.Nat.{_≤_, _-_}
 use native.Mathlib.Omega.{arith}
 use borrow.Author.Needs.{needs}
 use lib.ListN.{length, take, replicate, length-set}
-use Rattle.vector.proofs.Vectors.{fill-turn, take-end}
-use Rattle.vector.proofs.fill_u32.Statement.{statement}
-use Rattle.vector.proofs.fill_u32.Tie as tie
+use Rattle.rows.proofs.Fills.{fill-turn, take-end}
+use Rattle.rows.proofs.fill.Statement.{statement}
+use Rattle.rows.proofs.fill.Tie as tie
 
 abbrev Inv-loop : tie.InvT-loop
 Inv-loop v₀ x j₀ v j = (length v ≡ length v₀) × (j ≤ length v₀) × (take j v ≡ replicate j x)
@@ -43,8 +43,8 @@ returns c =
     let e : l .j ≡ length (c .before .before .args .v .now) = omega arith in
     rw (← e) (take-end (l .v) _ (l .j) (omega arith) (l .inv .2))
 
-pub fill-u32-spec : {M : Type 1} → statement M
-fill-u32-spec =
+pub fill-spec : {M : Type 1} → statement M
+fill-spec =
     tie.close
     (tie.spec
     Inv-loop
