@@ -92,7 +92,7 @@ module _ (l e : List Float) (j : ℕ) (h : j ≤ length l) (is : e ≡ expsTo l 
       rw (is, take-append-le n (map expOf (take j l)) (drop j l) within, take-map, take-take n j l k)
 
 -- ---- by the exponentials of a row less g: its sum of exponentials, its shares, its log-sum
-pub sum-over : (g s : Float) (row : List Float) → sumFrom s (map expOf (lessBy g row)) ≡ expSumFrom g s row
+sum-over : (g s : Float) (row : List Float) → sumFrom s (map expOf (lessBy g row)) ≡ expSumFrom g s row
 sum-over g s [] = refl
 sum-over g s (x ∷ row) = sum-over g (add binary64 s (expOf (sub binary64 x g))) row
 
