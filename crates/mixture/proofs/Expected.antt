@@ -1,42 +1,26 @@
--- Laws of the E-step: what the calls on the area ensure is what specs/Mixture.antt defines. The likenesses and the responsibilities of a leaf are a row of the last
--- region; those of the first i leaves stand before what the region held. By the laws of the regions and of flat lists. Assumes nothing.
+-- Laws of the E-step: what the calls on the area ensure is what specs/Mixture.antt defines. The likenesses of a leaf are a row of the last region; those of the
+-- first i leaves stand before what the region held; softened row by row, they are the responsibilities. By the laws of the regions and of joined rows. Assumes
+-- nothing.
 use mathlib.Core.Path.{_≡_, refl, ap, sym, _∙_}
-use mathlib.Core.List.{List, [], _∷_, _++_, append-assoc}
+use mathlib.Core.List.{List, _++_}
 use Prim.Native.Nat.{ℕ, zero, suc, _+_, _*_, _-_, _≤_, _<_}
-use native.Mathlib.Nat.{suc-mul, zero-mul, add-mul}
-use native.Mathlib.Numerals.{add-one}
+use native.Mathlib.Nat.{add-mul}
 use native.Mathlib.Omega.{arith}
-use lib.ListN.{length, getD, take, drop, set, length-append, take-append-drop}
-use lib.Seq.{drop-drop, take-at, drop-at, length-take-le}
+use lib.ListN.{length, getD, drop, set, take-append-drop}
 use lib.Ieee.{Float, nan, binary64, add, mul}
 use Rattle.float.specs.Arithmetic.{plusZero}
 use Rattle.float.specs.declared.Four.{Four}
 use Rattle.rows.specs.Rows.{part, putPart, rowOf}
 use Rattle.vector.specs.Vectors.{dotOf}
 use Rattle.vector.specs.Fours.{dotsOf}
-use Rattle.rows.proofs.Rows.{row-within, part-put, put-more}
-use Rattle.lloyd.proofs.Seeds.{front-end}
-use Rattle.softmax.specs.Softmax.{logSumExp, sharesOf}
+use Rattle.rows.proofs.Rows.{row-within, put-more}
+use Rattle.softmax.specs.Softmax.{logSumExp, logSumAt, sharesAt, joined, weighed, sharesUpTo, logsUpTo}
+use Rattle.softmax.proofs.Softmax.{shares-length}
+use Rattle.softmax.proofs.Joined.{joined-length, joined-row, joined-none, joined-turn, joined-all, joined-same, weighed-same}
 use Rattle.groups.specs.Kappas.{tabulate}
 use Rattle.mixture.specs.Mixture.{Model, likenessAt, likenesses, softmax, expectUpTo}
 use Rattle.mixture.specs.Areas.{Parts, partsIn, total, modelOf, withResp, basedFour, fourLikenesses}
-use Rattle.mixture.proofs.Regions.{directionsR, kappasR, basesR, respR, part-cut, set-in, get-in, part-in, put-in, length-in, tabulate-length, tabulate-turn}
-
--- ---- flat lists
-module _ {A : Type 0} where
-  -- a part of no elements replaced, and a part replaced twice
-  put-none : (l : List A) (at : ℕ) → putPart l at 0 [] ≡ l
-  put-none l at = take-append-drop at l
-
-  put-again : (l : List A) (at n : ℕ) (v v' : List A) → length v ≡ n → at ≤ length l → putPart (putPart l at n v) at n v' ≡ putPart l at n v'
-  put-again l at n v v' e h =
-      let f : length (take at l) ≡ at = length-take-le at l h in
-      rw (take-at (take at l) (v ++ drop n (drop at l)) at f, drop-at (take at l) (v ++ drop n (drop at l)) at f, drop-at v (drop n (drop at l)) n e)
-
-  -- a row more of a list that is replaced row by row
-  put-row : (t l row : List A) (i k : ℕ) → length t ≡ i * k → putPart (t ++ drop (i * k) l) (i * k) k row ≡ (t ++ row) ++ drop (suc i * k) l
-  put-row t l row i k e =
-      rw (take-at t (drop (i * k) l) (i * k) e, drop-at t (drop (i * k) l) (i * k) e, suc-mul, append-assoc) (ap (λ (r : List A). t ++ (row ++ r)) (drop-drop k (i * k) l))
+use Rattle.mixture.proofs.Regions.{directionsR, kappasR, basesR, respR, part-cut, set-in, get-in, part-in, whole-in, put-whole-in, length-in, tabulate-length, tabulate-turn}
 
 -- ---- the likenesses of a leaf
 
@@ -82,7 +66,7 @@ module _ (m k d : ℕ) (w₀ coords : List Float) (i : ℕ) where
 
   pub liked-start : partsIn m k d w₀ ≡ liked 0
   unfolding tabulate
-  liked-start = ap (λ (l : List Float). withResp l (partsIn m k d w₀)) (sym (put-none (partsIn m k d w₀ .resp) (i * k)))
+  liked-start = ap (λ (l : List Float). withResp l (partsIn m k d w₀)) (sym (take-append-drop (i * k) (partsIn m k d w₀ .resp)))
 
   module _ (r : i * k + k ≤ m * k) (g : total m k d ≤ length w₀) where
     -- one stored
@@ -124,98 +108,88 @@ abbrev pub LikedFrom : (m k d : ℕ) (u coords : List Float) (i c₀ : ℕ) (w :
 LikedFrom m k d u coords i c₀ w n =
     (w₀ : List Float) → length u ≡ length w₀ → partsIn m k d u ≡ liked m k d w₀ coords i c₀ → partsIn m k d w ≡ liked m k d w₀ coords i n
 
--- ---- the responsibilities of a leaf
-shares-length : (lse : Float) (row : List Float) → length (sharesOf lse row) ≡ length row
-shares-length lse [] = refl
-shares-length lse (x ∷ row) = ap suc (shares-length lse row)
-
--- its row of likenesses, read from the area w and shared in place
-module _ (m k d : ℕ) (w₀ coords : List Float) (i : ℕ) (w : List Float) (r : i * k + k ≤ m * k) (long₀ : total m k d ≤ length w₀) (same : length w ≡ length w₀)
-    (f : partsIn m k d w ≡ liked m k d w₀ coords i k) where
-  abbrev at : ℕ
-  at = k * d + k * d + k + k + k + k + k + i * k
-
-  abbrev row : List Float
-  row = likenesses k d (partsIn m k d w₀ .bases) (modelOf (partsIn m k d w₀)) (rowOf coords d i)
-
-  row-length : length row ≡ k
-  row-length = tabulate-length (likenessAt d (partsIn m k d w₀ .bases) (modelOf (partsIn m k d w₀)) (rowOf coords d i)) k
-
-  inside : i * k ≤ length (partsIn m k d w₀ .resp)
-  inside = omega (arith, length-in respR m k d w₀ long₀)
-
-  row-read : part w at (at + k - at) ≡ row
-  row-read =
-      part-cut w at k ∙ part-in respR m k d w at (i * k) k (omega arith) r ∙ ap (λ (p : Parts). part (p .resp) (i * k) k) f
-      ∙ part-put (partsIn m k d w₀ .resp) (i * k) k row row-length inside
-
-  pub sum-done : (lse : Float) → lse ≡ logSumExp (part w at (at + k - at)) → lse ≡ logSumExp row
-  sum-done lse e = e ∙ ap logSumExp row-read
-
-  pub share-done : (lse : Float) (v : List Float) → lse ≡ logSumExp (part w at (at + k - at)) → v ≡ sharesOf lse (part w at (at + k - at))
-      → partsIn m k d (putPart w at (at + k - at) v) ≡ withResp (putPart (partsIn m k d w₀ .resp) (i * k) k (softmax row)) (partsIn m k d w₀)
-  share-done lse v e h =
-      let p₀ = partsIn m k d w₀ in
-      let n : at + k - at ≡ k = omega arith in
-      let h₁ : v ≡ softmax row = h ∙ rw (row-read, sum-done lse e) in
-      let full : length (softmax row) ≡ k = shares-length (logSumExp row) row ∙ row-length in
-      rw (n, h₁)
-      (put-in respR m k d w at (i * k) k (softmax row) full (omega arith) r (omega arith)
-      ∙ ap (λ (p : Parts). withResp (putPart (p .resp) (i * k) k (softmax row)) p) f
-      ∙ ap (λ (l : List Float). withResp l p₀) (put-again (p₀ .resp) (i * k) k row (softmax row) row-length inside))
-
 -- ---- all leaves
-module _ (weights coords : List Float) (k d : ℕ) (bases : List Float) (p : Model) where
-  pub expected-none : plusZero ≡ expectUpTo weights coords k d bases p 0 .loglik
-  unfolding expectUpTo
-  expected-none = refl
+module _ (coords : List Float) (k d : ℕ) (bases : List Float) (p : Model) where
+  -- the likenesses of leaf i
+  abbrev pub likeAt : ℕ → List Float
+  likeAt i = likenesses k d bases p (rowOf coords d i)
 
-  expect-length : (i : ℕ) → length (expectUpTo weights coords k d bases p i .resp) ≡ i * k
-  unfolding expectUpTo
-  expect-length zero = sym (zero-mul k)
-  expect-length (suc i) =
-      let l = likenesses k d bases p (rowOf coords d i) in
-      let n : length (softmax l) ≡ k = shares-length (logSumExp l) l ∙ tabulate-length (likenessAt d bases p (rowOf coords d i)) k in
-      length-append (expectUpTo weights coords k d bases p i .resp) (softmax l) ∙ rw (expect-length i, n, suc-mul)
+  like-length : (i : ℕ) → length (likeAt i) ≡ k
+  like-length i = tabulate-length (likenessAt d bases p (rowOf coords d i)) k
 
-module _ (m k d : ℕ) (w₀ weights coords : List Float) where
-  -- the first i leaves
-  abbrev pub expectedIn : ℕ → Parts
-  expectedIn i =
-      let p₀ = partsIn m k d w₀ in
-      withResp (expectUpTo weights coords k d (p₀ .bases) (modelOf p₀) i .resp ++ drop (i * k) (p₀ .resp)) p₀
+  soft-length : (i : ℕ) → length (softmax (likeAt i)) ≡ k
+  soft-length i = shares-length (logSumExp (likeAt i)) (likeAt i) ∙ like-length i
 
-  pub expected-start : partsIn m k d w₀ ≡ expectedIn 0
-  unfolding expectUpTo
-  expected-start = ap (λ (n : ℕ). withResp (drop n (partsIn m k d w₀ .resp)) (partsIn m k d w₀)) (sym (zero-mul k))
+  -- softened and weighed, they are what is expected
+  expected-resp : (weights : List Float) (n : ℕ) → joined (λ (i : ℕ). softmax (likeAt i)) n ≡ expectUpTo weights coords k d bases p n .resp
+  unfolding joined expectUpTo
+  expected-resp weights zero = refl
+  expected-resp weights (suc n) = ap (λ (r : List Float). r ++ softmax (likeAt n)) (expected-resp weights n)
 
-  pub expected-turn : (w w' : List Float) (i : ℕ) → partsIn m k d w ≡ expectedIn i
+  expected-loglik : (weights : List Float) (n : ℕ) → weighed (λ (i : ℕ). logSumExp (likeAt i)) weights plusZero n ≡ expectUpTo weights coords k d bases p n .loglik
+  unfolding weighed expectUpTo
+  expected-loglik weights zero = refl
+  expected-loglik weights (suc n) = ap (λ (l : Float). add binary64 l (mul binary64 (getD weights n nan) (logSumExp (likeAt n)))) (expected-loglik weights n)
+
+  -- so are the shares and the log-sums of all rows of likenesses
+  module _ (weights : List Float) (m : ℕ) where
+    row-is : (i : ℕ) → i < m → rowOf (joined likeAt m) k i ≡ likeAt i
+    row-is i h = joined-row likeAt k m i (λ j g. like-length j) h
+
+    shares-are : sharesUpTo k (joined likeAt m) m ≡ expectUpTo weights coords k d bases p m .resp
+    shares-are = joined-same (sharesAt k (joined likeAt m)) (λ (i : ℕ). softmax (likeAt i)) m (λ i h. ap softmax (row-is i h)) ∙ expected-resp weights m
+
+    logs-are : logsUpTo k (joined likeAt m) weights plusZero m ≡ expectUpTo weights coords k d bases p m .loglik
+    logs-are =
+        weighed-same (logSumAt k (joined likeAt m)) (λ (i : ℕ). logSumExp (likeAt i)) weights weights plusZero m (λ i h. ap logSumExp (row-is i h)) (λ i h. refl)
+        ∙ expected-loglik weights m
+
+    resp-length : length (expectUpTo weights coords k d bases p m .resp) ≡ m * k
+    resp-length = ap length (sym (expected-resp weights m)) ∙ joined-length (λ (i : ℕ). softmax (likeAt i)) k m (λ i h. soft-length i)
+
+module _ (m k d : ℕ) (w₀ coords : List Float) where
+  abbrev likes : ℕ → List Float
+  likes = likeAt coords k d (partsIn m k d w₀ .bases) (modelOf (partsIn m k d w₀))
+
+  -- the likenesses of the first i leaves stand before what the region held
+  abbrev pub likesIn : ℕ → Parts
+  likesIn i = withResp (joined likes i ++ drop (i * k) (partsIn m k d w₀ .resp)) (partsIn m k d w₀)
+
+  pub likes-start : partsIn m k d w₀ ≡ likesIn 0
+  likes-start = ap (λ (l : List Float). withResp l (partsIn m k d w₀)) (joined-none likes k (partsIn m k d w₀ .resp))
+
+  pub likes-turn : (w w' : List Float) (i : ℕ) → partsIn m k d w ≡ likesIn i
       → partsIn m k d w'
-      ≡ withResp (putPart (partsIn m k d w .resp) (i * k) k (softmax (likenesses k d (partsIn m k d w .bases) (modelOf (partsIn m k d w)) (rowOf coords d i)))) (partsIn m k d w)
-      → partsIn m k d w' ≡ expectedIn (i + 1)
-  unfolding expectUpTo
-  expected-turn w w' i f h =
+      ≡ withResp (putPart (partsIn m k d w .resp) (i * k) k (likenesses k d (partsIn m k d w .bases) (modelOf (partsIn m k d w)) (rowOf coords d i))) (partsIn m k d w)
+      → partsIn m k d w' ≡ likesIn (i + 1)
+  likes-turn w w' i f h =
       let p₀ = partsIn m k d w₀ in
-      let t = expectUpTo weights coords k d (p₀ .bases) (modelOf p₀) i .resp in
-      let row = softmax (likenesses k d (p₀ .bases) (modelOf p₀) (rowOf coords d i)) in
-      rw add-one
-      (h ∙ ap (λ (p : Parts). withResp (putPart (p .resp) (i * k) k (softmax (likenesses k d (p .bases) (modelOf p) (rowOf coords d i)))) p) f
-      ∙ ap (λ (l : List Float). withResp l p₀) (put-row t (p₀ .resp) row i k (expect-length weights coords k d (p₀ .bases) (modelOf p₀) i)))
+      h ∙ ap (λ (p : Parts). withResp (putPart (p .resp) (i * k) k (likenesses k d (p .bases) (modelOf p) (rowOf coords d i))) p) f
+      ∙ ap (λ (l : List Float). withResp l p₀)
+      (joined-turn likes k i k (p₀ .resp) _ (likes i) (λ j g. like-length coords k d (p₀ .bases) (modelOf p₀) j) refl refl refl)
 
-  pub loglik-turn : (w : List Float) (i : ℕ) (x lse : Float) → partsIn m k d w ≡ expectedIn i
-      → x ≡ expectUpTo weights coords k d (partsIn m k d w₀ .bases) (modelOf (partsIn m k d w₀)) i .loglik
-      → lse ≡ logSumExp (likenesses k d (partsIn m k d w .bases) (modelOf (partsIn m k d w)) (rowOf coords d i))
-      → add binary64 x (mul binary64 (getD weights i nan) lse) ≡ expectUpTo weights coords k d (partsIn m k d w₀ .bases) (modelOf (partsIn m k d w₀)) (i + 1) .loglik
-  unfolding expectUpTo
-  loglik-turn w i x lse f e h =
-      let p₀ = partsIn m k d w₀ in
-      let h₁ : lse ≡ logSumExp (likenesses k d (p₀ .bases) (modelOf p₀) (rowOf coords d i)) =
-      h ∙ ap (λ (p : Parts). logSumExp (likenesses k d (p .bases) (modelOf p) (rowOf coords d i))) f in
-      rw (add-one, e, h₁)
+  -- all of them, softened in their places
+  module _ (weights w : List Float) (i at n : ℕ) (long : length weights ≡ m) (room : total m k d ≤ length w₀) (same : length w ≡ length w₀) (all : i ≡ m)
+      (f : partsIn m k d w ≡ likesIn i) (start : at ≡ k * d + k * d + k + k + k + k + k) (size : n ≡ m * k) where
+    liked-all : partsIn m k d w ≡ withResp (joined likes m) (partsIn m k d w₀)
+    liked-all =
+        let p₀ = partsIn m k d w₀ in
+        f ∙ ap likesIn all ∙ ap (λ (l : List Float). withResp l p₀) (joined-all likes k m (p₀ .resp) (length-in respR m k d w₀ room))
 
-  pub expected-end : (w : List Float) (i : ℕ) → i ≡ m → total m k d ≤ length w₀ → partsIn m k d w ≡ expectedIn i
-      → partsIn m k d w ≡ withResp (expectUpTo weights coords k d (partsIn m k d w₀ .bases) (modelOf (partsIn m k d w₀)) m .resp) (partsIn m k d w₀)
-  expected-end w i e g f =
-      let p₀ = partsIn m k d w₀ in
-      f ∙ ap expectedIn e
-      ∙ ap (λ (l : List Float). withResp l p₀) (front-end (expectUpTo weights coords k d (p₀ .bases) (modelOf p₀) m .resp) (p₀ .resp) (m * k) (length-in respR m k d w₀ g))
+    rows-are : part w at n ≡ joined likes m
+    rows-are = whole-in respR m k d w at n (omega arith) (omega arith) ∙ ap (λ (p : Parts). p .resp) liked-all
+
+    pub loglik-done : (l : Float) → l ≡ logsUpTo k (part w at n) weights plusZero (length weights)
+        → l ≡ expectUpTo weights coords k d (partsIn m k d w₀ .bases) (modelOf (partsIn m k d w₀)) m .loglik
+    loglik-done l e =
+        let read : logsUpTo k (part w at n) weights plusZero (length weights) ≡ logsUpTo k (joined likes m) weights plusZero m = rw (rows-are, long) in
+        e ∙ read ∙ logs-are coords k d (partsIn m k d w₀ .bases) (modelOf (partsIn m k d w₀)) weights m
+
+    pub resp-done : (v : List Float) → v ≡ sharesUpTo k (part w at n) (length weights)
+        → partsIn m k d (putPart w at n v) ≡ withResp (expectUpTo weights coords k d (partsIn m k d w₀ .bases) (modelOf (partsIn m k d w₀)) m .resp) (partsIn m k d w₀)
+    resp-done v e =
+        let p₀ = partsIn m k d w₀ in
+        let read : sharesUpTo k (part w at n) (length weights) ≡ sharesUpTo k (joined likes m) m = rw (rows-are, long) in
+        let is : v ≡ expectUpTo weights coords k d (p₀ .bases) (modelOf p₀) m .resp = e ∙ read ∙ shares-are coords k d (p₀ .bases) (modelOf p₀) weights m in
+        let full : length v ≡ n = ap length is ∙ resp-length coords k d (p₀ .bases) (modelOf p₀) weights m ∙ sym size in
+        put-whole-in respR m k d w at n v (omega arith) (omega arith) full (omega arith) ∙ ap (withResp v) liked-all ∙ ap (λ (l : List Float). withResp l p₀) is

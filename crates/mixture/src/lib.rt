@@ -5,16 +5,16 @@ ghost use mathlib.Core.Path.{_≡_};
 ghost use mathlib.Core.Bool.{true};
 ghost use Prim.Native.Nat.{_+_, _*_, _<_, _≤_};
 ghost use lib.ListN.{length, getD, replicate, take};
-ghost use lib.Ieee.{nan, inf, binary64, mul};
-ghost use Rattle.float.specs.Arithmetic.{plusZero, sumFrom};
+ghost use lib.Ieee.{nan, inf, binary64, add, mul};
+ghost use Rattle.float.specs.Arithmetic.{plusZero, sumFrom, maxOf};
+ghost use Rattle.logarithm.specs.Logarithm.{lnOf};
 ghost use Rattle.rows.specs.Rows.{Apart, part, putPart, rowOf};
 ghost use Rattle.vector.specs.Vectors.{dividedBy};
 ghost use Rattle.bessel.specs.Concentration.{Dimension, estimateOf};
 ghost use Rattle.lloyd.specs.Lloyd.{normsUpTo};
-ghost use Rattle.softmax.specs.Softmax.{logSumExp};
-ghost use Rattle.groups.specs.Kappas.{tabulate, meanLength, sharedKappa, kappaAt, kappasOf};
-ghost use Rattle.groups.specs.Groups.{logNormOf};
-ghost use Rattle.mixture.specs.Mixture.{basesOf, likenessAt, likenesses, softmax, expectUpTo, gatherGroup, gatherLeaf, gatherUpTo, evenWeight, weightBy, weightAt, directionsUpTo, maximize, emRound, stopsAt, emFrom};
+ghost use Rattle.groups.specs.Kappas.{tabulate, meanLength, sharedKappa, kappaAt, kappasOf, parametersOf};
+ghost use Rattle.groups.specs.Groups.{weightFloor, logNormOf};
+ghost use Rattle.mixture.specs.Mixture.{basesOf, likenessAt, likenesses, expectUpTo, gatherGroup, gatherLeaf, gatherUpTo, evenWeight, weightBy, weightAt, directionsUpTo, maximize, emRound, stopsAt, emFrom};
 ghost use Rattle.mixture.specs.Fits.{labelTotalsUpTo, startKappasBy, onceOf};
 ghost use Rattle.mixture.specs.Areas.{partsIn, modelOf, gatheredOf, emOf, withDirections, withWeights, withKappas, withBases, withTotals, withNorms, withResp, withGathered, basedFour, fourLikenesses, Area, Leaves, LeafOf, GroupOf, Labels, Runnable, RunDone};
 
@@ -196,25 +196,7 @@ fn put_likenesses(work: &mut [f64], coords: &[f64], i: usize, m: usize, k: usize
     }
 }
 
-// The responsibilities of leaf i; its log-likelihood for a weight of 1.
-fn expect_leaf(work: &mut [f64], coords: &[f64], i: usize, m: usize, k: usize, d: usize) -> f64
-    requires { ⌜ Area (length (now work)) m k d ⌝ }
-    requires { ⌜ (length (now coords) ≡ m * d) × (m * d ≤ 1048576) × (LeafOf i m k d) ⌝ }
-    ensures { λ r. ⌜ (r ≡ logSumExp (likenesses k d (partsIn m k d (now (work .entry)) .bases) (modelOf (partsIn m k d (now (work .entry)))) (rowOf (now (coords .entry)) d i)))
-        × (partsIn m k d (now (work .exit))
-        ≡ withResp (putPart (partsIn m k d (now (work .entry)) .resp) (i * k) k (softmax (likenesses k d (partsIn m k d (now (work .entry)) .bases) (modelOf (partsIn m k d (now (work .entry)))) (rowOf (now (coords .entry)) d i))))
-        (partsIn m k d (now (work .entry)))) ⌝ }
-{
-    put_likenesses(work, coords, i, m, k, d);
-    let kd = k * d;
-    let resp = kd + kd + k + k + k + k + k + i * k;
-    let s = &work[..];
-    let lse = softmax::log_sum_exp(&s[resp..resp + k]);
-    softmax::share(&mut work[resp..resp + k], lse);
-    lse
-}
-
-// The E-step: all responsibilities, and the log-likelihood.
+// The E-step: all responsibilities, from the likenesses that are written in their places first, and the log-likelihood.
 fn expect(work: &mut [f64], weights: &[f64], coords: &[f64], m: usize, k: usize, d: usize) -> f64
     requires { ⌜ Area (length (now work)) m k d ⌝ }
     requires { ⌜ Leaves (length (now weights)) (length (now coords)) m d ⌝ }
@@ -223,14 +205,14 @@ fn expect(work: &mut [f64], weights: &[f64], coords: &[f64], m: usize, k: usize,
         ≡ withResp (expectUpTo (now (weights .entry)) (now (coords .entry)) k d (partsIn m k d (now (work .entry)) .bases) (modelOf (partsIn m k d (now (work .entry)))) m .resp)
         (partsIn m k d (now (work .entry)))) ⌝ }
 {
-    let mut loglik = 0.0;
-    let mut left = m;
-    while left > 0 {
-        let i = m - left;
-        loglik = loglik + weights[i] * expect_leaf(work, coords, i, m, k, d);
-        left -= 1;
+    let mut i = 0;
+    while i < m {
+        put_likenesses(work, coords, i, m, k, d);
+        i += 1;
     }
-    loglik
+    let kd = k * d;
+    let resp = kd + kd + k + k + k + k + k;
+    softmax::soften(&mut work[resp..resp + m * k], weights, k)
 }
 
 // ---- the M-step

@@ -1,1 +1,3 @@
 pub mod Softmax
+pub mod Joined
+pub mod Blocks

@@ -1,14 +1,18 @@
-// The log-space softmax of one leaf (vmf.rs, the E-step of movmf_once; document 01, 'Mixture'), over a lent row of its likenesses to the groups.
+// The log-space softmax of many leaves (vmf.rs, the E-step of movmf_once; document 01, 'Mixture'), over lent rows of their likenesses to k groups. The exponentials
+// of a block of leaves are worked out in one run, eight at a time across the borders of the rows.
 ghost use mathlib.Core.Path.{_≡_};
 ghost use mathlib.Core.Bool.{true};
-ghost use Prim.Native.Nat.{_+_, _^_, _<_};
-ghost use lib.ListN.{length, set};
+ghost use mathlib.Core.List.{_++_, map};
+ghost use Prim.Native.Nat.{_+_, _*_, _-_, _<_, _≤_};
+ghost use lib.ListN.{length, take, drop};
 ghost use lib.Ieee.{inf};
 ghost use Rattle.float.specs.Arithmetic.{plusZero};
-ghost use Rattle.softmax.specs.Softmax.{greatestFrom, expSumFrom, logSumExp, sharesOf, sharesAfter, lessAt, fourLess, fourShares, eightShares, addedAt, fourAdded, fourSet};
+ghost use Rattle.exponential.specs.Exponential.{expOf};
+ghost use Rattle.rows.specs.Rows.{Alike};
+ghost use Rattle.softmax.specs.Softmax.{greatestFrom, sharesUpTo, logsUpTo, lessBy, fromGreatest, logSumOver, fromGreatests, fromLogs, logsOver, LeafRows, Block, Beside};
 
 // The greatest element, from -infinity; a NaN is passed over.
-pub fn greatest(row: &[f64]) -> f64
+fn greatest(row: &[f64]) -> f64
     ensures { λ r. ⌜ r ≡ greatestFrom (inf true) (now (row .entry)) ⌝ }
 {
     let mut g = -1.0 / 0.0;
@@ -20,158 +24,150 @@ pub fn greatest(row: &[f64]) -> f64
     g
 }
 
-// x - g of element i; past the end, 0.
-fn less_at(row: &[f64], i: usize, g: f64) -> f64
-    ensures { λ r. ⌜ r ≡ lessAt g (now (row .entry)) i ⌝ }
+// e becomes the row less g, element by element.
+fn less(e: &mut [f64], row: &[f64], g: f64)
+    requires { ⌜ Alike (now e) (now row) ⌝ }
+    ensures { λ _. ⌜ now (e .exit) ≡ lessBy g (now (row .entry)) ⌝ }
 {
-    if i < row.len() { row[i] - g } else { 0.0 }
-}
-
-// x - g of the elements i to i + 3; past the end, 0.
-fn less4(row: &[f64], i: usize, g: f64) -> float::Four
-    requires { ⌜ i < length (now row) ⌝ }
-    ensures { λ r. ⌜ r ≡ fourLess g (now (row .entry)) i ⌝ }
-{
-    if i + 4 <= row.len() {
-        return float::Four {
-            a: row[i] - g,
-            b: row[i + 1] - g,
-            c: row[i + 2] - g,
-            e: row[i + 3] - g,
-        };
-    }
-    float::Four {
-        a: less_at(row, i, g),
-        b: less_at(row, i + 1, g),
-        c: less_at(row, i + 2, g),
-        e: less_at(row, i + 3, g),
-    }
-}
-
-// exp(x - g) of the elements i to i + 3.
-fn exp_four(row: &[f64], i: usize, g: f64) -> float::Four
-    requires { ⌜ i < length (now row) ⌝ }
-    ensures { λ r. ⌜ r ≡ fourShares g (now (row .entry)) i ⌝ }
-{
-    exponential::exp4(less4(row, i, g))
-}
-
-// exp(x - g) of the elements i to i + 7.
-fn exp_eight(row: &[f64], i: usize, g: f64) -> exponential::Eight
-    requires { ⌜ i + 4 < length (now row) ⌝ }
-    ensures { λ r. ⌜ r ≡ eightShares g (now (row .entry)) i ⌝ }
-{
-    exponential::exp8(less4(row, i, g), less4(row, i + 4, g))
-}
-
-// s with v added, if there is an element i among n.
-fn add_at(s: f64, v: f64, i: usize, n: usize) -> f64
-    ensures { λ r. ⌜ r ≡ addedAt n s i v ⌝ }
-{
-    if i < n { s + v } else { s }
-}
-
-// s with each of the four added that stands for an element, from element i on.
-fn add4(s: f64, f: float::Four, i: usize, n: usize) -> f64
-    requires { ⌜ i + 3 < 2 ^ 64 ⌝ }
-    ensures { λ r. ⌜ r ≡ fourAdded n s i f ⌝ }
-{
-    let s = add_at(s, f.a, i, n);
-    let s = add_at(s, f.b, i + 1, n);
-    let s = add_at(s, f.c, i + 2, n);
-    add_at(s, f.e, i + 3, n)
-}
-
-// exp(x - g) of each element, summed from +0 in order: by eights while five are left or more, then by four, then singly.
-pub fn sum_exp(row: &[f64], g: f64) -> f64
-    ensures { λ r. ⌜ r ≡ expSumFrom g plusZero (now (row .entry)) ⌝ }
-{
-    let n = row.len();
-    let mut s = 0.0;
     let mut j = 0;
-    while j + 5 <= n {
-        let f = exp_eight(row, j, g);
-        let p = f.first;
-        let q = f.last;
-        s = add4(add4(s, p, j, n), q, j + 4, n);
+    while j < row.len() {
+        e[j] = row[j] - g;
+        j += 1;
+    }
+}
+
+// Eight elements become their exponentials.
+fn exp_eight(e: &mut [f64])
+    requires { ⌜ length (now e) ≡ 8 ⌝ }
+    ensures { λ _. ⌜ now (e .exit) ≡ map expOf (now (e .entry)) ⌝ }
+{
+    let x = float::Four {
+        a: e[0],
+        b: e[1],
+        c: e[2],
+        e: e[3],
+    };
+    let y = float::Four {
+        a: e[4],
+        b: e[5],
+        c: e[6],
+        e: e[7],
+    };
+    let f = exponential::exp8(x, y);
+    let p = f.first;
+    let q = f.last;
+    e[0] = p.a;
+    e[1] = p.b;
+    e[2] = p.c;
+    e[3] = p.e;
+    e[4] = q.a;
+    e[5] = q.b;
+    e[6] = q.c;
+    e[7] = q.e;
+}
+
+// The first n elements become their exponentials, eight at a time; so do up to seven after them.
+fn exp_front(e: &mut [f64], n: usize)
+    requires { ⌜ n + 7 ≤ length (now e) ⌝ }
+    ensures { λ _. ⌜ take n (now (e .exit)) ≡ map expOf (take n (now (e .entry))) ⌝ }
+{
+    let mut j = 0;
+    while j < n {
+        exp_eight(&mut e[j..j + 8]);
         j += 8;
     }
-    while j + 4 <= n {
-        s = add4(s, exp_four(row, j, g), j, n);
-        j += 4;
+}
+
+// e becomes the row less its greatest.
+fn less_greatest(e: &mut [f64], row: &[f64])
+    requires { ⌜ Alike (now e) (now row) ⌝ }
+    ensures { λ _. ⌜ now (e .exit) ≡ fromGreatest (now (row .entry)) ⌝ }
+{
+    less(e, row, greatest(row));
+}
+
+// The m rows of e become the rows less their greatest.
+fn less_greatests(e: &mut [f64], rows: &[f64], m: usize, k: usize)
+    requires { ⌜ Beside (length (now e)) (length (now rows)) m k ⌝ }
+    ensures { λ _. ⌜ now (e .exit) ≡ fromGreatests k (now (rows .entry)) m ++ drop (m * k) (now (e .entry)) ⌝ }
+{
+    let mut i = 0;
+    while i < m {
+        let at = i * k;
+        less_greatest(&mut e[at..at + k], &rows[at..at + k]);
+        i += 1;
     }
-    while j < n {
-        s = s + exponential::exp(row[j] - g);
-        j += 1;
+}
+
+// The log-sum of a row, of which e holds the exponentials; e becomes the row less that.
+fn less_log_sum(e: &mut [f64], row: &[f64]) -> f64
+    requires { ⌜ Alike (now e) (now row) ⌝ }
+    ensures { λ r. ⌜ (r ≡ logSumOver (now (row .entry)) (now (e .entry))) × (now (e .exit) ≡ lessBy r (now (row .entry))) ⌝ }
+{
+    let lse = greatest(row) + logarithm::ln(vector::fold(e));
+    less(e, row, lse);
+    lse
+}
+
+// The rows of e become the rows less their log-sums; l, with the weight of each leaf times its log-sum added in order.
+fn less_log_sums(e: &mut [f64], rows: &[f64], weights: &[f64], k: usize, l: f64) -> f64
+    requires { ⌜ Beside (length (now e)) (length (now rows)) (length (now weights)) k ⌝ }
+    ensures { λ r. ⌜ (r ≡ logsOver k (now (rows .entry)) (now (e .entry)) (now (weights .entry)) l (length (now (weights .entry))))
+        × (now (e .exit) ≡ fromLogs k (now (rows .entry)) (now (e .entry)) (length (now (weights .entry))) ++ drop (length (now (weights .entry)) * k) (now (e .entry))) ⌝ }
+{
+    let m = weights.len();
+    let mut s = l;
+    let mut left = m;
+    while left > 0 {
+        let i = m - left;
+        let at = i * k;
+        s = s + weights[i] * less_log_sum(&mut e[at..at + k], &rows[at..at + k]);
+        left -= 1;
     }
     s
 }
 
-// The logarithm of the sum of the exponentials.
-pub fn log_sum_exp(row: &[f64]) -> f64
-    ensures { λ r. ⌜ r ≡ logSumExp (now (row .entry)) ⌝ }
+// A block of leaves.
+fn soften_block(rows: &mut [f64], weights: &[f64], k: usize, l: f64) -> f64
+    requires { ⌜ Block (length (now rows)) (length (now weights)) k ⌝ }
+    ensures { λ r. ⌜ (r ≡ logsUpTo k (now (rows .entry)) (now (weights .entry)) l (length (now (weights .entry))))
+        × (now (rows .exit) ≡ sharesUpTo k (now (rows .entry)) (length (now (weights .entry)))) ⌝ }
 {
-    let g = greatest(row);
-    g + logarithm::ln(sum_exp(row, g))
+    let mut e = [0.0; 263];
+    let n = rows.len();
+    less_greatests(&mut e, rows, weights.len(), k);
+    exp_front(&mut e, n);
+    let s = less_log_sums(&mut e, rows, weights, k, l);
+    exp_front(&mut e, n);
+    rows::copy(rows, &e[..n]);
+    s
 }
 
-// Element i becomes v, if there is one.
-fn put_at(row: &mut [f64], i: usize, v: f64)
-    ensures { λ _. ⌜ now (row .exit) ≡ set (now (row .entry)) i v ⌝ }
+// Where the block of leaves from leaf i on ends: within 256 elements.
+fn block_end(i: usize, m: usize, k: usize) -> usize
+    requires { ⌜ (i < m) × (0 < k) × (k ≤ 64) ⌝ }
+    ensures { λ r. ⌜ (i < r) × (r ≤ m) × ((r - i) * k ≤ 256) ⌝ }
 {
-    if i < row.len() {
-        row[i] = v;
+    let most = 256 / k;
+    if m - i < most {
+        return m;
     }
+    i + most
 }
 
-// The elements i to i + 3 become the four, as far as there are any.
-fn put4(row: &mut [f64], i: usize, f: float::Four)
-    requires { ⌜ i < length (now row) ⌝ }
-    ensures { λ _. ⌜ now (row .exit) ≡ fourSet (now (row .entry)) i f ⌝ }
+// The rows of likenesses become the leaves' responsibilities; the log-likelihood.
+pub fn soften(rows: &mut [f64], weights: &[f64], k: usize) -> f64
+    requires { ⌜ LeafRows (length (now rows)) (length (now weights)) k ⌝ }
+    ensures { λ r. ⌜ (r ≡ logsUpTo k (now (rows .entry)) (now (weights .entry)) plusZero (length (now (weights .entry))))
+        × (now (rows .exit) ≡ sharesUpTo k (now (rows .entry)) (length (now (weights .entry)))) ⌝ }
 {
-    put_at(row, i, f.a);
-    put_at(row, i + 1, f.b);
-    put_at(row, i + 2, f.c);
-    put_at(row, i + 3, f.e);
-}
-
-// The elements j to j + 3 become exp(x - lse).
-fn share_four(row: &mut [f64], j: usize, lse: f64)
-    requires { ⌜ j < length (now row) ⌝ }
-    ensures { λ _. ⌜ sharesAfter lse (j + 4) (now (row .exit)) ≡ sharesAfter lse j (now (row .entry)) ⌝ }
-{
-    let f = exp_four(row, j, lse);
-    put4(row, j, f);
-}
-
-// The elements j to j + 7 become exp(x - lse).
-fn share_eight(row: &mut [f64], j: usize, lse: f64)
-    requires { ⌜ j + 4 < length (now row) ⌝ }
-    ensures { λ _. ⌜ sharesAfter lse (j + 8) (now (row .exit)) ≡ sharesAfter lse j (now (row .entry)) ⌝ }
-{
-    let f = exp_eight(row, j, lse);
-    let p = f.first;
-    let q = f.last;
-    put4(row, j, p);
-    put4(row, j + 4, q);
-}
-
-// Every element becomes exp(x - lse): by eights while five are left or more, then by four, then singly.
-pub fn share(row: &mut [f64], lse: f64)
-    ensures { λ _. ⌜ now (row .exit) ≡ sharesOf lse (now (row .entry)) ⌝ }
-{
-    let n = row.len();
-    let mut j = 0;
-    while j + 5 <= n {
-        share_eight(row, j, lse);
-        j += 8;
+    let m = weights.len();
+    let mut l = 0.0;
+    let mut i = 0;
+    while i < m {
+        let end = block_end(i, m, k);
+        l = soften_block(&mut rows[i * k..end * k], &weights[i..end], k, l);
+        i = end;
     }
-    while j + 4 <= n {
-        share_four(row, j, lse);
-        j += 4;
-    }
-    while j < n {
-        row[j] = exponential::exp(row[j] - lse);
-        j += 1;
-    }
+    l
 }

@@ -1,94 +1,115 @@
--- `mixture::expect` meets its contract. The loop's invariant: the responsibilities of the leaves before those that are left stand before what the region
--- held, and the log-likelihood is theirs. Assumes nothing.
-use mathlib.Core.Path.{_≡_, refl, ap, _∙_}
-use Prim.Native.Nat.{ℕ, _+_, _-_, _≤_, _<_}
+-- `mixture::expect` meets its contract. The loop's invariant: the likenesses of the first i leaves stand before what the region held; all of them are softened in one
+-- call. The measure is the leaves left. Assumes nothing.
+use mathlib.Core.Path.{_≡_, refl, _∙_}
+use Prim.Native.Nat.{_+_, _-_, _*_, _≤_}
 use native.Mathlib.Omega.{arith}
 use lib.ListN.{length}
-use lib.Ieee.{ofBits}
-use Rattle.mixture.specs.Areas.{partsIn, modelOf}
-use Rattle.mixture.specs.Mixture.{expectUpTo}
-use Rattle.mixture.proofs.Sizes.{area-of, leaf-of}
-use Rattle.mixture.proofs.Expected.{expected-none, expectedIn, expected-start, expected-turn, loglik-turn, expected-end}
+use Rattle.mixture.specs.Areas.{partsIn}
+use Rattle.mixture.proofs.Sizes.{area-of, leaf-of, rows-of}
+use Rattle.mixture.proofs.Expected.{likesIn, likes-start, likes-turn, loglik-done, resp-done}
 use borrow.Author.Needs.{needs}
 use Rattle.mixture.proofs.expect.Statement.{statement}
 use Rattle.mixture.proofs.expect.Tie as tie
 
 abbrev Inv-loop : tie.InvT-loop
-Inv-loop work₀ weights coords m k d loglik₀ left₀ work loglik left =
-    (left ≤ m) × (length work ≡ length work₀) × (loglik ≡ expectUpTo weights coords k d (partsIn m k d work₀ .bases) (modelOf (partsIn m k d work₀)) (m - left) .loglik)
-    × (partsIn m k d work ≡ expectedIn m k d work₀ weights coords (m - left))
+Inv-loop work₀ weights coords m k d i₀ work i = (i ≤ m) × (length work ≡ length work₀) × (partsIn m k d work ≡ likesIn m k d work₀ coords i)
 
 abbrev μ-loop : tie.MeasureT-loop
-μ-loop work₀ weights coords m k d loglik₀ left₀ work loglik left = left
+μ-loop work₀ weights coords m k d i₀ work i = m - i
 
 loop-holds : tie.Need-loop-holds Inv-loop μ-loop
-unfolding ofBits
 loop-holds c =
     let a = c .before .before .before .args in
-    let p = partsIn (a .m) (a .k) (a .d) (a .work .now) in
-    let z : 0 ≡ a .m - a .m = omega arith in (
-      omega arith,
-      refl,
-      expected-none (a .weights .now) (a .coords .now) (a .k) (a .d) (p .bases) (modelOf p)
-          ∙ ap (λ (n : ℕ). expectUpTo (a .weights .now) (a .coords .now) (a .k) (a .d) (p .bases) (modelOf p) n .loglik) z,
-      expected-start (a .m) (a .k) (a .d) (a .work .now) (a .weights .now) (a .coords .now) ∙ ap (expectedIn (a .m) (a .k) (a .d) (a .work .now) (a .weights .now) (a .coords .now)) z,
+    (omega arith, refl, likes-start (a .m) (a .k) (a .d) (a .work .now) (a .coords .now))
+
+put-likenesses-requires : tie.Need-put-likenesses-requires Inv-loop μ-loop
+put-likenesses-requires c κs =
+    let l = c .before .before .loop in
+    let s = c .before .before .before .before .before .before in
+    let a = s .args in (
+      area-of (length (a .work .now)) (length (l .work)) (a .m) (a .k) (a .d) (l .inv .1) (s .pre .0),
+      (s .pre .1 .coords-long, s .pre .1 .md-small, leaf-of (l .i) (a .m) (a .k) (a .d) (c .before .loop-test .taken)),
     )
 
-sub-i : tie.Need-sub-i Inv-loop μ-loop
-sub-i c = search needs
-
-mul-loglik : tie.Need-mul-loglik Inv-loop μ-loop
-mul-loglik c = search needs
-
-shared-slice-read-loglik : tie.Need-shared-slice-read-loglik Inv-loop μ-loop
-shared-slice-read-loglik c = search needs
-
-expect-leaf-requires : tie.Need-expect-leaf-requires Inv-loop μ-loop
-expect-leaf-requires c κs =
-    let l = c .before .before .before .loop in
-    let b = c .before .before .before .before .before .before .before in
-    let a = b .args in
-    let i = a .m - l .left in
-    let h : i < a .m = omega (arith, c .before .before .loop-test .taken, l .inv .0) in (
-      area-of (length (a .work .now)) (length (l .work)) (a .m) (a .k) (a .d) (l .inv .1) (b .pre .0),
-      (b .pre .1 .coords-long, b .pre .1 .md-small, leaf-of i (a .m) (a .k) (a .d) h),
-    )
-
-sub-left : tie.Need-sub-left Inv-loop μ-loop
-sub-left c = search needs
+add-i : tie.Need-add-i Inv-loop μ-loop
+add-i c = search needs
 
 loop-less : tie.Need-loop-less Inv-loop μ-loop
 loop-less c = search needs
 
 loop-again : tie.Need-loop-again Inv-loop μ-loop
 loop-again c =
-    let e = c .before .before .expect-leaf in
-    let l = c .before .before .before .before .before .before .loop in
-    let b = c .before .before .before .before .before .before .before .before .before .before in
-    let a = b .args in
-    let p = partsIn (a .m) (a .k) (a .d) (a .work .now) in
-    let i = a .m - l .left in
-    let f : i + 1 ≡ a .m - (l .left - 1) = omega (arith, c .before .before .before .before .before .loop-test .taken, l .inv .0) in (
-      omega (arith, l .inv .0),
-      search needs,
-      loglik-turn (a .m) (a .k) (a .d) (a .work .now) (a .weights .now) (a .coords .now) (l .work) i (l .loglik) (e .result) (l .inv .3) (l .inv .2) (e .ensures .0)
-          ∙ ap (λ (n : ℕ). expectUpTo (a .weights .now) (a .coords .now) (a .k) (a .d) (p .bases) (modelOf p) n .loglik) f,
-      expected-turn (a .m) (a .k) (a .d) (a .work .now) (a .weights .now) (a .coords .now) (l .work) (e .last .0) i (l .inv .3) (e .ensures .1)
-          ∙ ap (expectedIn (a .m) (a .k) (a .d) (a .work .now) (a .weights .now) (a .coords .now)) f,
+    let p = c .before .before .put-likenesses in
+    let l = c .before .before .before .before .before .loop in
+    let a = c .before .before .before .before .before .before .before .before .before .args in (
+      omega (arith, c .before .before .before .before .loop-test .taken),
+      p .kept .0 ∙ l .inv .1,
+      likes-turn (a .m) (a .k) (a .d) (a .work .now) (a .coords .now) (l .work) (p .last .0) (l .i) (l .inv .2) (p .ensures),
     )
+
+mul-kd : tie.Need-mul-kd Inv-loop μ-loop
+mul-kd c = search needs
+
+add-resp : tie.Need-add-resp Inv-loop μ-loop
+add-resp c = search needs
+
+add-resp-2 : tie.Need-add-resp-2 Inv-loop μ-loop
+add-resp-2 c = search needs
+
+add-resp-3 : tie.Need-add-resp-3 Inv-loop μ-loop
+add-resp-3 c = search needs
+
+add-resp-4 : tie.Need-add-resp-4 Inv-loop μ-loop
+add-resp-4 c = search needs
+
+add-resp-5 : tie.Need-add-resp-5 Inv-loop μ-loop
+add-resp-5 c = search needs
+
+add-resp-6 : tie.Need-add-resp-6 Inv-loop μ-loop
+add-resp-6 c = search needs
+
+mul-soften : tie.Need-mul-soften Inv-loop μ-loop
+mul-soften c = search needs
+
+add-soften : tie.Need-add-soften Inv-loop μ-loop
+add-soften c = search needs
+
+mul-soften-2 : tie.Need-mul-soften-2 Inv-loop μ-loop
+mul-soften-2 c = search needs
+
+sub-soften : tie.Need-sub-soften Inv-loop μ-loop
+sub-soften c = search needs
+
+part-soften-start : tie.Need-part-soften-start Inv-loop μ-loop
+part-soften-start c = search needs
+
+part-soften-end : tie.Need-part-soften-end Inv-loop μ-loop
+part-soften-end c = search needs
+
+soften-requires : tie.Need-soften-requires Inv-loop μ-loop
+soften-requires c κs =
+    let l = c .before .before .loop in
+    let s = c .before .before .before .before .before .before in
+    let a = s .args in
+    rows-of (l .work) (a .weights .now) (a .m) (a .k) (a .d) _ (area-of (length (a .work .now)) (length (l .work)) (a .m) (a .k) (a .d) (l .inv .1) (s .pre .0)) (s .pre .1 .weights-long) refl
 
 same-length : tie.Need-same-length Inv-loop μ-loop
 same-length c = search needs
 
 returns : tie.Need-returns Inv-loop μ-loop
 returns c =
-    let l = c .before .loop in
-    let b = c .before .before .before .before .before in
-    let a = b .args in
-    let p = partsIn (a .m) (a .k) (a .d) (a .work .now) in
-    let e : a .m - l .left ≡ a .m = omega (arith, c .loop-test .left) in (
-      l .inv .2 ∙ ap (λ (n : ℕ). expectUpTo (a .weights .now) (a .coords .now) (a .k) (a .d) (p .bases) (modelOf p) n .loglik) e,
-      expected-end (a .m) (a .k) (a .d) (a .work .now) (a .weights .now) (a .coords .now) (l .work) (a .m - l .left) e (b .pre .0 .work-long) (l .inv .3),
+    let x = c .before .before .soften in
+    let l = c .before .before .before .before .before .loop in
+    let s = c .before .before .before .before .before .before .before .before .before in
+    let a = s .args in
+    let at = a .k * a .d + a .k * a .d + a .k + a .k + a .k + a .k + a .k in
+    let n = at + a .m * a .k - at in
+    let size : n ≡ a .m * a .k = omega arith in
+    let all : l .i ≡ a .m = omega (arith, c .before .before .before .before .loop-test .left, l .inv .0) in (
+      loglik-done (a .m) (a .k) (a .d) (a .work .now) (a .coords .now) (a .weights .now) (l .work) (l .i) at n (s .pre .1 .weights-long) (s .pre .0 .work-long) (l .inv .1) all (l .inv .2) refl size (x .result)
+          (x .ensures .0),
+      resp-done (a .m) (a .k) (a .d) (a .work .now) (a .coords .now) (a .weights .now) (l .work) (l .i) at n (s .pre .1 .weights-long) (s .pre .0 .work-long) (l .inv .1) all (l .inv .2) refl size (x .last .0)
+          (x .ensures .1),
     )
 
 pub expect-spec : {M : Type 1} → statement M
@@ -98,12 +119,23 @@ expect-spec =
     Inv-loop
     μ-loop
     loop-holds
-    sub-i
-    mul-loglik
-    shared-slice-read-loglik
-    expect-leaf-requires
-    sub-left
+    put-likenesses-requires
+    add-i
     loop-less
     loop-again
+    mul-kd
+    add-resp
+    add-resp-2
+    add-resp-3
+    add-resp-4
+    add-resp-5
+    add-resp-6
+    mul-soften
+    add-soften
+    mul-soften-2
+    sub-soften
+    part-soften-start
+    part-soften-end
+    soften-requires
     same-length
     returns)

@@ -1,0 +1,80 @@
+-- `softmax::exp_front` meets its contract. The loop's invariant: the elements passed are replaced by their exponentials. The measure is what is left of the n.
+-- Assumes nothing.
+use mathlib.Core.Path.{_≡_, refl}
+use Prim.Native.Nat.{_+_, _-_, _≤_}
+use native.Mathlib.Omega.{arith}
+use lib.ListN.{length}
+use Rattle.softmax.proofs.Softmax.{expsTo, exps-turn, exps-end}
+use borrow.Author.Needs.{needs}
+use Rattle.softmax.proofs.exp_front.Statement.{statement}
+use Rattle.softmax.proofs.exp_front.Tie as tie
+
+abbrev Inv-loop : tie.InvT-loop
+Inv-loop e₀ n j₀ e j = (length e ≡ length e₀) × (j ≤ n + 7) × (e ≡ expsTo e₀ j)
+
+abbrev μ-loop : tie.MeasureT-loop
+μ-loop e₀ n j₀ e j = n - j
+
+loop-holds : tie.Need-loop-holds Inv-loop μ-loop
+loop-holds c = (refl, omega arith, refl)
+
+add-exp-eight : tie.Need-add-exp-eight Inv-loop μ-loop
+add-exp-eight c = search needs
+
+mul-exp-eight : tie.Need-mul-exp-eight Inv-loop μ-loop
+mul-exp-eight c = search needs
+
+sub-exp-eight : tie.Need-sub-exp-eight Inv-loop μ-loop
+sub-exp-eight c = search needs
+
+part-exp-eight-start : tie.Need-part-exp-eight-start Inv-loop μ-loop
+part-exp-eight-start c = search needs
+
+part-exp-eight-end : tie.Need-part-exp-eight-end Inv-loop μ-loop
+part-exp-eight-end c = search needs
+
+exp-eight-requires : tie.Need-exp-eight-requires Inv-loop μ-loop
+exp-eight-requires c κs = search needs
+
+add-j : tie.Need-add-j Inv-loop μ-loop
+add-j c = search needs
+
+loop-less : tie.Need-loop-less Inv-loop μ-loop
+loop-less c = search needs
+
+loop-again : tie.Need-loop-again Inv-loop μ-loop
+loop-again c =
+    let l = c .before .before .before .before .before .loop in
+    let a = c .before .before .before .before .before .before .before .args in
+    let p = c .before .before .before .before .before .before .before .pre in
+    let h : l .j ≤ length (a .e .now) = omega (arith, c .before .before .before .before .loop-test .taken) in
+    (search needs, omega arith, exps-turn (a .e .now) (l .e) (l .j) h (l .inv .2) (l .j + 8 - l .j) (c .before .before .exp-eight .last .0) (omega arith) (c .before .before .exp-eight .ensures))
+
+same-length : tie.Need-same-length Inv-loop μ-loop
+same-length c = c .before .loop .inv .0
+
+returns : tie.Need-returns Inv-loop μ-loop
+returns c =
+    let l = c .before .loop in
+    let a = c .before .before .before .args in
+    let h : l .j ≤ length (a .e .now) = omega (arith, l .inv .1, c .before .before .before .pre) in
+    exps-end (a .e .now) (l .e) (l .j) h (l .inv .2) (a .n) (omega arith)
+
+pub exp-front-spec : {M : Type 1} → statement M
+exp-front-spec =
+    tie.close
+    (tie.spec
+    Inv-loop
+    μ-loop
+    loop-holds
+    add-exp-eight
+    mul-exp-eight
+    sub-exp-eight
+    part-exp-eight-start
+    part-exp-eight-end
+    exp-eight-requires
+    add-j
+    loop-less
+    loop-again
+    same-length
+    returns)
