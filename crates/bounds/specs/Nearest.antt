@@ -25,6 +25,10 @@ bestTo x centers d (suc c) = betterOf (bestTo x centers d c) (suc c) (dotOf x (r
 abbrev pub rowDots : List Float → List Float → ℕ → ℕ → Four
 rowDots x centers d c = dotsOf x (rowOf centers d c) (rowOf centers d (c + 1)) (rowOf centers d (c + 2)) (rowOf centers d (c + 3))
 
+-- with centres c + 1 to c + 3, whose dots are the last three of f
+abbrev pub withThree : Best → ℕ → Four → Best
+withThree b c f = betterOf (betterOf (betterOf b (c + 1) (f .b)) (c + 2) (f .c)) (c + 3) (f .e)
+
 -- what the search for the best asks: k centres of d coordinates, at most 64 and 16,384 numbers
 pub record Centers (length k d : ℕ) : Type 0 where
   pub some : 0 < k

@@ -8,7 +8,7 @@ ghost use Rattle.rows.specs.Rows.{rowOf};
 ghost use Rattle.vector.specs.Vectors.{dotOf};
 ghost use Rattle.bounds.specs.Shifts.{sinesOf, shiftLower, shiftUpper, slowerOf, slowestUpTo, shiftedBounds, skips};
 ghost use Rattle.bounds.specs.Products.{squaresOf, reachesOf, footOf, closeOf, maySkip};
-ghost use Rattle.bounds.specs.Nearest.{betterOf, bestTo, rowDots, Centers};
+ghost use Rattle.bounds.specs.Nearest.{betterOf, withThree, bestTo, rowDots, Centers};
 
 // The squares of the sines of two angles multiplied, from their cosines.
 fn squares(a: f64, p: f64) -> f64
@@ -247,23 +247,28 @@ fn row_dots(x: &[f64], centers: &[f64], c: usize, d: usize) -> float::Four
     )
 }
 
-// The best of k centres of d coordinates, the first of equals: the first, then by fours, then singly.
-pub fn best_of(x: &[f64], centers: &[f64], k: usize, d: usize) -> Best
+// With centres c + 1 to c + 3, whose dots are the last three of f.
+fn with_three(b: Best, c: usize, f: float::Four) -> Best
+    requires { ⌜ c ≤ 64 ⌝ }
+    ensures { λ r. ⌜ r ≡ withThree b c f ⌝ }
+{
+    let b = better(b, c + 1, f.b);
+    let b = better(b, c + 2, f.c);
+    better(b, c + 3, f.e)
+}
+
+// The best of k centres from the best of those before centre c: by fours, then singly.
+fn best_from(x: &[f64], centers: &[f64], start: Best, at: usize, k: usize, d: usize) -> Best
     requires { ⌜ Centers (length (now centers)) k d ⌝ }
+    requires { ⌜ (0 < at) × (at ≤ k) × (start ≡ bestTo (now x) (now centers) d (at - 1)) ⌝ }
     ensures { λ r. ⌜ r ≡ bestTo (now (x .entry)) (now (centers .entry)) d (k - 1) ⌝ }
 {
-    let mut b = Best {
-        index: 0,
-        dot: row_dot(x, centers, 0, d),
-        second: -1.0 / 0.0,
-    };
-    let mut c = 1;
+    let mut b = start;
+    let mut c = at;
     while 4 <= k - c {
         let f = row_dots(x, centers, c, d);
         b = better(b, c, f.a);
-        b = better(b, c + 1, f.b);
-        b = better(b, c + 2, f.c);
-        b = better(b, c + 3, f.e);
+        b = with_three(b, c, f);
         c += 4;
     }
     while c < k {
@@ -272,4 +277,26 @@ pub fn best_of(x: &[f64], centers: &[f64], k: usize, d: usize) -> Best
         c += 1;
     }
     b
+}
+
+// The best of k centres of d coordinates, the first of equals; the first four at once where there are as many.
+pub fn best_of(x: &[f64], centers: &[f64], k: usize, d: usize) -> Best
+    requires { ⌜ Centers (length (now centers)) k d ⌝ }
+    ensures { λ r. ⌜ r ≡ bestTo (now (x .entry)) (now (centers .entry)) d (k - 1) ⌝ }
+{
+    if k < 4 {
+        let b = Best {
+            index: 0,
+            dot: row_dot(x, centers, 0, d),
+            second: -1.0 / 0.0,
+        };
+        return best_from(x, centers, b, 1, k, d);
+    }
+    let f = row_dots(x, centers, 0, d);
+    let b = Best {
+        index: 0,
+        dot: f.a,
+        second: -1.0 / 0.0,
+    };
+    best_from(x, centers, with_three(b, 0, f), 4, k, d)
 }

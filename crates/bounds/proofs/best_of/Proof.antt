@@ -1,157 +1,68 @@
--- `bounds::best_of` meets its contract. The invariant of both loops: `b` is the best of the centres before c, of which there is one at least. The measure is
--- what is left of the centres. Assumes nothing.
-use mathlib.Core.Path.{_≡_}
-use Prim.Native.Nat.{_+_, _≤_, _<_, _-_}
+-- `bounds::best_of` meets its contract: the first centre alone, or the first four, are a start of `bestTo`, and `best_from` goes on from it. Assumes nothing.
+use mathlib.Core.Bool.{true}
+use Prim.Native.Nat.{_≤_}
 use native.Mathlib.Nat.{mul-le-mul-right}
 use native.Mathlib.Omega.{arith}
-use lib.Ieee.{neg, div, ofBits}
+use lib.Ieee.{inf, neg, div, ofBits}
 use Rattle.rows.proofs.Rows.{row-within}
 use Rattle.bounds.specs.Nearest.{bestTo}
-use Rattle.bounds.proofs.Nearest.{best-turn, best-four}
+use Rattle.bounds.proofs.Nearest.{best-three}
 use borrow.Author.Needs.{needs}
 use Rattle.bounds.proofs.best_of.Statement.{statement}
 use Rattle.bounds.proofs.best_of.Tie as tie
 
-abbrev Inv-loop : tie.InvT-loop
-Inv-loop x centers k d b₀ c₀ b c = (0 < c) × (c ≤ k) × (b ≡ bestTo x centers d (c - 1))
-
-abbrev μ-loop : tie.MeasureT-loop
-μ-loop x centers k d b₀ c₀ b c = k - c
-
-abbrev Inv-loop2 : tie.InvT-loop2
-Inv-loop2 x centers k d b₀ c₀ b c = (0 < c) × (c ≤ k) × (b ≡ bestTo x centers d (c - 1))
-
-abbrev μ-loop2 : tie.MeasureT-loop2
-μ-loop2 x centers k d b₀ c₀ b c = k - c
-
-row-dot-requires : tie.Need-row-dot-requires Inv-loop μ-loop Inv-loop2 μ-loop2
+row-dot-requires : tie.Need-row-dot-requires
 row-dot-requires c κs =
-    let s = c .before .before in
+    let s = c .before .before .before in
     omega (arith, row-within 0 (s .args .k) (s .args .d) (s .pre .some), s .pre .long)
 
-loop-holds : tie.Need-loop-holds Inv-loop μ-loop Inv-loop2 μ-loop2
+best-from-requires : tie.Need-best-from-requires
 unfolding neg div ofBits bestTo
-loop-holds c = (omega arith, c .before .before .before .pre .some, rw (c .row-dot .ensures))
+best-from-requires c κs =
+    let s = c .before .before .before .before in
+    (s .pre, (omega arith, s .pre .some, rw (c .row-dot .ensures)))
 
-sub-loop : tie.Need-sub-loop Inv-loop μ-loop Inv-loop2 μ-loop2
-sub-loop c = search needs
+returns : tie.Need-returns
+returns c = search needs
 
-row-dots-requires : tie.Need-row-dots-requires Inv-loop μ-loop Inv-loop2 μ-loop2
+row-dots-requires : tie.Need-row-dots-requires
 row-dots-requires c κs =
-    let s = c .before .before .before .before .before in
-    let h : c .before .loop .c + 4 ≤ s .args .k = omega (arith, c .loop-test .taken, c .before .loop .inv .1) in
+    let s = c .before .before .before in
+    let h : 4 ≤ s .args .k = omega (arith, c .if1 .left) in
     omega (arith, mul-le-mul-right (s .args .d) h, s .pre .long)
 
-better-requires : tie.Need-better-requires Inv-loop μ-loop Inv-loop2 μ-loop2
-better-requires c κs = search needs
+with-three-requires : tie.Need-with-three-requires
+with-three-requires c κs = search needs
 
-add-better : tie.Need-add-better Inv-loop μ-loop Inv-loop2 μ-loop2
-add-better c = search needs
-
-better-requires-2 : tie.Need-better-requires-2 Inv-loop μ-loop Inv-loop2 μ-loop2
-better-requires-2 c κs = search needs
-
-add-better-2 : tie.Need-add-better-2 Inv-loop μ-loop Inv-loop2 μ-loop2
-add-better-2 c = search needs
-
-better-requires-3 : tie.Need-better-requires-3 Inv-loop μ-loop Inv-loop2 μ-loop2
-better-requires-3 c κs = search needs
-
-add-better-3 : tie.Need-add-better-3 Inv-loop μ-loop Inv-loop2 μ-loop2
-add-better-3 c = search needs
-
-better-requires-4 : tie.Need-better-requires-4 Inv-loop μ-loop Inv-loop2 μ-loop2
-better-requires-4 c κs = search needs
-
-add-c : tie.Need-add-c Inv-loop μ-loop Inv-loop2 μ-loop2
-add-c c =
-    let l = c .before .before .before .before .before .before in
-    omega (arith, l .before .before .before .before .fits .k, l .loop .inv .1, c .before .before .before .before .before .loop-test .taken)
-
-loop-less : tie.Need-loop-less Inv-loop μ-loop Inv-loop2 μ-loop2
-loop-less c = search needs
-
-loop-again : tie.Need-loop-again Inv-loop μ-loop Inv-loop2 μ-loop2
-loop-again c =
-    let f = c .before .before .before .before in
-    let l = f .before .before in
-    let a = l .before .before .before .before .args in (
-      omega arith,
-      omega (arith, l .loop .inv .1, f .before .loop-test .taken),
-      best-four (a .x .now) (a .centers .now) (a .d) (l .loop .c) (l .loop .b) (c .before .before .before .better .result) (c .before .before .better2 .result)
-          (c .before .better3 .result)
-          (c .better4 .result)
-          (f .row-dots .result)
-          (l .loop .inv .0)
-          (l .loop .inv .2)
-          (f .row-dots .ensures)
-          (c .before .before .before .better .ensures)
-          (c .before .before .better2 .ensures)
-          (c .before .better3 .ensures)
-          (c .better4 .ensures),
+best-from-requires-2 : tie.Need-best-from-requires-2
+unfolding neg div ofBits bestTo
+best-from-requires-2 c κs =
+    let r = c .before in
+    let s = r .before .before .before .before in
+    let a = s .args in
+    let f = r .row-dots .result in (
+      s .pre,
+      (
+        omega arith,
+        omega (arith, r .before .if1 .left),
+        best-three (a .x .now) (a .centers .now) (a .d) 0 (record { index = 0; dot = f .a; second = inf true }) (c .with-three .result) f
+            (rw (r .row-dots .ensures))
+            (r .row-dots .ensures)
+            (c .with-three .ensures),
+      ),
     )
 
-loop2-holds : tie.Need-loop2-holds Inv-loop μ-loop Inv-loop2 μ-loop2
-loop2-holds c = search needs
-
-row-dot-requires-2 : tie.Need-row-dot-requires-2 Inv-loop μ-loop Inv-loop2 μ-loop2
-row-dot-requires-2 c κs =
-    let s = c .before .before .before .before .before .before .before in
-    omega (arith, row-within (c .before .loop2 .c) (s .args .k) (s .args .d) (c .loop2-test .taken), s .pre .long)
-
-better-requires-5 : tie.Need-better-requires-5 Inv-loop μ-loop Inv-loop2 μ-loop2
-better-requires-5 c κs = search needs
-
-add-c-2 : tie.Need-add-c-2 Inv-loop μ-loop Inv-loop2 μ-loop2
-add-c-2 c = search needs
-
-loop2-less : tie.Need-loop2-less Inv-loop μ-loop Inv-loop2 μ-loop2
-loop2-less c = search needs
-
-loop2-again : tie.Need-loop2-again Inv-loop μ-loop Inv-loop2 μ-loop2
-loop2-again c =
-    let l = c .before .before .before in
-    let a = l .before .before .before .before .before .before .args in (
-      omega arith,
-      omega arith,
-      best-turn (a .x .now) (a .centers .now) (a .d) (l .loop2 .c) (l .loop2 .b) (c .better5 .result) (c .before .row-dot2 .result) (l .loop2 .inv .0) (l .loop2 .inv .2)
-          (c .before .row-dot2 .ensures)
-          (c .better5 .ensures),
-    )
-
-returns : tie.Need-returns Inv-loop μ-loop Inv-loop2 μ-loop2
-returns c =
-    let l = c .before in
-    let a = l .before .before .before .before .before .before .args in
-    let e : l .loop2 .c ≡ a .k = omega arith in
-    rw (← e) (l .loop2 .inv .2)
+returns-2 : tie.Need-returns-2
+returns-2 c = search needs
 
 pub best-of-spec : {M : Type 1} → statement M
 best-of-spec =
     tie.close
     (tie.spec
-    Inv-loop
-    μ-loop
-    Inv-loop2
-    μ-loop2
     row-dot-requires
-    loop-holds
-    sub-loop
+    best-from-requires
+    returns
     row-dots-requires
-    better-requires
-    add-better
-    better-requires-2
-    add-better-2
-    better-requires-3
-    add-better-3
-    better-requires-4
-    add-c
-    loop-less
-    loop-again
-    loop2-holds
-    row-dot-requires-2
-    better-requires-5
-    add-c-2
-    loop2-less
-    loop2-again
-    returns)
+    with-three-requires
+    best-from-requires-2
+    returns-2)
