@@ -229,8 +229,8 @@ fn row_dot(x: &[f64], centers: &[f64], c: usize, d: usize) -> f64
     vector::dot(x, &centers[at..at + d])
 }
 
-// The dots with rows c to c + 3 of the centres.
-fn row_dots(x: &[f64], centers: &[f64], c: usize, d: usize) -> float::Four
+// The dots with rows c to c + 3.
+pub fn row_dots(x: &[f64], centers: &[f64], c: usize, d: usize) -> float::Four
     requires { ⌜ (c + 4) * d ≤ length (now centers) ⌝ }
     ensures { λ r. ⌜ r ≡ rowDots (now (x .entry)) (now (centers .entry)) d c ⌝ }
 {

@@ -2,24 +2,27 @@
 -- specs/Seeding.antt grows by one place or one centre a turn. Assumes nothing.
 use mathlib.Core.Path.{_≡_, refl, ap, sym, subst, _∙_}
 use mathlib.Core.List.{List, [], _∷_, _++_, append-assoc, append-nil}
-use mathlib.Core.Bool.{true, false, cond}
+use mathlib.Core.Bool.{Bool, true, false, cond}
 use Prim.Native.Nat.{ℕ, zero, suc, _+_, _*_, _-_, _≤_, _<_}
-use native.Mathlib.Nat.{suc-mul, zero-mul}
+use native.Mathlib.Nat.{suc-mul, zero-mul, add-zero}
 use native.Mathlib.Numerals.{add-one}
 use native.Mathlib.Omega.{arith}
 use lib.ListN.{length, getD, take, drop, set, replicate, length-append, length-replicate, drop-of-length-le}
 use lib.Seq.{drop-cons, take-suc, take-all, set-at, take-at, getD-at, length-take-le}
-use lib.Ieee.{Float, nan, inf, binary64, sub, mul, lt}
-use Rattle.float.specs.Arithmetic.{number, plusZero, maxOf}
+use lib.IntN.{ℤ}
+use lib.Ieee.{Float, nan, inf, fin, isNan, binary64, sub, mul, lt}
+use Rattle.float.specs.Arithmetic.{number, minusZero, plusZero, maxOf}
+use Rattle.float.specs.declared.Four.{Four}
 use Rattle.rows.specs.Rows.{putPart, rowOf}
 use Rattle.vector.specs.Vectors.{dotOf, normOf, unitVector}
 use Rattle.rows.proofs.Rows.{row-within, length-part, part-put}
 use Rattle.vector.specs.Pick.{pickOf}
 use Rattle.vector.specs.declared.Picked.{Picked}
-use Rattle.vector.proofs.Vectors.{unit-length, pick-below}
+use Rattle.vector.proofs.Vectors.{dot-comm, unit-length, pick-below}
+use Rattle.bounds.specs.Nearest.{rowDots}
 use Rattle.lloyd.specs.Lloyd.{State, normsUpTo, startedFrom}
 use Rattle.lloyd.specs.Seeding.{angleOf, anglesUpTo, lowered, chances, seedsUpTo, seedsOf}
-use Rattle.lloyd.specs.Areas.{Area, Seeding, SeededNext, stateIn, total, scaleAt, lowAt, highAt, servedAt, driftAt, nextPick, putScale, putLow, putHigh, putCenter}
+use Rattle.lloyd.specs.Areas.{Area, Seeding, SeededNext, stateIn, total, scaleAt, lowAt, highAt, servedAt, driftAt, nextPick, putScale, putLow, putHigh, putCenter, fourAngles, lowerAt, lowerFour}
 use Rattle.lloyd.proofs.Regions.{withScale, withLow, withHigh, withServed, withDrift, withLabels, put-low-all, put-high-all, put-served-all, put-drift-all, put-labels-all, high-are, length-centers, set-scale, set-low, set-high, get-low, row-centers, put-row-centers, length-scale, length-low, length-high}
 
 -- a row as the code cuts it
@@ -107,37 +110,18 @@ pub angle-done : (m k d : ℕ) (w coords : List Float) (u : List ℕ) (c i : ℕ
     → r ≡ angleOf (rowOf coords d i) (rowOf (stateIn m k d w u .centers) d c)
 angle-done m k d w coords u c i h p r e f = f ∙ rw (e, row-cut coords d i, row-cut w d c, row-centers m k d w u c h)
 
--- the distances from the first centre
-angles-length : (coords : List Float) (d : ℕ) (row : List Float) (n : ℕ) → length (anglesUpTo coords d row n) ≡ n
-unfolding anglesUpTo
-angles-length coords d row zero = refl
-angles-length coords d row (suc n) = length-append (anglesUpTo coords d row n) (angleOf (rowOf coords d n) row ∷ []) ∙ omega (arith, angles-length coords d row n)
-
-abbrev pub distanced : List Float → ℕ → ℕ → State → State
-distanced coords d i s = putLow (anglesUpTo coords d (rowOf (s .centers) d 0) i ++ drop i (s .low)) s
-
-pub angles-start : (coords : List Float) (d : ℕ) (s : State) → s ≡ distanced coords d 0 s
-unfolding putLow anglesUpTo
-angles-start coords d s = refl
-
-module _ (m k d : ℕ) (w₀ coords : List Float) (u : List ℕ) (long : total m k d ≤ length w₀) where
-  pub angles-turn : (w : List Float) (i : ℕ) (v : Float) → i < m → v ≡ angleOf (rowOf coords d i) (rowOf (stateIn m k d w u .centers) d 0)
-      → stateIn m k d w u ≡ distanced coords d i (stateIn m k d w₀ u) → stateIn m k d (set w (lowAt m k d + i) v) u ≡ distanced coords d (i + 1) (stateIn m k d w₀ u)
-  unfolding putLow anglesUpTo
-  angles-turn w i v h e f =
-      let s = stateIn m k d w₀ u in
-      let row = rowOf (s .centers) d 0 in
-      let g : v ≡ angleOf (rowOf coords d i) row = e ∙ ap (λ (t : State). angleOf (rowOf coords d i) (rowOf (t .centers) d 0)) f in
-      let more : anglesUpTo coords d row i ++ (v ∷ []) ≡ anglesUpTo coords d row (i + 1) = rw (add-one, g) in
-      low-turn m k d w u s (anglesUpTo coords d row i) i v h (angles-length coords d row i) (length-low m k d w₀ u long) f
-      ∙ ap (λ (x : List Float). putLow (x ++ drop (i + 1) (s .low)) s) more
-
-  pub angles-end : (w : List Float) (i : ℕ) → i ≡ m → stateIn m k d w u ≡ distanced coords d i (stateIn m k d w₀ u)
-      → stateIn m k d w u ≡ putLow (anglesUpTo coords d (rowOf (stateIn m k d w₀ u .centers) d 0) m) (stateIn m k d w₀ u)
-  angles-end w i e f =
-      let s = stateIn m k d w₀ u in
-      f ∙ ap (λ (n : ℕ). distanced coords d n s) e
-      ∙ ap (λ (x : List Float). putLow x s) (front-end (anglesUpTo coords d (rowOf (s .centers) d 0) m) (s .low) m (length-low m k d w₀ u long))
+-- four of them, the centre's row being the first of each dot
+pub four-done : (m k d : ℕ) (w coords : List Float) (u : List ℕ) (c i : ℕ) → c < k → (f : Four) (p q r t : Float)
+    → f ≡ rowDots (take (c * d + d - c * d) (drop (c * d) w)) coords d i → p ≡ maxOf (sub binary64 (number 1) (f .a)) plusZero
+    → q ≡ maxOf (sub binary64 (number 1) (f .b)) plusZero → r ≡ maxOf (sub binary64 (number 1) (f .c)) plusZero → t ≡ maxOf (sub binary64 (number 1) (f .e)) plusZero
+    → _≡_ {A = Four} (record { a = p; b = q; c = r; e = t }) (fourAngles coords d (rowOf (stateIn m k d w u .centers) d c) i)
+four-done m k d w coords u c i h f p q r t e ep eq er et =
+    let row = rowOf (stateIn m k d w u .centers) d c in
+    let g : take (c * d + d - c * d) (drop (c * d) w) ≡ row = row-cut w d c ∙ row-centers m k d w u c h in
+    let dots : f ≡ rowDots row coords d i = rw g at e in
+    let turned : (n : ℕ) (x y : Float) → x ≡ maxOf (sub binary64 (number 1) y) plusZero → y ≡ dotOf row (rowOf coords d n) → x ≡ angleOf (rowOf coords d n) row =
+    λ n x y ex ey. ex ∙ rw (ey, dot-comm minusZero row (rowOf coords d n)) in
+    rw (turned i p (f .a) ep (ap (λ (v : Four). v .a) dots), turned (i + 1) q (f .b) eq (ap (λ (v : Four). v .b) dots), turned (i + 2) r (f .c) er (ap (λ (v : Four). v .c) dots), turned (i + 3) t (f .e) et (ap (λ (v : Four). v .e) dots))
 
 -- the distances lowered where a further centre is nearer
 lowered-length : (coords : List Float) (d : ℕ) (row : List Float) (j : ℕ) (xs : List Float) → length (lowered coords d row j xs) ≡ length xs
@@ -159,33 +143,92 @@ pub lowering-start : (coords : List Float) (d c : ℕ) (s : State) → s ≡ low
 unfolding putLow
 lowering-start coords d c s = refl
 
-module _ (m k d : ℕ) (w₀ coords : List Float) (u : List ℕ) (c : ℕ) (long : total m k d ≤ length w₀) where
-  pub lowering-turn : (w : List Float) (i : ℕ) (v x : Float) → i < m → v ≡ angleOf (rowOf coords d i) (rowOf (stateIn m k d w u .centers) d c)
-      → x ≡ cond (lt v (getD w (lowAt m k d + i) nan)) v (getD w (lowAt m k d + i) nan)
-      → stateIn m k d w u ≡ lowering coords d c i (stateIn m k d w₀ u) → stateIn m k d (set w (lowAt m k d + i) x) u ≡ lowering coords d c (i + 1) (stateIn m k d w₀ u)
-  unfolding putLow
-  lowering-turn w i v x h e ex f =
-      let s = stateIn m k d w₀ u in
+-- what a loop over the leaves from i₀ to i does: where those before i₀ are lowered, those before i are
+abbrev pub LoweredFrom : ℕ → ℕ → ℕ → List Float → ℕ → List Float → ℕ → List Float → ℕ → Type 0
+LoweredFrom m k d coords c w₀ i₀ w i =
+    (u : List ℕ) (s : State) → length (s .low) ≡ m → stateIn m k d w₀ u ≡ lowering coords d c i₀ s → stateIn m k d w u ≡ lowering coords d c i s
+
+module _ (m k d : ℕ) (coords : List Float) (u : List ℕ) (c : ℕ) (s : State) (ls : length (s .low) ≡ m) where
+  lowering-next : (w : List Float) (i at : ℕ) (v : Float) → i < m → at ≡ lowAt m k d + i → v ≡ angleOf (rowOf coords d i) (rowOf (s .centers) d c)
+      → stateIn m k d w u ≡ lowering coords d c i s → stateIn m k d (lowerAt w at v) u ≡ lowering coords d c (i + 1) s
+  unfolding putLow lowerAt
+  lowering-next w i at v h ea g f =
       let row = rowOf (s .centers) d c in
       let new = lowered coords d row 0 (s .low) in
-      let ls : length (s .low) ≡ m = length-low m k d w₀ u long in
+      let held = getD w (lowAt m k d + i) nan in
+      let x = cond (lt v held) v held in
       let ln : length new ≡ m = lowered-length coords d row 0 (s .low) ∙ ls in
       let lp : length (take i new) ≡ i = length-take-le i new (omega arith) in
-      let g : v ≡ angleOf (rowOf coords d i) row = e ∙ ap (λ (t : State). angleOf (rowOf coords d i) (rowOf (t .centers) d c)) f in
-      let y : getD w (lowAt m k d + i) nan ≡ getD (s .low) i nan =
+      let y : held ≡ getD (s .low) i nan =
       get-low m k d w u i nan h ∙ ap (λ (t : State). getD (t .low) i nan) f ∙ front-next (take i new) (s .low) i lp (omega arith) in
-      let at : x ≡ getD new i nan = ex ∙ rw (y, g) (sym (lowered-at coords d row (s .low) 0 i i (omega arith) (omega arith))) in
-      let more : take i new ++ (x ∷ []) ≡ take (i + 1) new = rw (add-one, at) (sym (take-suc new i nan (omega arith))) in
-      low-turn m k d w u s (take i new) i x h lp ls f ∙ ap (λ (r : List Float). putLow (r ++ drop (i + 1) (s .low)) s) more
+      let is : x ≡ getD new i nan = rw (y, g) (sym (lowered-at coords d row (s .low) 0 i i (omega arith) (omega arith))) in
+      let more : take i new ++ (x ∷ []) ≡ take (i + 1) new = rw (add-one, is) (sym (take-suc new i nan (omega arith))) in
+      rw ea (low-turn m k d w u s (take i new) i x h lp ls f) ∙ ap (λ (r : List Float). putLow (r ++ drop (i + 1) (s .low)) s) more
 
-  pub lowering-end : (w : List Float) (i : ℕ) → i ≡ m → stateIn m k d w u ≡ lowering coords d c i (stateIn m k d w₀ u)
-      → stateIn m k d w u ≡ putLow (lowered coords d (rowOf (stateIn m k d w₀ u .centers) d c) 0 (stateIn m k d w₀ u .low)) (stateIn m k d w₀ u)
+  -- a leaf, and four leaves, whose angles are taken from the area as it is
+  pub lowering-turn : (w : List Float) (i : ℕ) (v : Float) → i < m → v ≡ angleOf (rowOf coords d i) (rowOf (stateIn m k d w u .centers) d c)
+      → stateIn m k d w u ≡ lowering coords d c i s → stateIn m k d (lowerAt w (lowAt m k d + i) v) u ≡ lowering coords d c (i + 1) s
+  unfolding putLow
+  lowering-turn w i v h e f =
+      lowering-next w i (lowAt m k d + i) v h refl (e ∙ ap (λ (t : State). angleOf (rowOf coords d i) (rowOf (t .centers) d c)) f) f
+
+  pub lowering-four : (w : List Float) (i : ℕ) (f : Four) → i + 4 ≤ m → f ≡ fourAngles coords d (rowOf (stateIn m k d w u .centers) d c) i
+      → stateIn m k d w u ≡ lowering coords d c i s → stateIn m k d (lowerFour w (lowAt m k d + i) f) u ≡ lowering coords d c (i + 4) s
+  unfolding putLow
+  lowering-four w i f h e g =
+      let at = lowAt m k d + i in
+      let e' : f ≡ fourAngles coords d (rowOf (s .centers) d c) i = e ∙ ap (λ (t : State). fourAngles coords d (rowOf (t .centers) d c) i) g in
+      let p₂ : i + 1 + 1 ≡ i + 2 = omega arith in
+      let p₃ : i + 2 + 1 ≡ i + 3 = omega arith in
+      let p₄ : i + 3 + 1 ≡ i + 4 = omega arith in
+      let w₁ = lowerAt w at (f .a) in
+      let w₂ = lowerAt w₁ (at + 1) (f .b) in
+      let w₃ = lowerAt w₂ (at + 2) (f .c) in
+      let t₁ = lowering-next w i at (f .a) (omega arith) refl (ap (λ (v : Four). v .a) e') g in
+      let t₂ = lowering-next w₁ (i + 1) (at + 1) (f .b) (omega arith) (omega arith) (ap (λ (v : Four). v .b) e') t₁ ∙ ap (λ (n : ℕ). lowering coords d c n s) p₂ in
+      let t₃ = lowering-next w₂ (i + 2) (at + 2) (f .c) (omega arith) (omega arith) (ap (λ (v : Four). v .c) e') t₂ ∙ ap (λ (n : ℕ). lowering coords d c n s) p₃ in
+      lowering-next w₃ (i + 3) (at + 3) (f .e) (omega arith) (omega arith) (ap (λ (v : Four). v .e) e') t₃ ∙ ap (λ (n : ℕ). lowering coords d c n s) p₄
+
+  pub lowering-end : (w : List Float) (i : ℕ) → i ≡ m → stateIn m k d w u ≡ lowering coords d c i s
+      → stateIn m k d w u ≡ putLow (lowered coords d (rowOf (s .centers) d c) 0 (s .low)) s
   lowering-end w i e f =
-      let s = stateIn m k d w₀ u in
       let new = lowered coords d (rowOf (s .centers) d c) 0 (s .low) in
-      let ls : length (s .low) ≡ m = length-low m k d w₀ u long in
       let ln : length new ≤ m = omega (arith, lowered-length coords d (rowOf (s .centers) d c) 0 (s .low)) in
       f ∙ ap (λ (n : ℕ). lowering coords d c n s) e ∙ ap (λ (x : List Float). putLow x s) (front-end (take m new) (s .low) m ls ∙ take-all m new ln)
+
+-- infinite distances lowered are the distances: an angle is at most an infinite one, and no NaN
+below-inf : (t : Bool) (s : Bool) (m : ℕ) (e : ℤ) → let v = cond t plusZero (fin s m e) in cond (lt v (inf false)) v (inf false) ≡ v
+unfolding lt
+below-inf true s m e = refl
+below-inf false s m e = refl
+
+nearer-inf : (x : Float) → let v = maxOf x plusZero in cond (lt v (inf false)) v (inf false) ≡ v
+unfolding lt maxOf isNan
+nearer-inf nan = refl
+nearer-inf (inf true) = refl
+nearer-inf (inf false) = refl
+nearer-inf (fin s m e) = below-inf (lt (fin s m e) plusZero) s m e
+
+lowered-inf : (coords : List Float) (d : ℕ) (row : List Float) (i n : ℕ) → anglesUpTo coords d row i ++ lowered coords d row i (replicate n (inf false)) ≡ anglesUpTo coords d row (i + n)
+unfolding anglesUpTo lowered
+lowered-inf coords d row i zero = rw (append-nil, add-zero)
+lowered-inf coords d row i (suc n) =
+    let a = angleOf (rowOf coords d i) row in
+    let p : suc i + n ≡ i + suc n = omega arith in
+    rw (nearer-inf (sub binary64 (number 1) (dotOf (rowOf coords d i) row)))
+    (sym (append-assoc (anglesUpTo coords d row i) (a ∷ []) (lowered coords d row (suc i) (replicate n (inf false)))) ∙ lowered-inf coords d row (suc i) n ∙ ap (anglesUpTo coords d row) p)
+
+pub first-done : (m k d : ℕ) (w w₁ w₂ coords : List Float) (u : List ℕ) → total m k d ≤ length w → w₁ ≡ putPart w (lowAt m k d) m (replicate m (inf false))
+    → stateIn m k d w₂ u ≡ putLow (lowered coords d (rowOf (stateIn m k d w₁ u .centers) d 0) 0 (stateIn m k d w₁ u .low)) (stateIn m k d w₁ u)
+    → stateIn m k d w₂ u ≡ putLow (anglesUpTo coords d (rowOf (stateIn m k d w u .centers) d 0) m) (stateIn m k d w u)
+unfolding putLow anglesUpTo
+first-done m k d w w₁ w₂ coords u t e f =
+    let s = stateIn m k d w u in
+    let far = replicate m (inf false) in
+    let p : 0 + m ≡ m = omega arith in
+    let s₁ : stateIn m k d w₁ u ≡ withLow far s = rw e (put-low-all m k d w u far (length-replicate m (inf false)) t) in
+    f ∙ ap (λ (x : State). putLow (lowered coords d (rowOf (x .centers) d 0) 0 (x .low)) x) s₁
+    ∙ ap (λ (x : List Float). putLow x s) (lowered-inf coords d (rowOf (s .centers) d 0) 0 m ∙ ap (anglesUpTo coords d (rowOf (s .centers) d 0)) p)
 
 -- ---- the chances of the leaves
 chances-length : (ws xs : List Float) → length ws ≡ length xs → length (chances ws xs) ≡ length xs

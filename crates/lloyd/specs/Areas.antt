@@ -11,9 +11,10 @@ use Rattle.vector.specs.declared.Picked.{Picked}
 use Rattle.vector.specs.Vectors.{dotOf, argminOf, unitVector}
 use lib.Dec.{eqb, ltb}
 use Rattle.float.specs.Arithmetic.{plusZero}
+use Rattle.float.specs.declared.Four.{Four}
 use Rattle.bounds.specs.declared.Bounds.{Bounds}
 use Rattle.bounds.specs.Shifts.{shiftedBounds, skips}
-use Rattle.lloyd.specs.Seeding.{lowered, chances}
+use Rattle.lloyd.specs.Seeding.{angleOf, lowered, chances}
 use Rattle.lloyd.specs.Results.{Result}
 use Rattle.lloyd.specs.Lloyd.{State, Update, Pass, Run, passOf, endsAt, updateOf, boundsAt, bestOf, putBest, addLeaf, countOne, sumsUpTo, countsUpTo, putServed, moveCenter, centerBy, updateUpTo}
 use Rattle.lloyd.specs.declared.Passed.{Passed}
@@ -106,6 +107,25 @@ pub record Area (work m k d : ℕ) : Type 0 where
   pub k-small : k ≤ 64
   pub kd-small : k * d ≤ 16384
   pub work-long : total m k d ≤ work
+
+-- ---- the distances of the seeding
+
+-- how far leaves i to i + 3 are from a centre
+abbrev pub fourAngles : List Float → ℕ → List Float → ℕ → Four
+fourAngles coords d c i =
+    record {
+      a = angleOf (rowOf coords d i) c;
+      b = angleOf (rowOf coords d (i + 1)) c;
+      c = angleOf (rowOf coords d (i + 2)) c;
+      e = angleOf (rowOf coords d (i + 3)) c;
+    }
+
+-- the element at a place lowered where v is below it, and four from it on
+unfoldable pub lowerAt : List Float → ℕ → Float → List Float
+lowerAt w at v = set w at (cond (lt v (getD w at nan)) v (getD w at nan))
+
+abbrev pub lowerFour : List Float → ℕ → Four → List Float
+lowerFour w at f = lowerAt (lowerAt (lowerAt (lowerAt w at (f .a)) (at + 1) (f .b)) (at + 2) (f .c)) (at + 3) (f .e)
 
 -- ---- what a leaf's turn in a pass does, and how it is counted
 

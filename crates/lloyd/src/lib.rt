@@ -16,7 +16,7 @@ ghost use Rattle.lloyd.specs.Cohesion.{cohesionOf};
 ghost use Rattle.lloyd.specs.Results.{resultOf};
 ghost use Rattle.float.specs.Arithmetic.{plusZero, sumFrom};
 ghost use Rattle.vector.specs.Vectors.{unitVector};
-ghost use Rattle.lloyd.specs.Areas.{stateIn, sumsIn, countsIn, Sized, LeafOf, GroupOf, Labelled, Area, Spent, LeafPassed, tallied, Gains, Gained, Accumulated, serveLeaf, LaterRows, occursUpTo, Reseeded, GroupUpdated, CountsAtMost, Updated, Settled, RoundDone, freshRun, Lloyded, putScale, putLow, putHigh, putCenter, Seeding, SeededNext, Runnable, RunDone, RunLeft};
+ghost use Rattle.lloyd.specs.Areas.{stateIn, sumsIn, countsIn, Sized, LeafOf, GroupOf, Labelled, Area, Spent, LeafPassed, tallied, Gains, Gained, Accumulated, serveLeaf, LaterRows, occursUpTo, Reseeded, GroupUpdated, CountsAtMost, Updated, Settled, RoundDone, freshRun, Lloyded, putScale, putLow, putHigh, putCenter, fourAngles, lowerAt, lowerFour, Seeding, SeededNext, Runnable, RunDone, RunLeft};
 
 // ---- the bounds of a leaf
 
@@ -701,19 +701,27 @@ fn angle(work: &[f64], coords: &[f64], c: usize, i: usize, m: usize, k: usize, d
     )
 }
 
-// The distance of each leaf from the first centre.
-fn first_distances(work: &mut [f64], coords: &[f64], m: usize, k: usize, d: usize)
-    requires { ⌜ (Area (length (now work)) m k d) × (length (now coords) ≡ m * d) × (m * d ≤ 1048576) × (0 < k) ⌝ }
-    ensures { λ _. ⌜ ((u : List ℕ) → stateIn m k d (now (work .exit)) u
-        ≡ putLow (anglesUpTo (now (coords .entry)) d (rowOf (stateIn m k d (now (work .entry)) u .centers) d 0) m) (stateIn m k d (now (work .entry)) u)) ⌝ }
+// How far leaves i to i + 3 are from centre c.
+fn four_angles(
+    work: &[f64],
+    coords: &[f64],
+    c: usize,
+    i: usize,
+    m: usize,
+    k: usize,
+    d: usize,
+) -> float::Four
+    requires { ⌜ (Area (length (now work)) m k d) × (length (now coords) ≡ m * d) × (m * d ≤ 1048576) ⌝ }
+    requires { ⌜ ((i + 4) * d ≤ m * d) × (GroupOf c k d) ⌝ }
+    ensures { λ r. ⌜ ((u : List ℕ) → r ≡ fourAngles (now (coords .entry)) d (rowOf (stateIn m k d (now (work .entry)) u .centers) d c) i) ⌝ }
 {
-    let kd = k * d;
-    let low = kd + kd + m;
-    let mut i = 0;
-    while i < m {
-        let v = angle(work, coords, 0, i, m, k, d);
-        work[low + i] = v;
-        i += 1;
+    let row = c * d;
+    let f = bounds::row_dots(&work[row..row + d], coords, i, d);
+    float::Four {
+        a: float::max(1.0 - f.a, 0.0),
+        b: float::max(1.0 - f.b, 0.0),
+        c: float::max(1.0 - f.c, 0.0),
+        e: float::max(1.0 - f.e, 0.0),
     }
 }
 
@@ -724,7 +732,26 @@ fn nearer(v: f64, held: f64) -> f64
     if v < held { v } else { held }
 }
 
-// The distance of each leaf lowered where centre c is nearer.
+// A distance lowered where the new one is smaller.
+fn lower_at(work: &mut [f64], at: usize, v: f64)
+    requires { ⌜ at < length (now work) ⌝ }
+    ensures { λ _. ⌜ now (work .exit) ≡ lowerAt (now (work .entry)) at v ⌝ }
+{
+    work[at] = nearer(v, work[at]);
+}
+
+// Four distances likewise.
+fn lower_four(work: &mut [f64], at: usize, f: float::Four)
+    requires { ⌜ at + 4 ≤ length (now work) ⌝ }
+    ensures { λ _. ⌜ now (work .exit) ≡ lowerFour (now (work .entry)) at f ⌝ }
+{
+    lower_at(work, at, f.a);
+    lower_at(work, at + 1, f.b);
+    lower_at(work, at + 2, f.c);
+    lower_at(work, at + 3, f.e);
+}
+
+// The distance of each leaf lowered where centre c is nearer: by fours, then singly.
 fn lower_distances(work: &mut [f64], coords: &[f64], c: usize, m: usize, k: usize, d: usize)
     requires { ⌜ (Area (length (now work)) m k d) × (length (now coords) ≡ m * d) × (m * d ≤ 1048576) ⌝ }
     requires { ⌜ GroupOf c k d ⌝ }
@@ -734,11 +761,27 @@ fn lower_distances(work: &mut [f64], coords: &[f64], c: usize, m: usize, k: usiz
     let kd = k * d;
     let low = kd + kd + m;
     let mut i = 0;
+    while 4 <= m - i {
+        let f = four_angles(work, coords, c, i, m, k, d);
+        lower_four(work, low + i, f);
+        i += 4;
+    }
     while i < m {
         let v = angle(work, coords, c, i, m, k, d);
-        work[low + i] = nearer(v, work[low + i]);
+        lower_at(work, low + i, v);
         i += 1;
     }
+}
+
+// The distance of each leaf from the first centre, lowered from an infinite one.
+fn first_distances(work: &mut [f64], coords: &[f64], m: usize, k: usize, d: usize)
+    requires { ⌜ (Area (length (now work)) m k d) × (length (now coords) ≡ m * d) × (m * d ≤ 1048576) × (0 < k) ⌝ }
+    ensures { λ _. ⌜ ((u : List ℕ) → stateIn m k d (now (work .exit)) u
+        ≡ putLow (anglesUpTo (now (coords .entry)) d (rowOf (stateIn m k d (now (work .entry)) u .centers) d 0) m) (stateIn m k d (now (work .entry)) u)) ⌝ }
+{
+    let kd = k * d;
+    fill_at(work, kd + kd + m, m, 1.0 / 0.0);
+    lower_distances(work, coords, 0, m, k, d);
 }
 
 // Weight times distance, leaf by leaf.

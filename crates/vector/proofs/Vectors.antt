@@ -4,13 +4,13 @@ use mathlib.Core.Path.{_≡_, refl, ap, sym, _∙_}
 use mathlib.Core.List.{List, [], _∷_, _++_, append-assoc, append-nil}
 use mathlib.Core.Bool.{Bool, true, false, cond}
 use mathlib.Core.Logic.{⊎-elim}
-use Prim.Native.Nat.{ℕ, zero, suc, _+_, _-_, _%_, _≤_, _<_, min, max}
-use native.Mathlib.Nat.{mod-lt}
+use Prim.Native.Nat.{ℕ, zero, suc, _+_, _-_, _*_, _%_, _≤_, _<_, min, max}
+use native.Mathlib.Nat.{mod-lt, mul-comm}
 use native.Mathlib.Numerals.{add-one}
 use native.Mathlib.Omega.{arith}
 use lib.ListN.{length, getD, take, drop, set, replicate, replicate-append-replicate, drop-of-length-le, take-append-drop}
 use lib.Seq.{drop-cons, take-suc, take-suc-set, drop-set-lt, take-all}
-use lib.Ieee.{Float, nan, binary64, add, sub, mul, div, lt, le}
+use lib.Ieee.{Float, nan, inf, fin, unlike, up, down, binary64, add, sub, mul, div, lt, le}
 use Rattle.float.specs.Arithmetic.{minusZero, plusZero, sumFrom, dotFrom}
 use Rattle.float.proofs.Order.{lt-or-ge}
 use Rattle.rng.specs.SplitMix.{stepOf, mixOf, unitOf}
@@ -40,6 +40,30 @@ module _ (s : Float) (a b : List Float) (j : ℕ) where
       ⊎-elim (λ (l : j < length a). let g : length b ≤ j = omega arith in rw (drop-of-length-le b g) (dot-nil s (drop j a)))
       (λ (g : length a ≤ j). rw (drop-of-length-le a g))
       (lt-or-ge j (length a))
+
+-- products, and so dot products, are the same either way round
+unlike-comm : (s t : Bool) → unlike s t ≡ unlike t s
+unlike-comm true true = refl
+unlike-comm true false = refl
+unlike-comm false true = refl
+unlike-comm false false = refl
+
+times-comm : (x y : Float) → mul binary64 x y ≡ mul binary64 y x
+unfolding mul
+times-comm nan nan = refl
+times-comm nan (inf t) = refl
+times-comm nan (fin t n d) = refl
+times-comm (inf s) nan = refl
+times-comm (inf s) (inf t) = rw (unlike-comm s t)
+times-comm (inf s) (fin t n d) = rw (unlike-comm s t)
+times-comm (fin s m e) nan = refl
+times-comm (fin s m e) (inf t) = rw (unlike-comm s t)
+times-comm (fin s m e) (fin t n d) = rw (unlike-comm s t, mul-comm (m * up e) (n * up d), mul-comm (down e) (down d))
+
+pub dot-comm : (s : Float) (a b : List Float) → dotFrom s a b ≡ dotFrom s b a
+dot-comm s [] b = sym (dot-nil s b)
+dot-comm s (x ∷ a) [] = refl
+dot-comm s (x ∷ a) (y ∷ b) = rw (times-comm x y) (dot-comm (add binary64 s (mul binary64 y x)) a b)
 
 -- a list divided by n
 module _ (n : Float) (l from : List Float) (j : ℕ) where
