@@ -1,6 +1,6 @@
 -- Laws of the definitions of specs/Vectors.antt and specs/Pick.antt, one for a turn of the loop that computes each and one for its end. A sum, a dot product
 -- and a pick go by what is left of the list, a store by what is done beside what is left, a place by the turns done. Assumes nothing.
-use mathlib.Core.Path.{_≡_, refl, ap, sym, _∙_}
+use mathlib.Core.Path.{_≡_, refl, ap, sym}
 use mathlib.Core.List.{List, [], _∷_, _++_, append-assoc, append-nil}
 use mathlib.Core.Bool.{Bool, true, false, cond}
 use mathlib.Core.Logic.{⊎-elim}
@@ -8,8 +8,8 @@ use Prim.Native.Nat.{ℕ, zero, suc, _+_, _-_, _*_, _%_, _≤_, _<_, min, max}
 use native.Mathlib.Nat.{mod-lt, mul-comm}
 use native.Mathlib.Numerals.{add-one}
 use native.Mathlib.Omega.{arith}
-use lib.ListN.{length, getD, take, drop, set, replicate, replicate-append-replicate, drop-of-length-le, take-append-drop}
-use lib.Seq.{drop-cons, take-suc, take-suc-set, drop-set-lt, take-all}
+use lib.ListN.{length, getD, take, drop, set, drop-of-length-le, take-append-drop}
+use lib.Seq.{drop-cons, take-suc-set, drop-set-lt, take-all}
 use lib.Ieee.{Float, nan, inf, fin, unlike, up, down, binary64, add, sub, mul, div, lt, le}
 use Rattle.float.specs.Arithmetic.{minusZero, plusZero, sumFrom, dotFrom}
 use Rattle.float.proofs.Order.{lt-or-ge}
