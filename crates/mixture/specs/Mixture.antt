@@ -10,6 +10,7 @@ use Rattle.rows.specs.Rows.{rowOf, putPart}
 use Rattle.vector.specs.Vectors.{dotOf}
 use Rattle.lloyd.specs.Lloyd.{addLeaf, normsUpTo, centerBy}
 use Rattle.softmax.specs.Softmax.{logSumExp, sharesOf}
+use Rattle.groups.specs.Groups.{baseOf}
 use Rattle.groups.specs.Kappas.{tabulate, kappasOf}
 use Rattle.groups.specs.declared.Kappa.{Kappa}
 

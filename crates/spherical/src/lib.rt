@@ -9,7 +9,7 @@ ghost use Rattle.lloyd.specs.Results.{resultOf};
 ghost use Rattle.spherical.specs.Restarts.{kmeansOf};
 ghost use Rattle.spherical.specs.Refusals.{arraysOk, refusalOf};
 ghost use Rattle.spherical.specs.Outcome.{Outcome, outcome};
-ghost use Rattle.limits.specs.Halves.{half};
+ghost use Rattle.limits.specs.Halves.{half, heldAt};
 ghost use Rattle.spherical.specs.Halves.{stateAt, Roomy, Tried, TriedAgain, Holds, HeldSmall, Addable, keptHeld, Fillable};
 
 // ---- what is refused
