@@ -1,6 +1,6 @@
 -- Laws of a block of leaves, over plain lists: what the inner functions promise, row by row, makes the shares and the log-likelihood of specs/Softmax.antt. Assumes
 -- nothing.
-use mathlib.Core.Path.{_≡_, refl, sym, ap, ap₂, _∙_}
+use mathlib.Core.Path.{_≡_, refl, sym, ap, _∙_}
 use mathlib.Core.List.{List, _++_, map, append-assoc}
 use Prim.Native.Nat.{ℕ, _+_, _-_, _*_, _≤_, _<_}
 use native.Mathlib.Nat.{add-mul, mul-le-mul-right}
@@ -21,6 +21,13 @@ parts-alike a b at k g h =
     let e : at + k - at ≡ k = omega arith in
     record { same = rw e (length-part a at k g ∙ sym (length-part b at k h)) }
 
+-- a row softened where it stands, by what it is as the code cuts it
+pub leaf-done : (e rows v : List Float) (at k : ℕ) (r : Float) → r ≡ logSumOver (part rows at (at + k - at)) (part e at (at + k - at)) → v ≡ lessBy r (part rows at (at + k - at))
+    → (r ≡ logSumOver (part rows at k) (part e at k)) × (putPart e at (at + k - at) v ≡ putPart e at k (lessBy r (part rows at k)))
+leaf-done e rows v at k r p q =
+    let n : at + k - at ≡ k = omega arith in
+    (rw n at p, rw (q, n))
+
 module _ (k : ℕ) (rows : List Float) (m : ℕ) (long : length rows ≡ m * k) where
   -- a row less a number is k elements long
   less-row : (g : Float) (i : ℕ) → i < m → length (lessBy g (rowOf rows k i)) ≡ k
@@ -33,8 +40,7 @@ module _ (k : ℕ) (rows : List Float) (m : ℕ) (long : length rows ≡ m * k) 
       joined-turn (fromGreatestAt k rows) k i n e₀ e v (λ j g. less-row _ j (omega arith)) p q (r ∙ ap (λ (x : ℕ). fromGreatest (part rows (i * k) x)) p)
 
   -- a turn of `less_log_sums`
-  module _ (e₀ e : List Float) (i n : ℕ) (h : i < m) (p : n ≡ k) (q : e ≡ fromLogs k rows e₀ i ++ drop (i * k) e₀) (lse : Float)
-      (is : lse ≡ logSumOver (part rows (i * k) n) (part e (i * k) n)) where
+  module _ (e₀ e : List Float) (i : ℕ) (h : i < m) (q : e ≡ fromLogs k rows e₀ i ++ drop (i * k) e₀) (lse : Float) (is : lse ≡ logOverAt k rows e i) where
     logs-long : (j : ℕ) → j < i → length (fromLogAt k rows e₀ j) ≡ k
     logs-long j g = less-row _ j (omega arith)
 
@@ -42,12 +48,11 @@ module _ (k : ℕ) (rows : List Float) (m : ℕ) (long : length rows ≡ m * k) 
     log-row =
         let l = joined-length (fromLogAt k rows e₀) k i logs-long in
         let rest : drop (i * k) e ≡ drop (i * k) e₀ = ap (drop (i * k)) q ∙ drop-at (fromLogs k rows e₀ i) (drop (i * k) e₀) (i * k) l in
-        is ∙ rw (p, rest)
+        is ∙ rw rest
 
-    pub logs-turn : (v : List Float) → v ≡ lessBy lse (part rows (i * k) n) → putPart e (i * k) n v ≡ fromLogs k rows e₀ (i + 1) ++ drop ((i + 1) * k) e₀
+    pub logs-turn : (v : List Float) → v ≡ putPart e (i * k) k (lessBy lse (rowOf rows k i)) → v ≡ fromLogs k rows e₀ (i + 1) ++ drop ((i + 1) * k) e₀
     logs-turn v r =
-        joined-turn (fromLogAt k rows e₀) k i n e₀ e v logs-long p q
-        (r ∙ ap₂ (λ (x : Float) (y : ℕ). lessBy x (part rows (i * k) y)) log-row p)
+        r ∙ joined-turn (fromLogAt k rows e₀) k i k e₀ e (lessBy lse (rowOf rows k i)) logs-long refl q (ap (λ (x : Float). lessBy x (rowOf rows k i)) log-row)
 
   -- the whole block: e₁ is what the rows are less their greatest, e₂ has their exponentials
   module _ (e₀ e₁ e₂ : List Float) (first : e₁ ≡ fromGreatests k rows m ++ drop (m * k) e₀) (second : take (length rows) e₂ ≡ map expOf (take (length rows) e₁)) where

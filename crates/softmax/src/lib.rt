@@ -8,8 +8,8 @@ ghost use lib.ListN.{length, take, drop};
 ghost use lib.Ieee.{inf};
 ghost use Rattle.float.specs.Arithmetic.{plusZero};
 ghost use Rattle.exponential.specs.Exponential.{expOf};
-ghost use Rattle.rows.specs.Rows.{Alike};
-ghost use Rattle.softmax.specs.Softmax.{greatestFrom, sharesUpTo, logsUpTo, lessBy, fromGreatest, logSumOver, fromGreatests, fromLogs, logsOver, LeafRows, Block, Beside};
+ghost use Rattle.rows.specs.Rows.{Alike, putPart, rowOf};
+ghost use Rattle.softmax.specs.Softmax.{greatestFrom, sharesUpTo, logsUpTo, lessBy, fromGreatest, logSumOver, logOverAt, fromGreatests, fromLogs, logsOver, LeafRows, Block, Beside};
 
 // The greatest element, from -infinity; a NaN is passed over.
 fn greatest(row: &[f64]) -> f64
@@ -109,6 +109,15 @@ fn less_log_sum(e: &mut [f64], row: &[f64]) -> f64
     lse
 }
 
+// The same of leaf i among m, with its rows of e and of the rows.
+fn leaf_log_sum(e: &mut [f64], rows: &[f64], i: usize, m: usize, k: usize) -> f64
+    requires { ⌜ (i < m) × (Beside (length (now e)) (length (now rows)) m k) ⌝ }
+    ensures { λ r. ⌜ (r ≡ logOverAt k (now (rows .entry)) (now (e .entry)) i) × (now (e .exit) ≡ putPart (now (e .entry)) (i * k) k (lessBy r (rowOf (now (rows .entry)) k i))) ⌝ }
+{
+    let at = i * k;
+    less_log_sum(&mut e[at..at + k], &rows[at..at + k])
+}
+
 // The rows of e become the rows less their log-sums; l, with the weight of each leaf times its log-sum added in order.
 fn less_log_sums(e: &mut [f64], rows: &[f64], weights: &[f64], k: usize, l: f64) -> f64
     requires { ⌜ Beside (length (now e)) (length (now rows)) (length (now weights)) k ⌝ }
@@ -120,8 +129,7 @@ fn less_log_sums(e: &mut [f64], rows: &[f64], weights: &[f64], k: usize, l: f64)
     let mut left = m;
     while left > 0 {
         let i = m - left;
-        let at = i * k;
-        s = s + weights[i] * less_log_sum(&mut e[at..at + k], &rows[at..at + k]);
+        s = s + weights[i] * leaf_log_sum(e, rows, i, m, k);
         left -= 1;
     }
     s

@@ -5,10 +5,9 @@ use mathlib.Core.List.{_++_}
 use Prim.Native.Nat.{ℕ, _+_, _*_, _-_, _≤_, _<_}
 use native.Mathlib.Omega.{arith}
 use lib.ListN.{length, drop}
-use Rattle.rows.proofs.Rows.{row-within}
 use Rattle.softmax.specs.Softmax.{logOverAt, fromLogAt, fromLogs, logsOver}
 use Rattle.softmax.proofs.Joined.{joined-none, weighed-none, weighed-turn}
-use Rattle.softmax.proofs.Blocks.{parts-alike, log-row, logs-turn}
+use Rattle.softmax.proofs.Blocks.{log-row, logs-turn}
 use borrow.Author.Needs.{needs}
 use Rattle.softmax.proofs.less_log_sums.Statement.{statement}
 use Rattle.softmax.proofs.less_log_sums.Tie as tie
@@ -34,63 +33,14 @@ loop-holds c =
 sub-i : tie.Need-sub-i Inv-loop μ-loop
 sub-i c = search needs
 
--- row i lies within e and within the rows
-row-in : (c : tie.In-loop Inv-loop μ-loop) → let l = c .before .loop in
-    let a = c .before .before .before .before .before .args in
-    ((length (a .weights .now) - l .left) * a .k + a .k ≤ length (a .rows .now)) × (length (a .rows .now) ≤ length (l .e)) × (length (a .rows .now) ≤ 256)
-row-in c =
-    let l = c .before .loop in
-    let s = c .before .before .before .before .before in
-    let a = s .args in
-    let m = length (a .weights .now) in
-    let h : m - l .left < m = omega (arith, c .loop-test .taken, l .inv .0) in
-    (omega (arith, row-within (m - l .left) m (a .k) h, s .pre .rows-long), omega (arith, l .inv .1, s .pre .e-long), s .pre .rows-small)
-
-mul-at : tie.Need-mul-at Inv-loop μ-loop
-mul-at c = omega (arith, row-in c)
-
 mul-s : tie.Need-mul-s Inv-loop μ-loop
 mul-s c = search needs
 
 shared-slice-read-s : tie.Need-shared-slice-read-s Inv-loop μ-loop
 shared-slice-read-s c = search needs
 
-add-less-log-sum : tie.Need-add-less-log-sum Inv-loop μ-loop
-add-less-log-sum c = omega (arith, row-in (c .before))
-
-mul-less-log-sum : tie.Need-mul-less-log-sum Inv-loop μ-loop
-mul-less-log-sum c = omega (arith, row-in (c .before))
-
-sub-less-log-sum : tie.Need-sub-less-log-sum Inv-loop μ-loop
-sub-less-log-sum c = search needs
-
-part-less-log-sum-start : tie.Need-part-less-log-sum-start Inv-loop μ-loop
-part-less-log-sum-start c = omega (arith, row-in (c .before))
-
-part-less-log-sum-end : tie.Need-part-less-log-sum-end Inv-loop μ-loop
-part-less-log-sum-end c = omega (arith, row-in (c .before))
-
-add-less-log-sum-2 : tie.Need-add-less-log-sum-2 Inv-loop μ-loop
-add-less-log-sum-2 c = omega (arith, row-in (c .before .before))
-
-mul-less-log-sum-2 : tie.Need-mul-less-log-sum-2 Inv-loop μ-loop
-mul-less-log-sum-2 c = omega (arith, row-in (c .before .before))
-
-sub-less-log-sum-2 : tie.Need-sub-less-log-sum-2 Inv-loop μ-loop
-sub-less-log-sum-2 c = search needs
-
-part-less-log-sum-start-2 : tie.Need-part-less-log-sum-start-2 Inv-loop μ-loop
-part-less-log-sum-start-2 c = omega (arith, row-in (c .before .before))
-
-part-less-log-sum-end-2 : tie.Need-part-less-log-sum-end-2 Inv-loop μ-loop
-part-less-log-sum-end-2 c = omega (arith, row-in (c .before .before))
-
-less-log-sum-requires : tie.Need-less-log-sum-requires Inv-loop μ-loop
-less-log-sum-requires c κs =
-    let l = c .before .before .before .before .loop in
-    let a = c .before .before .before .before .before .before .before .before .args in
-    let r = row-in (c .before .before .before) in
-    parts-alike (l .e) (a .rows .now) ((length (a .weights .now) - l .left) * a .k) (a .k) (omega arith) (r .0)
+leaf-log-sum-requires : tie.Need-leaf-log-sum-requires Inv-loop μ-loop
+leaf-log-sum-requires c κs = search needs
 
 sub-left : tie.Need-sub-left Inv-loop μ-loop
 sub-left c = search needs
@@ -100,23 +50,21 @@ loop-less c = search needs
 
 loop-again : tie.Need-loop-again Inv-loop μ-loop
 loop-again c =
-    let g = c .before .before .less-log-sum in
-    let l = c .before .before .before .before .before .before .before .loop in
-    let s = c .before .before .before .before .before .before .before .before .before .before .before in
+    let g = c .before .before .leaf-log-sum in
+    let l = c .before .before .before .before .before .before .loop in
+    let s = c .before .before .before .before .before .before .before .before .before .before in
     let a = s .args in
     let m = length (a .weights .now) in
     let i = m - l .left in
-    let at = i * a .k in
-    let h : i < m = omega (arith, c .before .before .before .before .before .before .loop-test .taken, l .inv .0) in
-    let n : at + a .k - at ≡ a .k = omega arith in
-    let f : i + 1 ≡ m - (l .left - 1) = omega (arith, c .before .before .before .before .before .before .loop-test .taken, l .inv .0) in
+    let h : i < m = omega (arith, c .before .before .before .before .before .loop-test .taken, l .inv .0) in
+    let f : i + 1 ≡ m - (l .left - 1) = omega (arith, c .before .before .before .before .before .loop-test .taken, l .inv .0) in
     let is : g .result ≡ logOverAt (a .k) (a .rows .now) (a .e .now) i =
-    log-row (a .k) (a .rows .now) m (s .pre .rows-long) (a .e .now) (l .e) i _ h n (l .inv .3) (g .result) (g .ensures .0) in (
+    log-row (a .k) (a .rows .now) m (s .pre .rows-long) (a .e .now) (l .e) i h (l .inv .3) (g .result) (g .ensures .0) in (
       omega (arith, l .inv .0),
       search needs,
       weighed-turn (logOverAt (a .k) (a .rows .now) (a .e .now)) (a .weights .now) (a .l) (l .s) (g .result) i (l .inv .2) is
           ∙ ap (logsOver (a .k) (a .rows .now) (a .e .now) (a .weights .now) (a .l)) f,
-      logs-turn (a .k) (a .rows .now) m (s .pre .rows-long) (a .e .now) (l .e) i _ h n (l .inv .3) (g .result) (g .ensures .0) (g .last .0) (g .ensures .1)
+      logs-turn (a .k) (a .rows .now) m (s .pre .rows-long) (a .e .now) (l .e) i h (l .inv .3) (g .result) (g .ensures .0) (g .last .0) (g .ensures .1)
           ∙ ap (λ (n : ℕ). fromLogs (a .k) (a .rows .now) (a .e .now) n ++ drop (n * a .k) (a .e .now)) f,
     )
 
@@ -141,20 +89,9 @@ less-log-sums-spec =
     μ-loop
     loop-holds
     sub-i
-    mul-at
     mul-s
     shared-slice-read-s
-    add-less-log-sum
-    mul-less-log-sum
-    sub-less-log-sum
-    part-less-log-sum-start
-    part-less-log-sum-end
-    add-less-log-sum-2
-    mul-less-log-sum-2
-    sub-less-log-sum-2
-    part-less-log-sum-start-2
-    part-less-log-sum-end-2
-    less-log-sum-requires
+    leaf-log-sum-requires
     sub-left
     loop-less
     loop-again
