@@ -23,7 +23,7 @@ use Rattle.bounds.specs.Nearest.{rowDots}
 use Rattle.lloyd.specs.Lloyd.{State, normsUpTo, startedFrom}
 use Rattle.lloyd.specs.Seeding.{angleOf, anglesUpTo, lowered, chances, seedsUpTo, seedsOf}
 use Rattle.lloyd.specs.Areas.{Area, Seeding, SeededNext, stateIn, total, scaleAt, lowAt, highAt, servedAt, driftAt, nextPick, putScale, putLow, putHigh, putCenter, fourAngles, lowerAt, lowerFour}
-use Rattle.lloyd.proofs.Regions.{withScale, withLow, withHigh, withServed, withDrift, withLabels, put-low-all, put-high-all, put-served-all, put-drift-all, put-labels-all, high-are, length-centers, set-scale, set-low, set-high, get-low, row-centers, put-row-centers, length-scale, length-low, length-high}
+use Rattle.lloyd.proofs.Regions.{withScale, withLow, withHigh, withServed, withDrift, withLabels, put-low-all, put-high-all, put-served-all, put-drift-all, put-labels-all, high-are, length-centers, set-scale, set-low, set-high, get-low, row-centers, put-row-centers, length-low, length-high}
 
 -- a row as the code cuts it
 pub row-cut : {A : Type 0} (l : List A) (d c : ℕ) → take (c * d + d - c * d) (drop (c * d) l) ≡ rowOf l d c
@@ -85,22 +85,34 @@ pub norms-start : (coords : List Float) (d : ℕ) (s : State) → s ≡ normed c
 unfolding putScale normsUpTo
 norms-start coords d s = refl
 
-module _ (m k d : ℕ) (w₀ coords : List Float) (u : List ℕ) (long : total m k d ≤ length w₀) where
-  pub norms-turn : (w : List Float) (i : ℕ) (v : Float) → i < m → v ≡ normOf (take (i * d + d - i * d) (drop (i * d) coords))
-      → stateIn m k d w u ≡ normed coords d i (stateIn m k d w₀ u) → stateIn m k d (set w (scaleAt m k d + i) v) u ≡ normed coords d (i + 1) (stateIn m k d w₀ u)
-  unfolding normsUpTo
-  norms-turn w i v h e f =
-      let s = stateIn m k d w₀ u in
-      let g : v ≡ normOf (rowOf coords d i) = e ∙ ap normOf (row-cut coords d i) in
-      let more : normsUpTo coords d i ++ (v ∷ []) ≡ normsUpTo coords d (i + 1) = rw (add-one, g) in
-      scale-turn m k d w u s (normsUpTo coords d i) i v h (norms-length coords d i) (length-scale m k d w₀ u long) f
-      ∙ ap (λ (x : List Float). putScale (x ++ drop (i + 1) (s .scale)) s) more
+-- what a loop over the leaves from i₀ to i does: where the scales of those before i₀ are their norms, those of the leaves before i are
+abbrev pub NormedFrom : ℕ → ℕ → ℕ → List Float → List Float → ℕ → List Float → ℕ → Type 0
+NormedFrom m k d coords w₀ i₀ w i =
+    (u : List ℕ) (s : State) → length (s .scale) ≡ m → stateIn m k d w₀ u ≡ normed coords d i₀ s → stateIn m k d w u ≡ normed coords d i s
 
-  pub norms-end : (w : List Float) (i : ℕ) → i ≡ m → stateIn m k d w u ≡ normed coords d i (stateIn m k d w₀ u)
-      → stateIn m k d w u ≡ putScale (normsUpTo coords d m) (stateIn m k d w₀ u)
-  norms-end w i e f =
-      let s = stateIn m k d w₀ u in
-      f ∙ ap (λ (n : ℕ). normed coords d n s) e ∙ ap (λ (x : List Float). putScale x s) (front-end (normsUpTo coords d m) (s .scale) m (length-scale m k d w₀ u long))
+module _ (m k d : ℕ) (coords : List Float) (u : List ℕ) (s : State) (ls : length (s .scale) ≡ m) where
+  norms-next : (w : List Float) (i at : ℕ) (v : Float) → i < m → at ≡ scaleAt m k d + i → v ≡ normOf (rowOf coords d i)
+      → stateIn m k d w u ≡ normed coords d i s → stateIn m k d (set w at v) u ≡ normed coords d (i + 1) s
+  unfolding normsUpTo
+  norms-next w i at v h ea g f =
+      let more : normsUpTo coords d i ++ (v ∷ []) ≡ normsUpTo coords d (i + 1) = rw (add-one, g) in
+      rw ea (scale-turn m k d w u s (normsUpTo coords d i) i v h (norms-length coords d i) ls f) ∙ ap (λ (x : List Float). putScale (x ++ drop (i + 1) (s .scale)) s) more
+
+  -- a leaf, whose row is as the code cuts it, and two leaves
+  pub norms-turn : (w : List Float) (i : ℕ) (v : Float) → i < m → v ≡ normOf (take (i * d + d - i * d) (drop (i * d) coords))
+      → stateIn m k d w u ≡ normed coords d i s → stateIn m k d (set w (scaleAt m k d + i) v) u ≡ normed coords d (i + 1) s
+  norms-turn w i v h e f = norms-next w i (scaleAt m k d + i) v h refl (e ∙ ap normOf (row-cut coords d i)) f
+
+  pub norms-two : (w : List Float) (i : ℕ) (v x : Float) → i + 2 ≤ m → v ≡ normOf (rowOf coords d i) → x ≡ normOf (rowOf coords d (i + 1))
+      → stateIn m k d w u ≡ normed coords d i s → stateIn m k d (set (set w (scaleAt m k d + i) v) (scaleAt m k d + i + 1) x) u ≡ normed coords d (i + 2) s
+  norms-two w i v x h ev ex f =
+      let p : i + 1 + 1 ≡ i + 2 = omega arith in
+      norms-next (set w (scaleAt m k d + i) v) (i + 1) (scaleAt m k d + i + 1) x (omega arith) (omega arith) ex
+      (norms-next w i (scaleAt m k d + i) v (omega arith) refl ev f)
+      ∙ ap (λ (n : ℕ). normed coords d n s) p
+
+  pub norms-end : (w : List Float) (i : ℕ) → i ≡ m → stateIn m k d w u ≡ normed coords d i s → stateIn m k d w u ≡ putScale (normsUpTo coords d m) s
+  norms-end w i e f = f ∙ ap (λ (n : ℕ). normed coords d n s) e ∙ ap (λ (x : List Float). putScale x s) (front-end (normsUpTo coords d m) (s .scale) m ls)
 
 -- ---- the distances
 

@@ -15,7 +15,7 @@ ghost use Rattle.lloyd.specs.Seeding.{angleOf, anglesUpTo, lowered, chan
 ghost use Rattle.lloyd.specs.Cohesion.{cohesionOf};
 ghost use Rattle.lloyd.specs.Results.{resultOf};
 ghost use Rattle.float.specs.Arithmetic.{plusZero, sumFrom};
-ghost use Rattle.vector.specs.Vectors.{unitVector};
+ghost use Rattle.vector.specs.Vectors.{normOf, unitVector};
 ghost use Rattle.lloyd.specs.Areas.{stateIn, sumsIn, countsIn, Sized, LeafOf, GroupOf, Labelled, Area, Spent, LeafPassed, tallied, Gains, Gained, Accumulated, serveLeaf, LaterRows, occursUpTo, Reseeded, GroupUpdated, CountsAtMost, Updated, Settled, RoundDone, freshRun, Lloyded, putScale, putLow, putHigh, putCenter, fourAngles, lowerAt, lowerFour, Seeding, SeededNext, Runnable, RunDone, RunLeft};
 
 // ---- the bounds of a leaf
@@ -644,7 +644,19 @@ fn lloyd(
 
 // ---- the start of a run
 
-// The norm of each leaf becomes its scale.
+// The norms of leaves i and i + 1, their roots in step.
+fn pair_norms(coords: &[f64], i: usize, d: usize) -> root::Two
+    requires { ⌜ (i + 2) * d ≤ length (now coords) ⌝ }
+    ensures { λ r. ⌜ (r .a ≡ normOf (rowOf (now (coords .entry)) d i)) × (r .b ≡ normOf (rowOf (now (coords .entry)) d (i + 1))) ⌝ }
+{
+    let p = i * d;
+    let q = p + d;
+    let x = &coords[p..q];
+    let y = &coords[q..q + d];
+    root::root2(vector::dot(x, x), vector::dot(y, y))
+}
+
+// The norm of each leaf becomes its scale: by twos, then the last one.
 fn measure(work: &mut [f64], coords: &[f64], m: usize, k: usize, d: usize)
     requires { ⌜ (Area (length (now work)) m k d) × (length (now coords) ≡ m * d) × (m * d ≤ 1048576) ⌝ }
     ensures { λ _. ⌜ ((u : List ℕ) → stateIn m k d (now (work .exit)) u ≡ putScale (normsUpTo (now (coords .entry)) d m) (stateIn m k d (now (work .entry)) u)) ⌝ }
@@ -652,6 +664,12 @@ fn measure(work: &mut [f64], coords: &[f64], m: usize, k: usize, d: usize)
     let kd = k * d;
     let scale = kd + kd;
     let mut i = 0;
+    while 2 <= m - i {
+        let n = pair_norms(coords, i, d);
+        work[scale + i] = n.a;
+        work[scale + i + 1] = n.b;
+        i += 2;
+    }
     while i < m {
         let at = i * d;
         work[scale + i] = vector::norm(&coords[at..at + d]);
