@@ -1,11 +1,11 @@
--- `softmax::greatest` meets its contract. The loop's invariant: the greatest so far, with what is left of the row, gives the greatest of the whole row. Assumes
--- nothing.
+-- `softmax::greatest` meets its contract. The loop's invariant: the greatest so far is no NaN and, with what is left of the row, gives the greatest of the whole row.
+-- The measure is what is left of the row. Assumes nothing.
 use mathlib.Core.Path.{_≡_, refl, sym, _∙_}
+use mathlib.Core.Bool.{true, false}
 use Prim.Native.Nat.{_≤_, _-_}
 use native.Mathlib.Omega.{arith}
 use lib.ListN.{length, drop}
-use mathlib.Core.Bool.{true}
-use lib.Ieee.{inf, div, ofBits, neg}
+use lib.Ieee.{inf, div, ofBits, neg, isNan}
 use Rattle.softmax.specs.Softmax.{greatestFrom}
 use Rattle.softmax.proofs.Softmax.{greatest-turn, greatest-end}
 use borrow.Author.Needs.{needs}
@@ -13,23 +13,23 @@ use Rattle.softmax.proofs.greatest.Statement.{statement}
 use Rattle.softmax.proofs.greatest.Tie as tie
 
 abbrev Inv-loop : tie.InvT-loop
-Inv-loop row g₀ j₀ g j = (j ≤ length row) × (greatestFrom g (drop j row) ≡ greatestFrom (inf true) row)
+Inv-loop row g₀ j₀ g j = (j ≤ length row) × (isNan g ≡ false) × (greatestFrom g (drop j row) ≡ greatestFrom (inf true) row)
 
 abbrev μ-loop : tie.MeasureT-loop
 μ-loop row g₀ j₀ g j = length row - j
 
 loop-holds : tie.Need-loop-holds Inv-loop μ-loop
-unfolding div ofBits neg
-loop-holds c = (omega arith, refl)
+unfolding div ofBits neg isNan
+loop-holds c = (omega arith, refl, refl)
 
-mul-max : tie.Need-mul-max Inv-loop μ-loop
-mul-max c = search needs
+mul-greater : tie.Need-mul-greater Inv-loop μ-loop
+mul-greater c = search needs
 
-shared-slice-read-max : tie.Need-shared-slice-read-max Inv-loop μ-loop
-shared-slice-read-max c = search needs
+shared-slice-read-greater : tie.Need-shared-slice-read-greater Inv-loop μ-loop
+shared-slice-read-greater c = search needs
 
-max-requires : tie.Need-max-requires Inv-loop μ-loop
-max-requires c κs = search needs
+greater-requires : tie.Need-greater-requires Inv-loop μ-loop
+greater-requires c κs = search needs
 
 add-j : tie.Need-add-j Inv-loop μ-loop
 add-j c = search needs
@@ -39,13 +39,14 @@ loop-less c = search needs
 
 loop-again : tie.Need-loop-again Inv-loop μ-loop
 loop-again c =
-    let l = c .before .before .before in
-    (omega arith, greatest-turn (l .before .before .args .row .now) (l .loop .j) (l .loop .g) (c .max .result) (omega arith) (c .max .ensures) ∙ l .loop .inv .1)
+    let l = c .before .before .before .loop in
+    let a = c .before .before .before .before .before .args in
+    (omega arith, c .greater .ensures .1, greatest-turn (a .row .now) (l .j) (l .g) (c .greater .result) (omega arith) (c .greater .ensures .0) ∙ l .inv .2)
 
 returns : tie.Need-returns Inv-loop μ-loop
 returns c =
-    let l = c .before in
-    sym (greatest-end (l .before .before .args .row .now) (l .loop .j) (l .loop .g) (omega arith)) ∙ l .loop .inv .1
+    let l = c .before .loop in
+    sym (greatest-end (c .before .before .before .args .row .now) (l .j) (l .g) (omega arith)) ∙ l .inv .2
 
 pub greatest-spec : {M : Type 1} → statement M
 greatest-spec =
@@ -54,9 +55,9 @@ greatest-spec =
     Inv-loop
     μ-loop
     loop-holds
-    mul-max
-    shared-slice-read-max
-    max-requires
+    mul-greater
+    shared-slice-read-greater
+    greater-requires
     add-j
     loop-less
     loop-again
