@@ -1,6 +1,6 @@
 -- `softmax::exp_front` meets its contract. The loop's invariant: the elements passed are replaced by their exponentials. The measure is what is left of the n.
 -- Assumes nothing.
-use mathlib.Core.Path.{_≡_, refl}
+use mathlib.Core.Path.{_≡_, refl, ap, _∙_}
 use Prim.Native.Nat.{_+_, _-_, _≤_}
 use native.Mathlib.Omega.{arith}
 use lib.ListN.{length}
@@ -10,7 +10,7 @@ use Rattle.softmax.proofs.exp_front.Statement.{statement}
 use Rattle.softmax.proofs.exp_front.Tie as tie
 
 abbrev Inv-loop : tie.InvT-loop
-Inv-loop e₀ n j₀ e j = (length e ≡ length e₀) × (j ≤ n + 7) × (e ≡ expsTo e₀ j)
+Inv-loop e₀ n j₀ e j = (length e ≡ length e₀) × (j ≤ n + 15) × (e ≡ expsTo e₀ j)
 
 abbrev μ-loop : tie.MeasureT-loop
 μ-loop e₀ n j₀ e j = n - j
@@ -36,6 +36,27 @@ part-exp-eight-end c = search needs
 exp-eight-requires : tie.Need-exp-eight-requires Inv-loop μ-loop
 exp-eight-requires c κs = search needs
 
+add-exp-eight-2 : tie.Need-add-exp-eight-2 Inv-loop μ-loop
+add-exp-eight-2 c = search needs
+
+add-exp-eight-3 : tie.Need-add-exp-eight-3 Inv-loop μ-loop
+add-exp-eight-3 c = search needs
+
+mul-exp-eight-2 : tie.Need-mul-exp-eight-2 Inv-loop μ-loop
+mul-exp-eight-2 c = search needs
+
+sub-exp-eight-2 : tie.Need-sub-exp-eight-2 Inv-loop μ-loop
+sub-exp-eight-2 c = search needs
+
+part-exp-eight-start-2 : tie.Need-part-exp-eight-start-2 Inv-loop μ-loop
+part-exp-eight-start-2 c = search needs
+
+part-exp-eight-end-2 : tie.Need-part-exp-eight-end-2 Inv-loop μ-loop
+part-exp-eight-end-2 c = search needs
+
+exp-eight-requires-2 : tie.Need-exp-eight-requires-2 Inv-loop μ-loop
+exp-eight-requires-2 c κs = search needs
+
 add-j : tie.Need-add-j Inv-loop μ-loop
 add-j c = search needs
 
@@ -44,11 +65,15 @@ loop-less c = search needs
 
 loop-again : tie.Need-loop-again Inv-loop μ-loop
 loop-again c =
-    let l = c .before .before .before .before .before .loop in
-    let a = c .before .before .before .before .before .before .before .args in
-    let p = c .before .before .before .before .before .before .before .pre in
-    let h : l .j ≤ length (a .e .now) = omega (arith, c .before .before .before .before .loop-test .taken) in
-    (search needs, omega arith, exps-turn (a .e .now) (l .e) (l .j) h (l .inv .2) (l .j + 8 - l .j) (c .before .before .exp-eight .last .0) (omega arith) (c .before .before .exp-eight .ensures))
+    let x = c .before .before .before .before .before .before .exp-eight in
+    let y = c .before .before .exp-eight2 in
+    let l = c .before .before .before .before .before .before .before .before .before .loop in
+    let a = c .before .before .before .before .before .before .before .before .before .before .before .args in
+    let h : l .j + 16 ≤ length (a .e .now) = omega (arith, c .before .before .before .before .before .before .before .before .loop-test .taken, c .before .before .before .before .before .before .before .before .before .before .before .pre) in
+    let j = l .j + 8 in
+    let first = exps-turn (a .e .now) (l .e) (l .j) (omega arith) (l .inv .2) (j - l .j) (x .last .0) (omega arith) (x .ensures) in
+    let e : j + 8 ≡ l .j + 16 = omega arith in
+    (search needs, omega arith, exps-turn (a .e .now) _ j (omega arith) first (l .j + 16 - j) (y .last .0) (omega arith) (y .ensures) ∙ ap (expsTo (a .e .now)) e)
 
 same-length : tie.Need-same-length Inv-loop μ-loop
 same-length c = c .before .loop .inv .0
@@ -73,6 +98,13 @@ exp-front-spec =
     part-exp-eight-start
     part-exp-eight-end
     exp-eight-requires
+    add-exp-eight-2
+    add-exp-eight-3
+    mul-exp-eight-2
+    sub-exp-eight-2
+    part-exp-eight-start-2
+    part-exp-eight-end-2
+    exp-eight-requires-2
     add-j
     loop-less
     loop-again
