@@ -1,18 +1,16 @@
 -- The cases of the exponential, each from the tests that lead to it; between the borders, the product of the series and the power of two. Assumes nothing.
 use mathlib.Core.Path.{_≡_, refl, sym, subst}
-use mathlib.Core.Bool.{Bool, true, false, not, true≢false}
-use Prim.Native.Nat.{ℕ, zero, suc}
-use native.Mathlib.Omega.{arith}
+use mathlib.Core.Bool.{true, false, not}
 use lib.Dec.{T, not-T}
-use lib.IntN.{ℤ, pos}
-use lib.Ieee.{Float, nan, inf, fin, binary64, fits, add, sub, mul, div, lt, le, eq, ne, isNan, neg, ofInt, ofBits}
+use lib.IntN.{ℤ}
+use lib.Ieee.{Float, inf, fin, binary64, lt, le, ne, isNan, neg, ofInt}
 use lib.Ieee.Bits.{is-false}
 use lib.Ieee.Fits.{and-i, and-l, and-r}
 use Rattle.float.specs.Arithmetic.{number, plusZero}
-use Rattle.exponential.specs.Exponential.{floorOf, turnsOf, expFrom, expBy, expOf}
+use Rattle.exponential.specs.Exponential.{floorOf, turnsOf, expBy, expOf}
 use Rattle.exponential.specs.Steps.{inside, raised}
 use Rattle.float.proofs.Order.{lt-trans, le-of-nlt, nlt-of-le, nan-below, no-nan}
-use Rattle.float.proofs.Tests.{is-nan, is-number, of-true, of-false, zero-digits, zero-place}
+use Rattle.float.proofs.Tests.{is-nan, is-number, of-true, of-false}
 
 ends : T (not (isNan (number 709))) × T (not (isNan (neg (number 708))))
 unfolding ofInt neg isNan
@@ -54,19 +52,3 @@ by-inside x h =
 pub by-whole : (x n w : Float) (k : ℤ) → n ≡ ofInt binary64 k → w ≡ fin false 1 k → raised x n w ≡ expBy x k
 unfolding expBy
 by-whole x n w k p q = rw (p, q)
-
--- of both zeros it is 1
-either : (s : Bool) → number 1 ≡ expOf (fin s 0 (pos 0))
-unfolding expOf expBy expFrom floorOf ofInt ofBits add sub mul div neg lt isNan
-either true = refl
-either false = refl
-
-pub by-zero : (x : Float) → T (fits binary64 x) → eq x plusZero ≡ true → number 1 ≡ expOf x
-unfolding eq
-by-zero nan f h = absurd (true≢false (sym h))
-by-zero (inf s) f h = absurd (true≢false (sym h))
-by-zero (fin s m e) f h = at-zero s m e (zero-digits s m e h) f
-  where
-    at-zero : (s : Bool) (m : ℕ) (e : ℤ) → m ≡ 0 → T (fits binary64 (fin s m e)) → number 1 ≡ expOf (fin s m e)
-    at-zero s zero e d f = subst (λ (z : ℤ). number 1 ≡ expOf (fin s 0 z)) (sym (zero-place s e f)) (either s)
-    at-zero s (suc m) e d f = absurd (omega arith)

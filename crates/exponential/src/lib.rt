@@ -70,7 +70,7 @@ fn inner_exp(x: f64) -> f64
     raise(x, p.n, p.w)
 }
 
-// The exponential: NaN for NaN, +infinity above 709, +0 below -708. That of a zero is 1, which needs no series.
+// The exponential: NaN for NaN, +infinity above 709, +0 below -708.
 pub fn exp(x: f64) -> f64
     ensures { λ r. ⌜ r ≡ expOf x ⌝ }
 {
@@ -82,9 +82,6 @@ pub fn exp(x: f64) -> f64
     }
     if x < -708.0 {
         return 0.0;
-    }
-    if x == 0.0 {
-        return 1.0;
     }
     inner_exp(x)
 }

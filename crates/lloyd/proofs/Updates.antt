@@ -31,10 +31,6 @@ put-same l at n = rw (take-append-drop, take-append-drop)
 put-before : (l : List Float) (at n p : ℕ) (v : List Float) → length v ≡ n → at + n ≤ p → p ≤ length l → drop p (putPart l at n v) ≡ drop p l
 put-before l at n p v e h g = rw (← e) (drop-put l at p v (omega arith) g)
 
--- what is clamped to [−1, 1]
-pub clamped : {x y v : Float} → x ≡ y → v ≡ cosine x → v ≡ cosine y
-clamped e f = f ∙ ap cosine e
-
 -- centre c moved to the row in its place among the sums, and centre c kept
 module _ (m k d : ℕ) (w : List Float) (c : ℕ) (v : Float) (group : GroupOf c k d) (long : total m k d ≤ length w) where
   abbrev drifted : List Float
@@ -56,15 +52,13 @@ module _ (m k d : ℕ) (w : List Float) (c : ℕ) (v : Float) (group : GroupOf c
         ∙ put-row-centers-sums m k d drifted c (rowOf (sumsIn k d w) d c) length-row (group .below) (rw length-set long)
         ∙ set-drift-sums m k d w c v (group .below)
 
-    pub move-done : v ≡ cosine (dotOf (take (c * d + d - c * d) (drop (c * d) w)) (take (k * d + c * d + d - (k * d + c * d)) (drop (k * d + c * d) w)))
+    pub move-done : v ≡ cosine (dotOf (part w (c * d) d) (part w (k * d + c * d) d))
         → (u : List ℕ) → stateIn m k d w' u ≡ moveCenter d c (rowOf (sumsIn k d w) d c) (stateIn m k d w u)
     unfolding moveCenter
     move-done e u =
         let s = stateIn m k d w u in
         let r = rowOf (sumsIn k d w) d c in
-        let f₁ : c * d + d - c * d ≡ d = omega arith in
-        let f₂ : k * d + c * d + d - (k * d + c * d) ≡ d = omega arith in
-        let ev : v ≡ cosine (dotOf (rowOf (s .centers) d c) r) = e ∙ rw (f₁, f₂, row-centers m k d w u c (group .below), row-sums m k d w c (group .below)) in
+        let ev : v ≡ cosine (dotOf (rowOf (s .centers) d c) r) = e ∙ rw (row-centers m k d w u c (group .below), row-sums m k d w c (group .below)) in
         let e₁ : stateIn m k d w' u ≡ withCenters (putPart (stateIn m k d drifted u .centers) (c * d) d r) (stateIn m k d drifted u) =
         rw put-row (put-row-centers m k d drifted u c r length-row (group .below) (rw length-set long)) in
         e₁ ∙ rw (set-drift m k d w u c v (group .below), ← ev)
@@ -72,13 +66,12 @@ module _ (m k d : ℕ) (w : List Float) (c : ℕ) (v : Float) (group : GroupOf c
   pub keep-sums : sumsIn k d drifted ≡ sumsIn k d w
   keep-sums = set-drift-sums m k d w c v (group .below)
 
-  pub keep-done : v ≡ cosine (dotOf (take (c * d + d - c * d) (drop (c * d) w)) (take (c * d + d - c * d) (drop (c * d) w)))
+  pub keep-done : v ≡ cosine (dotOf (part w (c * d) d) (part w (c * d) d))
       → (u : List ℕ) → stateIn m k d drifted u ≡ moveCenter d c (rowOf (stateIn m k d w u .centers) d c) (stateIn m k d w u)
   unfolding moveCenter
   keep-done e u =
       let s = stateIn m k d w u in
-      let f : c * d + d - c * d ≡ d = omega arith in
-      let ev : v ≡ cosine (dotOf (rowOf (s .centers) d c) (rowOf (s .centers) d c)) = e ∙ rw (f, row-centers m k d w u c (group .below)) in
+      let ev : v ≡ cosine (dotOf (rowOf (s .centers) d c) (rowOf (s .centers) d c)) = e ∙ rw (row-centers m k d w u c (group .below)) in
       set-drift m k d w u c v (group .below) ∙ rw (put-same (s .centers) (c * d) d, ← ev)
 
 -- a row r written in the place of row c of the sums

@@ -8,14 +8,14 @@ ghost use Prim.Native.Nat.{ℕ, _+_, _*_, _<_, _≤_};
 ghost use lib.Dec.{eqb};
 ghost use lib.ListN.{length, getD, replicate};
 ghost use lib.Ieee.{lt};
-ghost use Rattle.rows.specs.Rows.{rowOf, putPart};
-ghost use Rattle.bounds.specs.Shifts.{slowestUpTo, otherThan};
+ghost use Rattle.rows.specs.Rows.{part, rowOf, putPart};
+ghost use Rattle.bounds.specs.Shifts.{cosine, slowestUpTo, otherThan};
 ghost use Rattle.lloyd.specs.Lloyd.{Pass, boundsAt, putBounds, shiftLeaf, shiftUpTo, boundsBy, bestOf, putBest, passUpTo, emptyUpTo, servedUpTo, putServed, moveCenter, centerBy, passOf, roundsFrom, startedFrom, normsUpTo, sumsUpTo};
 ghost use Rattle.lloyd.specs.Seeding.{angleOf, anglesUpTo, lowered, chances, seedsOf};
 ghost use Rattle.lloyd.specs.Cohesion.{cohesionOf};
 ghost use Rattle.lloyd.specs.Results.{resultOf};
 ghost use Rattle.float.specs.Arithmetic.{plusZero, sumFrom};
-ghost use Rattle.vector.specs.Vectors.{normOf, unitVector};
+ghost use Rattle.vector.specs.Vectors.{dotOf, normOf, unitVector};
 ghost use Rattle.lloyd.specs.Areas.{stateIn, sumsIn, countsIn, Sized, LeafOf, GroupOf, Labelled, Area, Spent, LeafPassed, tallied, Gains, Gained, Accumulated, serveLeaf, LaterRows, occursUpTo, Reseeded, GroupUpdated, CountsAtMost, Updated, Settled, RoundDone, freshRun, Lloyded, putScale, putLow, putHigh, putCenter, fourAngles, lowerAt, lowerFour, Seeding, SeededNext, Runnable, RunDone, RunLeft};
 
 // ---- the bounds of a leaf
@@ -383,6 +383,14 @@ fn refresh(work: &mut [f64], marks: &[u32], coords: &[f64], m: usize, k: usize, 
 
 // ---- new centres
 
+// How far a row turns into another one of the same array: their dot, held to [-1, 1].
+fn turned(w: &[f64], at: usize, to: usize, d: usize) -> f64
+    requires { ⌜ (at + d ≤ length (now w)) × (to + d ≤ length (now w)) ⌝ }
+    ensures { λ r. ⌜ r ≡ cosine (dotOf (part (now (w .entry)) at d) (part (now (w .entry)) to d)) ⌝ }
+{
+    float::clamp(vector::dot(&w[at..at + d], &w[to..to + d]), -1.0, 1.0)
+}
+
 // Centre c becomes the row that stands in its place among the sums; its drift is taken against the old row first.
 fn move_center(work: &mut [f64], c: usize, m: usize, k: usize, d: usize)
     requires { ⌜ Area (length (now work)) m k d ⌝ }
@@ -393,8 +401,7 @@ fn move_center(work: &mut [f64], c: usize, m: usize, k: usize, d: usize)
     let kd = k * d;
     let to = c * d;
     let from = kd + to;
-    let s = &work[..];
-    let v = float::clamp(vector::dot(&s[to..to + d], &s[from..from + d]), -1.0, 1.0);
+    let v = turned(work, to, from, d);
     let drift = kd + kd + m + m + m + m;
     work[drift + c] = v;
     rows::copy_within(work, from, to, d);
@@ -409,8 +416,7 @@ fn keep_center(work: &mut [f64], c: usize, m: usize, k: usize, d: usize)
 {
     let kd = k * d;
     let at = c * d;
-    let s = &work[..];
-    let v = float::clamp(vector::dot(&s[at..at + d], &s[at..at + d]), -1.0, 1.0);
+    let v = turned(work, at, at, d);
     let drift = kd + kd + m + m + m + m;
     work[drift + c] = v;
 }

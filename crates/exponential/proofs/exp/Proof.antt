@@ -1,8 +1,7 @@
--- `float::exp` meets its contract: a case of `expOf` for each answer. Assumes nothing.
-use mathlib.Core.Path.{sym, _∙_, subst}
-use lib.Dec.{T}
+-- `exponential::exp` meets its contract: a case of `expOf` for each answer. Assumes nothing.
+use mathlib.Core.Path.{_∙_}
 use lib.Ieee.{ofBits, ofInt, div}
-use Rattle.exponential.proofs.Exponential.{by-nan, by-high, by-low, by-zero, is-inside, by-inside}
+use Rattle.exponential.proofs.Exponential.{by-nan, by-high, by-low, is-inside, by-inside}
 use Rattle.exponential.proofs.exp.Statement.{statement}
 use Rattle.exponential.proofs.exp.Tie as tie
 
@@ -17,20 +16,13 @@ returns-3 : tie.Need-returns-3
 unfolding ofBits ofInt
 returns-3 c = by-low (c .before .before .before .args .x) (c .if3 .taken)
 
-returns-4 : tie.Need-returns-4
-unfolding ofBits ofInt
-returns-4 c =
-    let s = c .before .before .before .before in
-    by-zero (s .args .x) (subst T (sym (s .good .0 .1)) tt) (c .if4 .taken)
-
 inner-exp-requires : tie.Need-inner-exp-requires
 unfolding ofBits ofInt
 inner-exp-requires c κs =
-    let s = c .before in
-    is-inside (s .before .before .before .args .x) (s .before .before .if1 .left) (s .before .if2 .left) (s .if3 .left)
+    is-inside (c .before .before .before .args .x) (c .before .before .if1 .left) (c .before .if2 .left) (c .if3 .left)
 
-returns-5 : tie.Need-returns-5
-returns-5 c = c .inner-exp .ensures ∙ by-inside (c .before .before .before .before .before .args .x) (inner-exp-requires (c .before) tt)
+returns-4 : tie.Need-returns-4
+returns-4 c = c .inner-exp .ensures ∙ by-inside (c .before .before .before .before .args .x) (inner-exp-requires (c .before) tt)
 
 pub exp-spec : {M : Type 1} → statement M
-exp-spec = tie.close (tie.spec returns returns-2 returns-3 returns-4 inner-exp-requires returns-5)
+exp-spec = tie.close (tie.spec returns returns-2 returns-3 inner-exp-requires returns-4)

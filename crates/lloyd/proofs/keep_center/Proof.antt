@@ -1,7 +1,7 @@
--- `lloyd::keep_center` meets its contract, by what `dot` and `clamp` ensure: each promise is a law over plain lists. Assumes nothing.
+-- `lloyd::keep_center` meets its contract, by what `turned` ensures: each promise is a law over plain lists. Assumes nothing.
 use borrow.Author.Needs.{needs}
 use lib.Ieee.{ofBits, ofInt}
-use Rattle.lloyd.proofs.Updates.{clamped, keep-done, keep-sums}
+use Rattle.lloyd.proofs.Updates.{keep-done, keep-sums}
 use Rattle.lloyd.proofs.keep_center.Statement.{statement}
 use Rattle.lloyd.proofs.keep_center.Tie as tie
 
@@ -11,41 +11,8 @@ mul-kd c = search needs
 mul-at : tie.Need-mul-at
 mul-at c = search needs
 
-add-dot : tie.Need-add-dot
-add-dot c = search needs
-
-mul-dot : tie.Need-mul-dot
-mul-dot c = search needs
-
-sub-dot : tie.Need-sub-dot
-sub-dot c = search needs
-
-part-dot-start : tie.Need-part-dot-start
-part-dot-start c = search needs
-
-part-dot-end : tie.Need-part-dot-end
-part-dot-end c = search needs
-
-add-dot-2 : tie.Need-add-dot-2
-add-dot-2 c = search needs
-
-mul-dot-2 : tie.Need-mul-dot-2
-mul-dot-2 c = search needs
-
-sub-dot-2 : tie.Need-sub-dot-2
-sub-dot-2 c = search needs
-
-part-dot-start-2 : tie.Need-part-dot-start-2
-part-dot-start-2 c = search needs
-
-part-dot-end-2 : tie.Need-part-dot-end-2
-part-dot-end-2 c = search needs
-
-dot-requires : tie.Need-dot-requires
-dot-requires c κs = search needs
-
-clamp-requires : tie.Need-clamp-requires
-clamp-requires c κs = search needs
+turned-requires : tie.Need-turned-requires
+turned-requires c κs = search needs
 
 add-drift : tie.Need-add-drift
 add-drift c = search needs
@@ -77,10 +44,10 @@ same-length c = search needs
 returns : tie.Need-returns
 unfolding ofBits ofInt
 returns c =
-    let s = c .before .before .before .before .before .before in
+    let s = c .before .before .before in
     let a = s .args in
-    let v = c .clamp .result in (
-      keep-done (a .m) (a .k) (a .d) (a .work .now) (a .c) v (s .pre .1) (s .pre .0 .work-long) (clamped (c .before .dot .ensures) (c .clamp .ensures)),
+    let v = c .turned .result in (
+      keep-done (a .m) (a .k) (a .d) (a .work .now) (a .c) v (s .pre .1) (s .pre .0 .work-long) (c .turned .ensures),
       keep-sums (a .m) (a .k) (a .d) (a .work .now) (a .c) v (s .pre .1) (s .pre .0 .work-long),
     )
 
@@ -90,18 +57,7 @@ keep-center-spec =
     (tie.spec
     mul-kd
     mul-at
-    add-dot
-    mul-dot
-    sub-dot
-    part-dot-start
-    part-dot-end
-    add-dot-2
-    mul-dot-2
-    sub-dot-2
-    part-dot-start-2
-    part-dot-end-2
-    dot-requires
-    clamp-requires
+    turned-requires
     add-drift
     add-drift-2
     add-drift-3

@@ -1,9 +1,9 @@
--- `lloyd::move_center` meets its contract, by what `dot`, `clamp` and `copy_within` ensure: each promise is a law over plain lists. Assumes nothing.
+-- `lloyd::move_center` meets its contract, by what `turned` and `copy_within` ensure: each promise is a law over plain lists. Assumes nothing.
 use native.Mathlib.Omega.{arith}
 use borrow.Author.Needs.{needs}
 use lib.ListN.{length-set}
 use lib.Ieee.{ofBits, ofInt}
-use Rattle.lloyd.proofs.Updates.{clamped, move-done, move-sums}
+use Rattle.lloyd.proofs.Updates.{move-done, move-sums}
 use Rattle.lloyd.proofs.move_center.Statement.{statement}
 use Rattle.lloyd.proofs.move_center.Tie as tie
 
@@ -16,41 +16,8 @@ mul-to c = search needs
 add-from : tie.Need-add-from
 add-from c = search needs
 
-add-dot : tie.Need-add-dot
-add-dot c = search needs
-
-mul-dot : tie.Need-mul-dot
-mul-dot c = search needs
-
-sub-dot : tie.Need-sub-dot
-sub-dot c = search needs
-
-part-dot-start : tie.Need-part-dot-start
-part-dot-start c = search needs
-
-part-dot-end : tie.Need-part-dot-end
-part-dot-end c = search needs
-
-add-dot-2 : tie.Need-add-dot-2
-add-dot-2 c = search needs
-
-mul-dot-2 : tie.Need-mul-dot-2
-mul-dot-2 c = search needs
-
-sub-dot-2 : tie.Need-sub-dot-2
-sub-dot-2 c = search needs
-
-part-dot-start-2 : tie.Need-part-dot-start-2
-part-dot-start-2 c = search needs
-
-part-dot-end-2 : tie.Need-part-dot-end-2
-part-dot-end-2 c = search needs
-
-dot-requires : tie.Need-dot-requires
-dot-requires c κs = search needs
-
-clamp-requires : tie.Need-clamp-requires
-clamp-requires c κs = search needs
+turned-requires : tie.Need-turned-requires
+turned-requires c κs = search needs
 
 add-drift : tie.Need-add-drift
 add-drift c = search needs
@@ -78,7 +45,7 @@ slice-write-work c = search needs
 
 copy-within-requires : tie.Need-copy-within-requires
 copy-within-requires c κs =
-    let s = c .before .before .before .before .before .before .before in
+    let s = c .before .before .before .before in
     record { order = omega (arith, s .pre .1 .row); within = simp length-set (omega (arith, s .pre .0 .work-long, s .pre .1 .row)) }
 
 same-length : tie.Need-same-length
@@ -89,11 +56,11 @@ unfolding ofBits ofInt
 returns c =
     let f = c .before .before in
     let h = f .before .before in
-    let s = h .before .before .before .before .before .before in
+    let s = h .before .before .before in
     let a = s .args in
     let w' = f .copy-within .last .0 in
-    let v = h .clamp .result in (
-      move-done (a .m) (a .k) (a .d) (a .work .now) (a .c) v (s .pre .1) (s .pre .0 .work-long) w' (f .copy-within .ensures) (clamped (h .before .dot .ensures) (h .clamp .ensures)),
+    let v = h .turned .result in (
+      move-done (a .m) (a .k) (a .d) (a .work .now) (a .c) v (s .pre .1) (s .pre .0 .work-long) w' (f .copy-within .ensures) (h .turned .ensures),
       move-sums (a .m) (a .k) (a .d) (a .work .now) (a .c) v (s .pre .1) (s .pre .0 .work-long) w' (f .copy-within .ensures),
     )
 
@@ -104,18 +71,7 @@ move-center-spec =
     mul-kd
     mul-to
     add-from
-    add-dot
-    mul-dot
-    sub-dot
-    part-dot-start
-    part-dot-end
-    add-dot-2
-    mul-dot-2
-    sub-dot-2
-    part-dot-start-2
-    part-dot-end-2
-    dot-requires
-    clamp-requires
+    turned-requires
     add-drift
     add-drift-2
     add-drift-3
