@@ -1,4 +1,4 @@
--- `float::exp4` meets its contract: all four below the lower border, all four between the borders, and else each by itself. Assumes nothing.
+-- `exponential::exp4` meets its contract: all four below the lower border, all four between the borders, and else each by itself. Assumes nothing.
 use mathlib.Core.Path.{sym, _∙_}
 use lib.Ieee.{ofBits, ofInt}
 use Rattle.exponential.proofs.Fours.{four-of, all-below, all-inside}

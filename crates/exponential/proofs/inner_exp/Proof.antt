@@ -1,4 +1,4 @@
--- `float::inner_exp` meets its contract: what its two calls ensure, put together. Assumes nothing.
+-- `exponential::inner_exp` meets its contract: what its two calls ensure, put together. Assumes nothing.
 use mathlib.Core.Path.{_∙_}
 use borrow.Author.Needs.{needs}
 use Rattle.exponential.proofs.Exponential.{by-whole}

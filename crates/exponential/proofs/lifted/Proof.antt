@@ -1,4 +1,4 @@
--- `float::lifted` meets its contract: the rounded sum is 2^52 + b or one more, and the comparison says which. Assumes nothing.
+-- `exponential::lifted` meets its contract: the rounded sum is 2^52 + b or one more, and the comparison says which. Assumes nothing.
 use mathlib.Core.Path.{refl}
 use lib.Ieee.{ofBits, ofInt}
 use Rattle.exponential.specs.Exponential.{turnsOf}

@@ -1,4 +1,4 @@
--- `float::power` meets its contract: 2^52 + b less 2^52 + 1023 is n, and its digits are b. Assumes nothing.
+-- `exponential::power` meets its contract: 2^52 + b less 2^52 + 1023 is n, and its digits are b. Assumes nothing.
 use mathlib.Core.Path.{ap, _∙_}
 use mathlib.Core.Bool.{false}
 use lib.Ieee.{fin, ofBits, ofInt}

@@ -1,4 +1,4 @@
--- `mixture::base` meets its contract: the logarithm of the weight, which is kept from 0, and the normalizer. Assumes nothing.
+-- `groups::base` meets its contract: the logarithm of the weight, which is kept from 0, and the normalizer. Assumes nothing.
 use lib.Ieee.{ofBits}
 use borrow.Author.Needs.{needs}
 use Rattle.groups.proofs.base.Statement.{statement}

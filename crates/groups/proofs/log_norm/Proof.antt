@@ -1,4 +1,4 @@
--- `mixture::log_norm` meets its contract: the normalizer of the concentration, which is kept from 0. Assumes nothing.
+-- `groups::log_norm` meets its contract: the normalizer of the concentration, which is kept from 0. Assumes nothing.
 use borrow.Author.Needs.{needs}
 use lib.Ieee.{ofBits}
 use Rattle.groups.proofs.log_norm.Statement.{statement}

@@ -1,4 +1,4 @@
--- `mixture::parameters` meets its contract: a case of `parametersOf` for each Kappa, which the match tells. Assumes nothing.
+-- `groups::parameters` meets its contract: a case of `parametersOf` for each Kappa, which the match tells. Assumes nothing.
 use borrow.Author.Needs.{needs}
 use Rattle.groups.proofs.parameters.Statement.{statement}
 use Rattle.groups.proofs.parameters.Tie as tie

@@ -1,4 +1,4 @@
--- `float::ln` meets its contract: a case of `lnOf` for each answer. Assumes nothing.
+-- `logarithm::ln` meets its contract: a case of `lnOf` for each answer. Assumes nothing.
 use mathlib.Core.Path.{_∙_}
 use lib.Ieee.{ofBits, div, neg}
 use Rattle.float.proofs.Tests.{is-positive}

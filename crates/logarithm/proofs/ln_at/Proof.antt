@@ -1,4 +1,4 @@
--- `float::ln_at` meets its contract: its steps are those of `lnFrom`, and a literal's bit pattern is the whole number. Assumes nothing.
+-- `logarithm::ln_at` meets its contract: its steps are those of `lnFrom`, and a literal's bit pattern is the whole number. Assumes nothing.
 use mathlib.Core.Path.{refl}
 use lib.Ieee.{ofBits, ofInt}
 use Rattle.logarithm.specs.Logarithm.{lnAt, lnFrom}

@@ -1,4 +1,4 @@
--- `float::positive_ln` meets its contract: f is the fraction and e − 1074 the exponent of the split float, which one test raises. Assumes nothing.
+-- `logarithm::positive_ln` meets its contract: f is the fraction and e − 1074 the exponent of the split float, which one test raises. Assumes nothing.
 use mathlib.Core.Path.{sym, _∙_, subst}
 use native.Mathlib.Omega.{arith}
 use lib.Dec.{T, le→leb}

@@ -1,4 +1,4 @@
--- `float::open_pair` meets its contract. Each call takes one place more of both roots, which keeps both numbers (`Moved`); the measure is the number of
+-- `root::open_pair` meets its contract. Each call takes one place more of both roots, which keeps both numbers (`Moved`); the measure is the number of
 -- places that are open. Assumes nothing.
 use borrow.Author.Needs.{needs}
 use native.Mathlib.Omega.{arith}

@@ -1,4 +1,4 @@
--- `float::open_places` meets its contract. Each call takes one place more, which keeps the number that is rooted (`Moved`); the measure is the number of
+-- `root::open_places` meets its contract. Each call takes one place more, which keeps the number that is rooted (`Moved`); the measure is the number of
 -- places that are open. Assumes nothing.
 use borrow.Author.Needs.{needs}
 use native.Mathlib.Omega.{arith}

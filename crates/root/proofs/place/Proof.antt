@@ -1,4 +1,4 @@
--- `float::place` meets its contract: each branch is a case of `Placed`. Assumes nothing.
+-- `root::place` meets its contract: each branch is a case of `Placed`. Assumes nothing.
 use mathlib.Core.Path.{refl}
 use borrow.Author.Needs.{needs}
 use borrow.Author.Tests.{le-ltb, lt-ltb}

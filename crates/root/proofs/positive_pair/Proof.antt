@@ -1,4 +1,4 @@
--- `float::positive_pair` meets its contract: as `positive_root`, for both. Assumes nothing.
+-- `root::positive_pair` meets its contract: as `positive_root`, for both. Assumes nothing.
 use mathlib.Core.Path.{sym, _∙_, subst}
 use Prim.Native.Nat.{_%_}
 use native.Mathlib.Omega.{arith}

@@ -1,4 +1,4 @@
--- `float::positive_root` meets its contract: the split's digits, with one place more where e is odd, have the nearest root that the definition takes.
+-- `root::positive_root` meets its contract: the split's digits, with one place more where e is odd, have the nearest root that the definition takes.
 -- Assumes nothing.
 use mathlib.Core.Path.{sym, _∙_, subst}
 use Prim.Native.Nat.{_%_}

@@ -1,4 +1,4 @@
--- `float::root` meets its contract: a case of `rootOf` for each answer. Assumes nothing.
+-- `root::root` meets its contract: a case of `rootOf` for each answer. Assumes nothing.
 use mathlib.Core.Path.{_∙_}
 use lib.Ieee.{ofBits, div}
 use Rattle.float.proofs.Tests.{is-positive}

@@ -1,4 +1,4 @@
--- `float::root2` meets its contract: both roots in step where both numbers are positive, else each by `root`. Assumes nothing.
+-- `root::root2` meets its contract: both roots in step where both numbers are positive, else each by `root`. Assumes nothing.
 use mathlib.Core.Path.{_∙_}
 use Rattle.float.proofs.Tests.{both-positive}
 use Rattle.root.proofs.RootOf.{of-positive}

@@ -1,4 +1,4 @@
--- `float::rounded` meets its contract: each branch is a case of `roundedOf`. Assumes nothing.
+-- `root::rounded` meets its contract: each branch is a case of `roundedOf`. Assumes nothing.
 use borrow.Author.Needs.{needs}
 use borrow.Author.Tests.{le-ltb, lt-ltb}
 use Prim.Native.Nat.{_*_}

@@ -1,4 +1,4 @@
--- `vector::copy` meets its contract. The loop's invariant: the elements passed are those of `from`. The measure is what is left of the length.
+-- `rows::copy` meets its contract. The loop's invariant: the elements passed are those of `from`. The measure is what is left of the length.
 -- Assumes nothing.
 use mathlib.Core.Path.{_≡_, refl, sym, _∙_}
 use Prim.Native.Nat.{_≤_, _-_}

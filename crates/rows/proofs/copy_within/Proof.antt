@@ -1,4 +1,4 @@
--- `vector::copy_within` meets its contract. The loop's invariant: the array is the one at the start with the first j elements of the later part pasted in.
+-- `rows::copy_within` meets its contract. The loop's invariant: the array is the one at the start with the first j elements of the later part pasted in.
 -- The measure is what is left to copy. Assumes nothing.
 use mathlib.Core.Path.{_≡_, refl}
 use Prim.Native.Nat.{_≤_, _-_}

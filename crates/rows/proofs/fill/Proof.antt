@@ -1,4 +1,4 @@
--- `vector::fill` meets its contract. The loop's invariant: the elements passed are all x. The measure is what is left of the length. Assumes nothing.
+-- `rows::fill` meets its contract. The loop's invariant: the elements passed are all x. The measure is what is left of the length. Assumes nothing.
 use mathlib.Core.Path.{_≡_}
 use Prim.Native.Nat.{_≤_, _-_}
 use native.Mathlib.Omega.{arith}
