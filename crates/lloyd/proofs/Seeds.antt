@@ -7,15 +7,16 @@ use Prim.Native.Nat.{ℕ, zero, suc, _+_, _*_, _-_, _≤_, _<_}
 use native.Mathlib.Nat.{suc-mul, zero-mul, add-zero}
 use native.Mathlib.Numerals.{add-one}
 use native.Mathlib.Omega.{arith}
-use lib.ListN.{length, getD, take, drop, set, replicate, length-append, length-replicate, drop-of-length-le}
-use lib.Seq.{drop-cons, take-suc, take-all, set-at, take-at, getD-at, length-take-le}
+use lib.ListN.{length, getD, take, drop, set, replicate, length-append, length-replicate}
+use lib.Seq.{take-suc, take-all, take-at, length-take-le}
 use lib.IntN.{ℤ}
 use lib.Ieee.{Float, nan, inf, fin, isNan, binary64, sub, mul, lt}
 use Rattle.float.specs.Arithmetic.{number, minusZero, plusZero, maxOf}
 use Rattle.float.specs.declared.Four.{Four}
 use Rattle.rows.specs.Rows.{putPart, rowOf}
 use Rattle.vector.specs.Vectors.{dotOf, normOf, unitVector}
-use Rattle.rows.proofs.Rows.{row-within, length-part, part-put}
+use Rattle.rows.proofs.Rows.{row-within, length-part, part-put, row-cut}
+use Rattle.rows.proofs.Fills.{front-turn, front-next, front-end}
 use Rattle.vector.specs.Pick.{pickOf}
 use Rattle.vector.specs.declared.Picked.{Picked}
 use Rattle.vector.proofs.Vectors.{dot-comm, unit-length, pick-below}
@@ -24,10 +25,6 @@ use Rattle.lloyd.specs.Lloyd.{State, normsUpTo, startedFrom}
 use Rattle.lloyd.specs.Seeding.{angleOf, anglesUpTo, lowered, chances, seedsUpTo, seedsOf}
 use Rattle.lloyd.specs.Areas.{Area, Seeding, SeededNext, stateIn, total, scaleAt, lowAt, highAt, servedAt, driftAt, nextPick, putScale, putLow, putHigh, putCenter, fourAngles, lowerAt, lowerFour}
 use Rattle.lloyd.proofs.Regions.{withScale, withLow, withHigh, withServed, withDrift, withLabels, put-low-all, put-high-all, put-served-all, put-drift-all, put-labels-all, high-are, length-centers, set-scale, set-low, set-high, get-low, row-centers, put-row-centers, length-low, length-high}
-
--- a row as the code cuts it
-pub row-cut : {A : Type 0} (l : List A) (d c : ℕ) → take (c * d + d - c * d) (drop (c * d) l) ≡ rowOf l d c
-row-cut l d c = let f : c * d + d - c * d ≡ d = omega arith in rw f
 
 -- an area of the same length has the same sizes
 pub area-kept : (work work' m k d : ℕ) → work' ≡ work → Area work m k d → Area work' m k d
@@ -41,36 +38,25 @@ pub seeding-area : (work work' weights coords m k d : ℕ) → work' ≡ work �
 seeding-area work work' weights coords m k d e s =
     rw e (record { m-small = s .m-small; k-small = s .k-small; kd-small = s .kd-small; work-long = s .work-long })
 
--- what is done, before what was held from place i on: one place more, the place after it, and the end
-module _ (p l : List Float) (i : ℕ) (e : length p ≡ i) where
-  pub front-turn : (v : Float) → i < length l → set (p ++ drop i l) i v ≡ (p ++ (v ∷ [])) ++ drop (i + 1) l
-  front-turn v h = rw (add-one, drop-cons l i nan, append-assoc) (set-at p (getD l i nan) (drop (suc i) l) v i e)
-
-  front-next : i < length l → getD (p ++ drop i l) i nan ≡ getD l i nan
-  front-next h = rw (drop-cons l i nan) (getD-at p (getD l i nan) (drop (suc i) l) nan i e)
-
-pub front-end : (p l : List Float) (m : ℕ) → length l ≡ m → p ++ drop m l ≡ p
-front-end p l m e = let h : length l ≤ m = omega arith in rw (drop-of-length-le l h, append-nil)
-
--- the same of a region of the state
+-- a region of the state, of which the first i places are done: one place more
 module _ (m k d : ℕ) (w : List Float) (u : List ℕ) (s : State) (p : List Float) (i : ℕ) (v : Float) (h : i < m) (e : length p ≡ i) where
   scale-turn : length (s .scale) ≡ m → stateIn m k d w u ≡ putScale (p ++ drop i (s .scale)) s
       → stateIn m k d (set w (scaleAt m k d + i) v) u ≡ putScale ((p ++ (v ∷ [])) ++ drop (i + 1) (s .scale)) s
   unfolding putScale
   scale-turn g f =
-      set-scale m k d w u i v h ∙ ap (λ (t : State). withScale (set (t .scale) i v) t) f ∙ ap (λ (x : List Float). putScale x s) (front-turn p (s .scale) i e v (omega arith))
+      set-scale m k d w u i v h ∙ ap (λ (t : State). withScale (set (t .scale) i v) t) f ∙ ap (λ (x : List Float). putScale x s) (front-turn nan p (s .scale) i e v (omega arith))
 
   low-turn : length (s .low) ≡ m → stateIn m k d w u ≡ putLow (p ++ drop i (s .low)) s
       → stateIn m k d (set w (lowAt m k d + i) v) u ≡ putLow ((p ++ (v ∷ [])) ++ drop (i + 1) (s .low)) s
   unfolding putLow
   low-turn g f =
-      set-low m k d w u i v h ∙ ap (λ (t : State). withLow (set (t .low) i v) t) f ∙ ap (λ (x : List Float). putLow x s) (front-turn p (s .low) i e v (omega arith))
+      set-low m k d w u i v h ∙ ap (λ (t : State). withLow (set (t .low) i v) t) f ∙ ap (λ (x : List Float). putLow x s) (front-turn nan p (s .low) i e v (omega arith))
 
   high-turn : length (s .high) ≡ m → stateIn m k d w u ≡ putHigh (p ++ drop i (s .high)) s
       → stateIn m k d (set w (highAt m k d + i) v) u ≡ putHigh ((p ++ (v ∷ [])) ++ drop (i + 1) (s .high)) s
   unfolding putHigh
   high-turn g f =
-      set-high m k d w u i v h ∙ ap (λ (t : State). withHigh (set (t .high) i v) t) f ∙ ap (λ (x : List Float). putHigh x s) (front-turn p (s .high) i e v (omega arith))
+      set-high m k d w u i v h ∙ ap (λ (t : State). withHigh (set (t .high) i v) t) f ∙ ap (λ (x : List Float). putHigh x s) (front-turn nan p (s .high) i e v (omega arith))
 
 -- ---- the norms, by which the scales are written
 pub norms-length : (rows : List Float) (d n : ℕ) → length (normsUpTo rows d n) ≡ n
@@ -172,7 +158,7 @@ module _ (m k d : ℕ) (coords : List Float) (u : List ℕ) (c : ℕ) (s : State
       let ln : length new ≡ m = lowered-length coords d row 0 (s .low) ∙ ls in
       let lp : length (take i new) ≡ i = length-take-le i new (omega arith) in
       let y : held ≡ getD (s .low) i nan =
-      get-low m k d w u i nan h ∙ ap (λ (t : State). getD (t .low) i nan) f ∙ front-next (take i new) (s .low) i lp (omega arith) in
+      get-low m k d w u i nan h ∙ ap (λ (t : State). getD (t .low) i nan) f ∙ front-next nan (take i new) (s .low) i lp (omega arith) in
       let is : x ≡ getD new i nan = rw (y, g) (sym (lowered-at coords d row (s .low) 0 i i (omega arith) (omega arith))) in
       let more : take i new ++ (x ∷ []) ≡ take (i + 1) new = rw (add-one, is) (sym (take-suc new i nan (omega arith))) in
       rw ea (low-turn m k d w u s (take i new) i x h lp ls f) ∙ ap (λ (r : List Float). putLow (r ++ drop (i + 1) (s .low)) s) more

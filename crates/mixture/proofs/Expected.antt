@@ -13,14 +13,15 @@ use Rattle.float.specs.declared.Four.{Four}
 use Rattle.rows.specs.Rows.{part, putPart, rowOf}
 use Rattle.vector.specs.Vectors.{dotOf}
 use Rattle.vector.specs.Fours.{dotsOf}
-use Rattle.rows.proofs.Rows.{row-within, put-more}
+use Rattle.rows.proofs.Rows.{row-within, put-more, part-cut}
 use Rattle.softmax.specs.Softmax.{logSumExp, logSumAt, sharesAt, joined, weighed, sharesUpTo, logsUpTo}
 use Rattle.softmax.proofs.Softmax.{shares-length}
-use Rattle.softmax.proofs.Joined.{joined-length, joined-row, joined-none, joined-turn, joined-all, joined-same, weighed-same}
+use Rattle.softmax.proofs.Joined.{joined-length, joined-row, joined-none, joined-turn, joined-same, weighed-same}
+use Rattle.rows.proofs.Fills.{front-end}
 use Rattle.groups.specs.Kappas.{tabulate}
 use Rattle.mixture.specs.Mixture.{Model, likenessAt, likenesses, softmax, expectUpTo}
 use Rattle.mixture.specs.Areas.{Parts, partsIn, total, modelOf, withResp, basedFour, fourLikenesses}
-use Rattle.mixture.proofs.Regions.{directionsR, kappasR, basesR, respR, part-cut, set-in, get-in, part-in, whole-in, put-whole-in, length-in, tabulate-length, tabulate-turn}
+use Rattle.mixture.proofs.Regions.{directionsR, kappasR, basesR, respR, set-in, get-in, part-in, whole-in, put-whole-in, length-in, tabulate-length, tabulate-turn}
 
 -- ---- the likenesses of a leaf
 
@@ -174,7 +175,7 @@ module _ (m k d : ℕ) (w₀ coords : List Float) where
     liked-all : partsIn m k d w ≡ withResp (joined likes m) (partsIn m k d w₀)
     liked-all =
         let p₀ = partsIn m k d w₀ in
-        f ∙ ap likesIn all ∙ ap (λ (l : List Float). withResp l p₀) (joined-all likes k m (p₀ .resp) (length-in respR m k d w₀ room))
+        f ∙ ap likesIn all ∙ ap (λ (l : List Float). withResp l p₀) (front-end (joined likes m) (p₀ .resp) (m * k) (length-in respR m k d w₀ room))
 
     rows-are : part w at n ≡ joined likes m
     rows-are = whole-in respR m k d w at n (omega arith) (omega arith) ∙ ap (λ (p : Parts). p .resp) liked-all

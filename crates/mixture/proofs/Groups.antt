@@ -7,10 +7,10 @@ use native.Mathlib.Omega.{arith}
 use lib.ListN.{length, getD, drop, set, replicate, length-replicate}
 use lib.Ieee.{Float, nan}
 use Rattle.rows.specs.Rows.{part, putPart, startOf}
-use Rattle.rows.proofs.Rows.{length-part}
+use Rattle.rows.proofs.Rows.{length-part, part-cut}
 use Rattle.groups.specs.Kappas.{tabulate}
 use Rattle.mixture.specs.Areas.{Parts, lengths, total, partsIn}
-use Rattle.mixture.proofs.Regions.{Region, part-cut, get-in, whole-in, put-whole-in, frontIn, front-in-start, front-in-turn, front-in-end, tabulate-length, tabulate-turn}
+use Rattle.mixture.proofs.Regions.{Region, get-in, whole-in, put-whole-in, frontIn, front-in-start, front-in-turn, front-in-end, tabulate-length, tabulate-turn}
 
 -- ---- a region written place by place
 module _ (R : Region) (f : ℕ → Float) (m k d : ℕ) (w₀ : List Float) where

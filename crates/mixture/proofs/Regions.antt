@@ -9,7 +9,7 @@ use lib.ListN.{length, getD, drop, set, length-append}
 use lib.Ieee.{Float}
 use Rattle.rows.specs.Rows.{part, putPart, cut, startOf}
 use Rattle.rows.proofs.Rows.{cut-set, cut-put, cut-whole, cut-length, cut-put-whole, cut-get, cut-part}
-use Rattle.lloyd.proofs.Seeds.{front-turn, front-end}
+use Rattle.rows.proofs.Fills.{front-turn, front-end}
 use Rattle.groups.specs.Kappas.{tabulate}
 use Rattle.mixture.specs.Areas.{Parts, lengths, total, named, partsIn, withDirections, withSums, withWeights, withKappas, withBases, withTotals, withNorms, withResp}
 
@@ -62,10 +62,6 @@ normsR = region 6 (λ p. p .norms) withNorms (λ ls. refl) (λ m k d w l. refl) 
 
 abbrev pub respR : Region
 respR = region 7 (λ p. p .resp) withResp (λ ls. refl) (λ m k d w l. refl) (λ l p. refl) (λ l l' p. refl) (λ p. refl) (λ m k d. omega arith) (omega arith)
-
--- ---- a part as the code cuts it
-pub part-cut : {A : Type 0} (l : List A) (at n : ℕ) → part l at (at + n - at) ≡ part l at n
-part-cut l at n = let f : at + n - at ≡ n = omega arith in rw f
 
 -- ---- the laws of a region
 module _ (R : Region) (m k d : ℕ) (w : List Float) where
@@ -142,7 +138,7 @@ module _ (R : Region) (m k d : ℕ) (w₀ : List Float) where
       ∙ ap (λ (p : Parts). R .put (set (R .get p) i v) p) f
       ∙ ap (λ (y : List Float). R .put (set y i v) (R .put x p₀)) (R .get-put x p₀)
       ∙ R .put-put (set x i v) x p₀
-      ∙ ap (λ (y : List Float). R .put y p₀) (front-turn t (R .get p₀) i l v in-front)
+      ∙ ap (λ (y : List Float). R .put y p₀) (front-turn nan t (R .get p₀) i l v in-front)
 
   pub front-in-end : (w t : List Float) (n : ℕ) → n ≡ size R m k d w₀ → total m k d ≤ length w₀ → partsIn m k d w ≡ frontIn t n → partsIn m k d w ≡ R .put t (partsIn m k d w₀)
   front-in-end w t n e g f =

@@ -6,10 +6,9 @@ use native.Mathlib.Omega.{arith}
 use lib.ListN.{length}
 use lib.Ieee.{Float}
 use Rattle.rows.specs.Rows.{part}
-use Rattle.rows.proofs.Rows.{row-within, length-part}
+use Rattle.rows.proofs.Rows.{row-within, length-part, part-cut}
 use Rattle.softmax.specs.Softmax.{LeafRows}
 use Rattle.mixture.specs.Areas.{Area, LeafOf, GroupOf}
-use Rattle.mixture.proofs.Regions.{part-cut}
 
 pub area-of : (work work' m k d : ℕ) → work' ≡ work → Area work m k d → Area work' m k d
 area-of work work' m k d e a = rw e a

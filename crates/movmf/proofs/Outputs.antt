@@ -10,14 +10,14 @@ use lib.Seq.{take-suc-set}
 use lib.Ieee.{Float, nan, binary64, add}
 use Rattle.rows.specs.Rows.{part}
 use Rattle.vector.specs.Vectors.{argmaxOf}
-use Rattle.rows.proofs.Rows.{length-part}
+use Rattle.rows.proofs.Rows.{length-part, part-cut}
 use Rattle.rows.proofs.Fills.{take-end}
 use Rattle.vector.proofs.Vectors.{argmax-below}
 use Rattle.groups.specs.Kappas.{tabulate}
 use Rattle.groups.specs.Groups.{logNormOf}
 use Rattle.mixture.specs.Fits.{lnWeight, logwAt}
 use Rattle.mixture.specs.Areas.{partsIn, modelOf}
-use Rattle.mixture.proofs.Regions.{weightsR, kappasR, part-cut, get-in, tabulate-turn}
+use Rattle.mixture.proofs.Regions.{weightsR, kappasR, get-in, tabulate-turn}
 
 -- ---- a list of which the first i places are written
 module _ {A : Type 0} (f : ℕ → A) (s : List A) (i : ℕ) where

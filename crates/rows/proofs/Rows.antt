@@ -8,7 +8,7 @@ use native.Mathlib.Numerals.{add-one}
 use native.Mathlib.Omega.{arith}
 use lib.ListN.{length, getD, take, drop, set, drop-of-length-le, length-append, length-drop}
 use lib.Seq.{take-set-le, drop-set-lt, take-set-lt, drop-set-add, drop-drop, take-take, length-take-le, take-at, drop-at, getD-take, getD-drop, drop-cons, set-at, paste, paste-suc, drop-paste}
-use Rattle.rows.specs.Rows.{part, putPart, cut, startOf}
+use Rattle.rows.specs.Rows.{part, putPart, rowOf, cut, startOf}
 
 -- row c of k rows of d elements lies within k * d
 pub row-within : (c k d : ℕ) → c < k → c * d + d ≤ k * d
@@ -17,6 +17,13 @@ row-within c k d h = rw (← suc-mul) (mul-le-mul-right d h)
 module _ {A : Type 0} where
   pub length-part : (l : List A) (at n : ℕ) → at + n ≤ length l → length (part l at n) ≡ n
   length-part l at n h = length-take-le n (drop at l) (rw length-drop (omega arith))
+
+  -- a part and a row as the code cuts them
+  pub part-cut : (l : List A) (at n : ℕ) → take (at + n - at) (drop at l) ≡ part l at n
+  part-cut l at n = let f : at + n - at ≡ n = omega arith in rw f
+
+  pub row-cut : (l : List A) (d c : ℕ) → take (c * d + d - c * d) (drop (c * d) l) ≡ rowOf l d c
+  row-cut l d c = part-cut l (c * d) d
 
   take-front : (l v : List A) (n : ℕ) → length v ≤ n → n ≤ length l → take n (v ++ drop (length v) l) ≡ v ++ drop (length v) (take n l)
   take-front l [] n h g = refl

@@ -6,7 +6,7 @@ use Prim.Native.Nat.{ℕ, zero, suc, _+_, _*_, _≤_, _<_}
 use native.Mathlib.Nat.{suc-mul, zero-mul, add-suc, add-zero}
 use native.Mathlib.Numerals.{add-one}
 use native.Mathlib.Omega.{arith}
-use lib.ListN.{length, getD, drop, length-append, length-drop, drop-of-length-le}
+use lib.ListN.{length, getD, drop, length-append, length-drop}
 use lib.Seq.{take-at, drop-at, take-all, take-append-le, drop-append-le, drop-drop}
 use lib.Ieee.{Float, nan, binary64, add, mul}
 use Rattle.float.proofs.Order.{lt-or-ge}
@@ -51,11 +51,6 @@ joined-turn f k i n l w v long p e q =
     let r = joined-length f k i long in
     rw (e, p, q, take-at (joined f i) (drop (i * k) l) (i * k) r, drop-at (joined f i) (drop (i * k) l) (i * k) r, add-one, suc-mul, append-assoc)
     (ap (λ (x : List Float). joined f i ++ (f i ++ x)) (drop-drop k (i * k) l))
-
-pub joined-all : (f : ℕ → List Float) (k n : ℕ) (l : List Float) → length l ≡ n * k → joined f n ++ drop (n * k) l ≡ joined f n
-joined-all f k n l h =
-    let g : length l ≤ n * k = omega arith in
-    rw (drop-of-length-le l g, append-nil)
 
 pub joined-map : (g : Float → Float) (f : ℕ → List Float) (n : ℕ) → map g (joined f n) ≡ joined (λ (i : ℕ). map g (f i)) n
 unfolding joined

@@ -1,22 +1,13 @@
 -- `lloyd::turned` meets its contract, by what `dot` and `clamp` ensure. Assumes nothing.
-use mathlib.Core.Path.{_≡_, ap, _∙_}
-use Prim.Native.Nat.{ℕ, _+_, _-_}
-use native.Mathlib.Omega.{arith}
-use mathlib.Core.List.{List}
+use mathlib.Core.Path.{ap, ap₂, _∙_}
+use Prim.Native.Nat.{_-_}
 use borrow.Author.Needs.{needs}
-use lib.ListN.{take, drop}
-use lib.Ieee.{Float, ofBits, ofInt}
+use lib.Ieee.{ofBits, ofInt}
 use Rattle.vector.specs.Vectors.{dotOf}
-use Rattle.rows.specs.Rows.{part}
+use Rattle.rows.proofs.Rows.{part-cut}
 use Rattle.bounds.specs.Shifts.{cosine}
 use Rattle.lloyd.proofs.turned.Statement.{statement}
 use Rattle.lloyd.proofs.turned.Tie as tie
-
-parts-dot : (w : List Float) (at to d : ℕ) → dotOf (take (at + d - at) (drop at w)) (take (to + d - to) (drop to w)) ≡ dotOf (part w at d) (part w to d)
-parts-dot w at to d =
-    let f : at + d - at ≡ d = omega arith in
-    let g : to + d - to ≡ d = omega arith in
-    rw (f, g)
 
 add-dot : tie.Need-add-dot
 add-dot c = search needs
@@ -58,7 +49,7 @@ returns : tie.Need-returns
 unfolding ofBits ofInt
 returns c =
     let a = c .before .before .before .before .before .args in
-    c .clamp .ensures ∙ ap cosine (c .before .dot .ensures ∙ parts-dot (a .w .now) (a .at) (a .to) (a .d))
+    c .clamp .ensures ∙ ap cosine (c .before .dot .ensures ∙ ap₂ dotOf (part-cut (a .w .now) (a .at) (a .d)) (part-cut (a .w .now) (a .to) (a .d)))
 
 pub turned-spec : {M : Type 1} → statement M
 turned-spec =

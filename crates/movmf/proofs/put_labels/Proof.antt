@@ -5,8 +5,7 @@ use native.Mathlib.Omega.{arith}
 use lib.ListN.{length, take}
 use Rattle.rows.specs.Rows.{rowOf}
 use Rattle.vector.specs.Vectors.{argmaxOf}
-use Rattle.rows.proofs.Rows.{row-within}
-use Rattle.lloyd.proofs.Seeds.{row-cut}
+use Rattle.rows.proofs.Rows.{row-within, row-cut}
 use Rattle.groups.specs.Kappas.{tabulate}
 use Rattle.movmf.proofs.Outputs.{listed-turn, listed-end, label-below}
 use borrow.Author.Needs.{needs}

@@ -9,7 +9,8 @@ use lib.ListN.{length, drop}
 use lib.Ieee.{ofBits}
 use Rattle.float.specs.Arithmetic.{plusZero}
 use Rattle.softmax.specs.Softmax.{logSumAt, sharesAt, sharesUpTo, logsUpTo}
-use Rattle.softmax.proofs.Joined.{joined-none, joined-all, weighed-none}
+use Rattle.softmax.proofs.Joined.{joined-none, weighed-none}
+use Rattle.rows.proofs.Fills.{front-end}
 use Rattle.softmax.proofs.Blocks.{block-of, shares-more, logs-more}
 use borrow.Author.Needs.{needs}
 use Rattle.softmax.proofs.soften.Statement.{statement}
@@ -115,7 +116,7 @@ returns c =
     let e : l .i ≡ m = omega (arith, c .loop-test .left, l .inv .0) in (
       l .inv .2 ∙ ap (logsUpTo (a .k) (a .rows .now) (a .weights .now) plusZero) e,
       l .inv .3 ∙ ap (λ (n : ℕ). sharesUpTo (a .k) (a .rows .now) n ++ drop (n * a .k) (a .rows .now)) e
-          ∙ joined-all (sharesAt (a .k) (a .rows .now)) (a .k) m (a .rows .now) (c .before .before .before .before .pre .rows-long),
+          ∙ front-end (sharesUpTo (a .k) (a .rows .now) m) (a .rows .now) (m * a .k) (c .before .before .before .before .pre .rows-long),
     )
 
 pub soften-spec : {M : Type 1} → statement M
