@@ -6,7 +6,7 @@ use Prim.Native.Nat.{ℕ, zero, suc, _+_, _-_, _≤_, _<_}
 use native.Mathlib.Numerals.{add-one}
 use native.Mathlib.Omega.{arith}
 use lib.ListN.{length, getD, drop, set, length-append}
-use lib.Ieee.{Float}
+use lib.Ieee.{Float, nan}
 use Rattle.rows.specs.Rows.{part, putPart, cut, startOf}
 use Rattle.rows.proofs.Rows.{cut-set, cut-put, cut-whole, cut-length, cut-put-whole, cut-get, cut-part}
 use Rattle.rows.proofs.Fills.{front-turn, front-end}
