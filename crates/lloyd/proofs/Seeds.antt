@@ -23,7 +23,7 @@ use Rattle.vector.proofs.Vectors.{dot-comm, unit-length, pick-below}
 use Rattle.bounds.specs.Nearest.{rowDots}
 use Rattle.lloyd.specs.Lloyd.{State, normsUpTo, startedFrom}
 use Rattle.lloyd.specs.Seeding.{angleOf, anglesUpTo, lowered, chances, seedsUpTo, seedsOf}
-use Rattle.lloyd.specs.Areas.{Area, Seeding, SeededNext, stateIn, total, scaleAt, lowAt, highAt, servedAt, driftAt, nextPick, putScale, putLow, putHigh, putCenter, fourAngles, lowerAt, lowerFour}
+use Rattle.lloyd.specs.Areas.{Area, Seeding, SeededNext, stateIn, total, scaleAt, lowAt, highAt, servedAt, driftAt, nextPick, putScale, putLow, putHigh, putCenter, fourNorms, fourAngles, lowerAt, lowerFour}
 use Rattle.lloyd.proofs.Regions.{withScale, withLow, withHigh, withServed, withDrift, withLabels, put-low-all, put-high-all, put-served-all, put-drift-all, put-labels-all, high-are, length-centers, set-scale, set-low, set-high, get-low, row-centers, put-row-centers, length-low, length-high}
 
 -- an area of the same length has the same sizes
@@ -84,18 +84,25 @@ module _ (m k d : ℕ) (coords : List Float) (u : List ℕ) (s : State) (ls : le
       let more : normsUpTo coords d i ++ (v ∷ []) ≡ normsUpTo coords d (i + 1) = rw (add-one, g) in
       rw ea (scale-turn m k d w u s (normsUpTo coords d i) i v h (norms-length coords d i) ls f) ∙ ap (λ (x : List Float). putScale (x ++ drop (i + 1) (s .scale)) s) more
 
-  -- a leaf, whose row is as the code cuts it, and two leaves
+  -- a leaf, whose row is as the code cuts it, and four leaves
   pub norms-turn : (w : List Float) (i : ℕ) (v : Float) → i < m → v ≡ normOf (take (i * d + d - i * d) (drop (i * d) coords))
       → stateIn m k d w u ≡ normed coords d i s → stateIn m k d (set w (scaleAt m k d + i) v) u ≡ normed coords d (i + 1) s
   norms-turn w i v h e f = norms-next w i (scaleAt m k d + i) v h refl (e ∙ ap normOf (row-cut coords d i)) f
 
-  pub norms-two : (w : List Float) (i : ℕ) (v x : Float) → i + 2 ≤ m → v ≡ normOf (rowOf coords d i) → x ≡ normOf (rowOf coords d (i + 1))
-      → stateIn m k d w u ≡ normed coords d i s → stateIn m k d (set (set w (scaleAt m k d + i) v) (scaleAt m k d + i + 1) x) u ≡ normed coords d (i + 2) s
-  norms-two w i v x h ev ex f =
-      let p : i + 1 + 1 ≡ i + 2 = omega arith in
-      norms-next (set w (scaleAt m k d + i) v) (i + 1) (scaleAt m k d + i + 1) x (omega arith) (omega arith) ex
-      (norms-next w i (scaleAt m k d + i) v (omega arith) refl ev f)
-      ∙ ap (λ (n : ℕ). normed coords d n s) p
+  pub norms-four : (w : List Float) (i : ℕ) (f : Four) → i + 4 ≤ m → f ≡ fourNorms coords d i → stateIn m k d w u ≡ normed coords d i s
+      → let at = scaleAt m k d + i in stateIn m k d (set (set (set (set w at (f .a)) (at + 1) (f .b)) (at + 2) (f .c)) (at + 3) (f .e)) u ≡ normed coords d (i + 4) s
+  norms-four w i f h e g =
+      let at = scaleAt m k d + i in
+      let p₂ : i + 1 + 1 ≡ i + 2 = omega arith in
+      let p₃ : i + 2 + 1 ≡ i + 3 = omega arith in
+      let p₄ : i + 3 + 1 ≡ i + 4 = omega arith in
+      let w₁ = set w at (f .a) in
+      let w₂ = set w₁ (at + 1) (f .b) in
+      let w₃ = set w₂ (at + 2) (f .c) in
+      let t₁ = norms-next w i at (f .a) (omega arith) refl (ap (λ (v : Four). v .a) e) g in
+      let t₂ = norms-next w₁ (i + 1) (at + 1) (f .b) (omega arith) (omega arith) (ap (λ (v : Four). v .b) e) t₁ ∙ ap (λ (n : ℕ). normed coords d n s) p₂ in
+      let t₃ = norms-next w₂ (i + 2) (at + 2) (f .c) (omega arith) (omega arith) (ap (λ (v : Four). v .c) e) t₂ ∙ ap (λ (n : ℕ). normed coords d n s) p₃ in
+      norms-next w₃ (i + 3) (at + 3) (f .e) (omega arith) (omega arith) (ap (λ (v : Four). v .e) e) t₃ ∙ ap (λ (n : ℕ). normed coords d n s) p₄
 
   pub norms-end : (w : List Float) (i : ℕ) → i ≡ m → stateIn m k d w u ≡ normed coords d i s → stateIn m k d w u ≡ putScale (normsUpTo coords d m) s
   norms-end w i e f = f ∙ ap (λ (n : ℕ). normed coords d n s) e ∙ ap (λ (x : List Float). putScale x s) (front-end (normsUpTo coords d m) (s .scale) m ls)

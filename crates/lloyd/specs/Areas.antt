@@ -8,7 +8,7 @@ use lib.Ieee.{Float, nan, inf, lt}
 use Rattle.rows.specs.Rows.{part, putPart, cut, rowOf}
 use Rattle.vector.specs.Pick.{pickOf}
 use Rattle.vector.specs.declared.Picked.{Picked}
-use Rattle.vector.specs.Vectors.{dotOf, argminOf, unitVector}
+use Rattle.vector.specs.Vectors.{dotOf, normOf, argminOf, unitVector}
 use lib.Dec.{eqb, ltb}
 use Rattle.float.specs.Arithmetic.{plusZero}
 use Rattle.float.specs.declared.Four.{Four}
@@ -109,6 +109,16 @@ pub record Area (work m k d : ℕ) : Type 0 where
   pub work-long : total m k d ≤ work
 
 -- ---- the distances of the seeding
+
+-- the norms of leaves i to i + 3
+abbrev pub fourNorms : List Float → ℕ → ℕ → Four
+fourNorms coords d i =
+    record {
+      a = normOf (rowOf coords d i);
+      b = normOf (rowOf coords d (i + 1));
+      c = normOf (rowOf coords d (i + 2));
+      e = normOf (rowOf coords d (i + 3));
+    }
 
 -- how far leaves i to i + 3 are from a centre
 abbrev pub fourAngles : List Float → ℕ → List Float → ℕ → Four

@@ -15,8 +15,8 @@ ghost use Rattle.lloyd.specs.Seeding.{angleOf, anglesUpTo, lowered, chan
 ghost use Rattle.lloyd.specs.Cohesion.{cohesionOf};
 ghost use Rattle.lloyd.specs.Results.{resultOf};
 ghost use Rattle.float.specs.Arithmetic.{plusZero, sumFrom};
-ghost use Rattle.vector.specs.Vectors.{dotOf, normOf, unitVector};
-ghost use Rattle.lloyd.specs.Areas.{stateIn, sumsIn, countsIn, Sized, LeafOf, GroupOf, Labelled, Area, Spent, LeafPassed, tallied, Gains, Gained, Accumulated, serveLeaf, LaterRows, occursUpTo, Reseeded, GroupUpdated, CountsAtMost, Updated, Settled, RoundDone, freshRun, Lloyded, putScale, putLow, putHigh, putCenter, fourAngles, lowerAt, lowerFour, Seeding, SeededNext, Runnable, RunDone, RunLeft};
+ghost use Rattle.vector.specs.Vectors.{dotOf, unitVector};
+ghost use Rattle.lloyd.specs.Areas.{stateIn, sumsIn, countsIn, Sized, LeafOf, GroupOf, Labelled, Area, Spent, LeafPassed, tallied, Gains, Gained, Accumulated, serveLeaf, LaterRows, occursUpTo, Reseeded, GroupUpdated, CountsAtMost, Updated, Settled, RoundDone, freshRun, Lloyded, putScale, putLow, putHigh, putCenter, fourNorms, fourAngles, lowerAt, lowerFour, Seeding, SeededNext, Runnable, RunDone, RunLeft};
 
 // ---- the bounds of a leaf
 
@@ -650,19 +650,28 @@ fn lloyd(
 
 // ---- the start of a run
 
-// The norms of leaves i and i + 1, their roots in step.
-fn pair_norms(coords: &[f64], i: usize, d: usize) -> root::Two
-    requires { ⌜ (i + 2) * d ≤ length (now coords) ⌝ }
-    ensures { λ r. ⌜ (r .a ≡ normOf (rowOf (now (coords .entry)) d i)) × (r .b ≡ normOf (rowOf (now (coords .entry)) d (i + 1))) ⌝ }
+// The norms of leaves i to i + 3, their roots in step.
+fn four_norms(coords: &[f64], i: usize, d: usize) -> float::Four
+    requires { ⌜ (i + 4) * d ≤ length (now coords) ⌝ }
+    ensures { λ r. ⌜ r ≡ fourNorms (now (coords .entry)) d i ⌝ }
 {
     let p = i * d;
     let q = p + d;
+    let r = q + d;
+    let s = r + d;
     let x = &coords[p..q];
-    let y = &coords[q..q + d];
-    root::root2(vector::dot(x, x), vector::dot(y, y))
+    let y = &coords[q..r];
+    let z = &coords[r..s];
+    let w = &coords[s..s + d];
+    root::root4(float::Four {
+        a: vector::dot(x, x),
+        b: vector::dot(y, y),
+        c: vector::dot(z, z),
+        e: vector::dot(w, w),
+    })
 }
 
-// The norm of each leaf becomes its scale: by twos, then the last one.
+// The norm of each leaf becomes its scale: by fours, then singly.
 fn measure(work: &mut [f64], coords: &[f64], m: usize, k: usize, d: usize)
     requires { ⌜ (Area (length (now work)) m k d) × (length (now coords) ≡ m * d) × (m * d ≤ 1048576) ⌝ }
     ensures { λ _. ⌜ ((u : List ℕ) → stateIn m k d (now (work .exit)) u ≡ putScale (normsUpTo (now (coords .entry)) d m) (stateIn m k d (now (work .entry)) u)) ⌝ }
@@ -670,11 +679,14 @@ fn measure(work: &mut [f64], coords: &[f64], m: usize, k: usize, d: usize)
     let kd = k * d;
     let scale = kd + kd;
     let mut i = 0;
-    while 2 <= m - i {
-        let n = pair_norms(coords, i, d);
-        work[scale + i] = n.a;
-        work[scale + i + 1] = n.b;
-        i += 2;
+    while 4 <= m - i {
+        let n = four_norms(coords, i, d);
+        let to = scale + i;
+        work[to] = n.a;
+        work[to + 1] = n.b;
+        work[to + 2] = n.c;
+        work[to + 3] = n.e;
+        i += 4;
     }
     while i < m {
         let at = i * d;

@@ -8,7 +8,7 @@ use lib.ListN.{length, length-set}
 use Rattle.rows.proofs.Rows.{row-within}
 use Rattle.lloyd.specs.Areas.{stateIn}
 use Rattle.lloyd.proofs.Regions.{length-scale}
-use Rattle.lloyd.proofs.Seeds.{NormedFrom, norms-start, norms-two, norms-turn, norms-end}
+use Rattle.lloyd.proofs.Seeds.{NormedFrom, norms-start, norms-four, norms-turn, norms-end}
 use borrow.Author.Needs.{needs}
 use Rattle.lloyd.proofs.measure.Statement.{statement}
 use Rattle.lloyd.proofs.measure.Tie as tie
@@ -44,15 +44,15 @@ loop-holds c = (search needs, refl, λ u s h e. e)
 sub-loop : tie.Need-sub-loop Inv-loop μ-loop Inv-loop2 μ-loop2
 sub-loop c = search needs
 
-pair-norms-requires : tie.Need-pair-norms-requires Inv-loop μ-loop Inv-loop2 μ-loop2
-pair-norms-requires c κs =
+four-norms-requires : tie.Need-four-norms-requires Inv-loop μ-loop Inv-loop2 μ-loop2
+four-norms-requires c κs =
     let l = c .before .loop in
     let b = c .before .before .before .before in
-    let h : l .i + 2 ≤ b .args .m = omega (arith, c .loop-test .taken, l .inv .0) in
+    let h : l .i + 4 ≤ b .args .m = omega (arith, c .loop-test .taken, l .inv .0) in
     omega (arith, mul-le-mul-right (b .args .d) h, b .pre .1)
 
-add-work : tie.Need-add-work Inv-loop μ-loop Inv-loop2 μ-loop2
-add-work c = search needs
+add-to : tie.Need-add-to Inv-loop μ-loop Inv-loop2 μ-loop2
+add-to c = search needs
 
 mul-work : tie.Need-mul-work Inv-loop μ-loop Inv-loop2 μ-loop2
 mul-work c = search needs
@@ -60,17 +60,38 @@ mul-work c = search needs
 slice-write-work : tie.Need-slice-write-work Inv-loop μ-loop Inv-loop2 μ-loop2
 slice-write-work c = search needs
 
-add-work-2 : tie.Need-add-work-2 Inv-loop μ-loop Inv-loop2 μ-loop2
-add-work-2 c = search needs
-
-add-work-3 : tie.Need-add-work-3 Inv-loop μ-loop Inv-loop2 μ-loop2
-add-work-3 c = search needs
+add-work : tie.Need-add-work Inv-loop μ-loop Inv-loop2 μ-loop2
+add-work c = search needs
 
 mul-work-2 : tie.Need-mul-work-2 Inv-loop μ-loop Inv-loop2 μ-loop2
 mul-work-2 c = search needs
 
 slice-write-work-2 : tie.Need-slice-write-work-2 Inv-loop μ-loop Inv-loop2 μ-loop2
 slice-write-work-2 c =
+    let l = c .before .before .loop in
+    let b = c .before .before .before .before .before in
+    simp length-set (omega (arith, c .before .loop-test .taken, l .inv .0, l .inv .1, b .pre .0 .work-long))
+
+add-work-2 : tie.Need-add-work-2 Inv-loop μ-loop Inv-loop2 μ-loop2
+add-work-2 c = search needs
+
+mul-work-3 : tie.Need-mul-work-3 Inv-loop μ-loop Inv-loop2 μ-loop2
+mul-work-3 c = search needs
+
+slice-write-work-3 : tie.Need-slice-write-work-3 Inv-loop μ-loop Inv-loop2 μ-loop2
+slice-write-work-3 c =
+    let l = c .before .before .loop in
+    let b = c .before .before .before .before .before in
+    simp length-set (omega (arith, c .before .loop-test .taken, l .inv .0, l .inv .1, b .pre .0 .work-long))
+
+add-work-3 : tie.Need-add-work-3 Inv-loop μ-loop Inv-loop2 μ-loop2
+add-work-3 c = search needs
+
+mul-work-4 : tie.Need-mul-work-4 Inv-loop μ-loop Inv-loop2 μ-loop2
+mul-work-4 c = search needs
+
+slice-write-work-4 : tie.Need-slice-write-work-4 Inv-loop μ-loop Inv-loop2 μ-loop2
+slice-write-work-4 c =
     let l = c .before .before .loop in
     let b = c .before .before .before .before .before in
     simp length-set (omega (arith, c .before .loop-test .taken, l .inv .0, l .inv .1, b .pre .0 .work-long))
@@ -86,11 +107,10 @@ loop-again c =
     let l = c .before .before .loop in
     let b = c .before .before .before .before .before in
     let a = b .args in
-    let h : l .i + 2 ≤ a .m = omega (arith, c .before .loop-test .taken, l .inv .0) in (
+    let h : l .i + 4 ≤ a .m = omega (arith, c .before .loop-test .taken, l .inv .0) in (
       h,
       simp length-set (l .inv .1),
-      λ u s g e. norms-two (a .m) (a .k) (a .d) (a .coords .now) u s g (l .work) (l .i) (c .pair-norms .result .a) (c .pair-norms .result .b) h (c .pair-norms .ensures .0) (c .pair-norms .ensures .1)
-          (l .inv .2 u s g e),
+      λ u s g e. norms-four (a .m) (a .k) (a .d) (a .coords .now) u s g (l .work) (l .i) (c .four-norms .result) h (c .four-norms .ensures) (l .inv .2 u s g e),
     )
 
 loop2-holds : tie.Need-loop2-holds Inv-loop μ-loop Inv-loop2 μ-loop2
@@ -120,11 +140,11 @@ norm-requires c κs = search needs
 add-work-4 : tie.Need-add-work-4 Inv-loop μ-loop Inv-loop2 μ-loop2
 add-work-4 c = search needs
 
-mul-work-3 : tie.Need-mul-work-3 Inv-loop μ-loop Inv-loop2 μ-loop2
-mul-work-3 c = search needs
+mul-work-5 : tie.Need-mul-work-5 Inv-loop μ-loop Inv-loop2 μ-loop2
+mul-work-5 c = search needs
 
-slice-write-work-3 : tie.Need-slice-write-work-3 Inv-loop μ-loop Inv-loop2 μ-loop2
-slice-write-work-3 c = search needs
+slice-write-work-5 : tie.Need-slice-write-work-5 Inv-loop μ-loop Inv-loop2 μ-loop2
+slice-write-work-5 c = search needs
 
 add-i-2 : tie.Need-add-i-2 Inv-loop μ-loop Inv-loop2 μ-loop2
 add-i-2 c = search needs
@@ -166,14 +186,19 @@ measure-spec =
     add-scale
     loop-holds
     sub-loop
-    pair-norms-requires
-    add-work
+    four-norms-requires
+    add-to
     mul-work
     slice-write-work
-    add-work-2
-    add-work-3
+    add-work
     mul-work-2
     slice-write-work-2
+    add-work-2
+    mul-work-3
+    slice-write-work-3
+    add-work-3
+    mul-work-4
+    slice-write-work-4
     add-i
     loop-less
     loop-again
@@ -186,8 +211,8 @@ measure-spec =
     part-norm-end
     norm-requires
     add-work-4
-    mul-work-3
-    slice-write-work-3
+    mul-work-5
+    slice-write-work-5
     add-i-2
     loop2-less
     loop2-again
