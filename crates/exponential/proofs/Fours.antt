@@ -7,6 +7,7 @@ use lib.Dec.{T}
 use lib.Ieee.{Float, lt, neg, ofInt, ofBits}
 use Rattle.float.specs.Arithmetic.{f64, number, plusZero}
 use Rattle.exponential.specs.Exponential.{floorOf, turnsOf, expFrom, expOf}
+use Rattle.float.proofs.Fours.{four-of, each}
 use Rattle.exponential.specs.Fours.{exponentials}
 use Rattle.exponential.specs.Steps.{inside, allInside, raised, OnePower, PowersOf, AllInside, steppedFour, leftFour, seriesFour, onesFour, timesFour}
 use Rattle.float.specs.declared.Four.{Four}
@@ -16,24 +17,6 @@ use Rattle.float.proofs.Tests.{of-true}
 -- one of four between the borders
 one-of : (x n w : Float) → T (inside x) → OnePower x n w → raised x n w ≡ expOf x
 one-of x n w h p = by-whole x n w (floorOf (turnsOf x)) (p .whole) (p .power) ∙ by-inside x h
-
-pub four-of : (x : Four) (a b c e : Float) → a ≡ expOf (x .a) → b ≡ expOf (x .b) → c ≡ expOf (x .c) → e ≡ expOf (x .e)
-    → _≡_ {A = Four} (record { a = a; b = b; c = c; e = e }) (exponentials x)
-four-of x a b c e p q r s = rw (p, q, r, s)
-
--- four tests at once, each of which came out true
-record Each (p q r s : Bool) : Type 0 where
-  pub first : p ≡ true
-  pub second : q ≡ true
-  pub third : r ≡ true
-  pub last : s ≡ true
-
-each : (p q r s : Bool) → p && q && r && s ≡ true → Each p q r s
-each true true true true h = record { first = refl; second = refl; third = refl; last = refl }
-each false q r s h = absurd (true≢false (sym h))
-each true false r s h = absurd (true≢false (sym h))
-each true true false s h = absurd (true≢false (sym h))
-each true true true false h = absurd (true≢false (sym h))
 
 pub all-inside : (x : Four) → allInside x ≡ true → AllInside x
 all-inside x k =
@@ -59,7 +42,7 @@ pub all-below : (x : Four) → under (x .a) && under (x .b) && under (x .c) && u
     → _≡_ {A = Four} (record { a = plusZero; b = plusZero; c = plusZero; e = plusZero }) (exponentials x)
 all-below x k =
     let t = each (under (x .a)) (under (x .b)) (under (x .c)) (under (x .e)) k in
-    four-of x plusZero plusZero plusZero plusZero (by-low (x .a) (t .first)) (by-low (x .b) (t .second)) (by-low (x .c) (t .third)) (by-low (x .e) (t .last))
+    four-of expOf x plusZero plusZero plusZero plusZero (by-low (x .a) (t .first)) (by-low (x .b) (t .second)) (by-low (x .c) (t .third)) (by-low (x .e) (t .last))
 
 -- ---- the series of each of the four
 
@@ -80,7 +63,7 @@ series-end r p j e = rw e
 
 four-raised : (x n w : Four) → AllInside x → PowersOf x n w → timesFour (seriesFour 13 (leftFour x n) onesFour) w ≡ exponentials x
 four-raised x n w h p =
-    four-of x _ _ _ _
+    four-of expOf x _ _ _ _
     (one-of (x .a) (n .a) (w .a) (h .at-a) (p .at-a))
     (one-of (x .b) (n .b) (w .b) (h .at-b) (p .at-b))
     (one-of (x .c) (n .c) (w .c) (h .at-c) (p .at-c))

@@ -17,6 +17,7 @@ pub mod Fields
 pub mod Rounding
 pub mod Assemble
 pub mod Parts
+pub mod Fours
 -- ---- the definitions of specs/
 pub mod ClampOf
 pub mod Monotone

@@ -12,7 +12,7 @@ use Rattle.root.specs.Root.{rootOf}
 use Rattle.root.specs.Steps.{Nearest}
 use Rattle.root.proofs.Roots.{paired, paired-word}
 use Rattle.root.proofs.RootOf.{root-by-word, of-positive}
-use Rattle.root.proofs.Fours.{four-of}
+use Rattle.float.proofs.Fours.{four-of}
 use Rattle.root.proofs.positive_four.Statement.{statement}
 use Rattle.root.proofs.positive_four.Tie as tie
 
@@ -90,7 +90,7 @@ returns c =
     let b = at .before .before .before .before in
     let x = b .args .x in
     let h = held b in
-    four-of x _ _ _ _
+    four-of rootOf x _ _ _ _
     (c .before .before .before .before .before .before .compose .ensures ∙ by-word (at .before .before .before .split .ensures) (b .pre .a) (h .0) (n .ensures .0))
     (c .before .before .before .before .compose2 .ensures ∙ by-word (at .before .before .split2 .ensures) (b .pre .b) (h .1) (n .ensures .1))
     (c .before .before .compose3 .ensures ∙ by-word (at .before .split3 .ensures) (b .pre .c) (h .2) (n .ensures .2))

@@ -1,6 +1,8 @@
 -- `root::root4` meets its contract: the four roots in step where all the numbers are positive, else each by `root`. Assumes nothing.
 use borrow.Author.Needs.{needs}
-use Rattle.root.proofs.Fours.{four-of, all-positive}
+use Rattle.float.proofs.Fours.{four-of}
+use Rattle.root.specs.Root.{rootOf}
+use Rattle.root.proofs.Fours.{all-positive}
 use Rattle.root.proofs.root4.Statement.{statement}
 use Rattle.root.proofs.root4.Tie as tie
 
@@ -37,7 +39,7 @@ root-requires-4 c κs = search needs
 
 returns-2 : tie.Need-returns-2
 returns-2 c =
-    four-of (c .before .before .before .before .before .before .before .before .before .args .x) _ _ _ _ (c .before .before .before .root .ensures) (c .before .before .root2 .ensures) (c .before .root3 .ensures) (c .root4 .ensures)
+    four-of rootOf (c .before .before .before .before .before .before .before .before .before .args .x) _ _ _ _ (c .before .before .before .root .ensures) (c .before .before .root2 .ensures) (c .before .root3 .ensures) (c .root4 .ensures)
 
 pub root4-spec : {M : Type 1} → statement M
 root4-spec =
