@@ -11,7 +11,7 @@ use lib.Seq.{drop-drop, drop-at}
 use lib.Ieee.{Float, lt}
 use Rattle.logarithm.specs.Logarithm.{lnOf}
 use Rattle.rows.specs.Rows.{part, rowOf}
-use Rattle.vector.specs.Vectors.{argmaxOf}
+use Rattle.pick.specs.Places.{argmaxOf}
 use Rattle.limits.specs.Halves.{half, heldAt, freeAt}
 use Rattle.mixture.specs.Mixture.{Em}
 use Rattle.mixture.specs.Fits.{Once, labelsOf, logwAt, logwOf}

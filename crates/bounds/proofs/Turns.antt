@@ -1,9 +1,15 @@
--- The shifts of a bound by their cases, over plain values: the clamped bound and drift, and the test between them. Assumes nothing.
+-- The shifts of a bound by their cases, over plain values: the clamped bound and drift, and the test between them; and a turn of the loop over the drifts. Assumes
+-- nothing.
 use mathlib.Core.Path.{_≡_, refl}
 use mathlib.Core.Bool.{Bool, true, false, _||_, true≢false}
-use lib.Ieee.{Float, binary64, add, sub, mul, neg, lt, le}
+use mathlib.Core.List.{List}
+use Prim.Native.Nat.{ℕ, _+_}
+use native.Mathlib.Numerals.{add-one}
+use lib.ListN.{getD}
+use lib.Ieee.{Float, nan, binary64, add, sub, mul, neg, lt, le}
 use Rattle.float.specs.Arithmetic.{number}
-use Rattle.bounds.specs.Shifts.{cosine, sinesOf, shiftLower, shiftUpper}
+use Rattle.bounds.specs.Shifts.{cosine, sinesOf, shiftLower, shiftUpper, slowerOf, slowestUpTo}
+use Rattle.bounds.specs.declared.Slowest.{Slowest}
 
 module _ (x p a b : Float) (held : a ≡ cosine x) (turned : b ≡ cosine p) where
   pub lower-past : lt a (neg b) ≡ true → neg (number 1) ≡ shiftLower x p
@@ -25,3 +31,8 @@ module _ (x p a b : Float) (held : a ≡ cosine x) (turned : b ≡ cosine p) whe
 pub neither : (p q : Bool) → (p || q) ≡ false → (p ≡ false) × (q ≡ false)
 neither true q e = absurd (true≢false e)
 neither false q e = (refl, e)
+
+-- the drift of centre c, after those before it
+pub slowest-turn : (drift : List Float) (c : ℕ) (s s' : Slowest) → s ≡ slowestUpTo drift c → s' ≡ slowerOf s c (getD drift c nan) → s' ≡ slowestUpTo drift (c + 1)
+unfolding slowestUpTo
+slowest-turn drift c s s' e f = rw (add-one, ← e) f

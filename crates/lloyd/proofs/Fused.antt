@@ -12,7 +12,7 @@ use lib.Seq.{getD-set-same, getD-set-other, set-set, set-comm}
 use lib.Ieee.{Float, nan, lt}
 use Rattle.float.specs.Arithmetic.{plusZero}
 use Rattle.bounds.specs.Shifts.{shiftedBounds, skips, otherThan}
-use Rattle.bounds.specs.declared.Best.{Best}
+use Rattle.nearest.specs.declared.Best.{Best}
 use Rattle.bounds.specs.declared.Bounds.{Bounds}
 use Rattle.bounds.specs.declared.Slowest.{Slowest}
 use Rattle.lloyd.specs.Lloyd.{State, Pass, boundsAt, putBounds, putLabel, shiftLeaf, shiftUpTo, boundsBy, bestOf, putBest, passLeaf, passUpTo}

@@ -13,11 +13,11 @@ use lib.ListN.{length, getD, take, drop, set, length-set}
 use lib.Ieee.{Float, nan}
 use Rattle.rows.specs.Rows.{rowOf}
 use Rattle.bounds.specs.Shifts.{shiftedBounds, skips, otherThan, slowestUpTo}
-use Rattle.bounds.specs.Nearest.{bestTo}
-use Rattle.bounds.specs.declared.Best.{Best}
+use Rattle.nearest.specs.Nearest.{bestTo}
+use Rattle.nearest.specs.declared.Best.{Best}
 use Rattle.bounds.specs.declared.Bounds.{Bounds}
 use Rattle.bounds.specs.declared.Slowest.{Slowest}
-use Rattle.bounds.proofs.Nearest.{best-below}
+use Rattle.nearest.proofs.Nearest.{best-below}
 use Rattle.lloyd.specs.Lloyd.{State, Pass, boundsAt, putBounds, putLabel, shiftLeaf, shiftUpTo, shiftedFor, boundsBy, bestOf, putBest, passUpTo}
 use Rattle.lloyd.specs.Areas.{stateIn, total, driftAt, servedAt, Area, Labelled, LeafPassed, tallied}
 use Rattle.lloyd.specs.declared.Passed.{Passed}

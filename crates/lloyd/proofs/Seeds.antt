@@ -17,10 +17,11 @@ use Rattle.rows.specs.Rows.{putPart, rowOf}
 use Rattle.vector.specs.Vectors.{dotOf, normOf, unitVector}
 use Rattle.rows.proofs.Rows.{row-within, length-part, part-put, row-cut}
 use Rattle.rows.proofs.Fills.{front-turn, front-next, front-end}
-use Rattle.vector.specs.Pick.{pickOf}
-use Rattle.vector.specs.declared.Picked.{Picked}
-use Rattle.vector.proofs.Vectors.{dot-comm, unit-length, pick-below}
-use Rattle.bounds.specs.Nearest.{rowDots}
+use Rattle.pick.specs.Pick.{pickOf}
+use Rattle.pick.specs.declared.Picked.{Picked}
+use Rattle.vector.proofs.Vectors.{dot-comm, unit-length}
+use Rattle.pick.proofs.Places.{pick-below}
+use Rattle.nearest.specs.Nearest.{rowDots}
 use Rattle.lloyd.specs.Lloyd.{State, normsUpTo, startedFrom}
 use Rattle.lloyd.specs.Seeding.{angleOf, anglesUpTo, lowered, chances, seedsUpTo, seedsOf}
 use Rattle.lloyd.specs.Areas.{Area, Seeding, SeededNext, stateIn, total, scaleAt, lowAt, highAt, servedAt, driftAt, nextPick, putScale, putLow, putHigh, putCenter, fourNorms, fourAngles, lowerAt, lowerFour}

@@ -14,9 +14,10 @@ use borrow.Author.Tests.{eqb-true, eqb-false, eq-eqb, ne-eqb}
 use lib.Ieee.{Float, inf, lt}
 use Rattle.float.specs.Arithmetic.{plusZero}
 use Rattle.rows.specs.Rows.{part, putPart, rowOf}
-use Rattle.vector.specs.Vectors.{dotOf, normOf, dividedBy, unitVector, argminOf}
+use Rattle.vector.specs.Vectors.{dotOf, normOf, dividedBy, unitVector}
+use Rattle.pick.specs.Places.{argminOf}
 use Rattle.rows.proofs.Rows.{row-within, length-part, part-put, drop-put}
-use Rattle.vector.proofs.Vectors.{argmin-below}
+use Rattle.pick.proofs.Places.{argmin-below}
 use Rattle.bounds.specs.Shifts.{cosine}
 use Rattle.lloyd.specs.Lloyd.{State, Update, putServed, moveCenter, centerBy, among, reseedFrom, recenter, updateUpTo}
 use Rattle.lloyd.specs.Areas.{stateIn, sumsIn, countsIn, total, sumsAt, servedAt, driftAt, LeafOf, GroupOf, LaterRows, occursUpTo, worstOf, Reseeded, Recentered, GroupBy, GroupUpdated, CountsAtMost, Updated}

@@ -6,9 +6,10 @@ use Prim.Native.Nat.{ℕ, zero, suc, _+_, _*_, _≤_, _<_}
 use lib.ListN.{length, getD, set}
 use lib.Ieee.{Float, nan, inf, lt}
 use Rattle.rows.specs.Rows.{part, putPart, cut, rowOf}
-use Rattle.vector.specs.Pick.{pickOf}
-use Rattle.vector.specs.declared.Picked.{Picked}
-use Rattle.vector.specs.Vectors.{dotOf, normOf, argminOf, unitVector}
+use Rattle.pick.specs.Pick.{pickOf}
+use Rattle.pick.specs.declared.Picked.{Picked}
+use Rattle.vector.specs.Vectors.{dotOf, normOf, unitVector}
+use Rattle.pick.specs.Places.{argminOf}
 use lib.Dec.{eqb, ltb}
 use Rattle.float.specs.Arithmetic.{plusZero}
 use Rattle.float.specs.declared.Four.{Four}

@@ -7,12 +7,13 @@ use lib.ListN.{getD, set, replicate}
 use lib.Ieee.{Float, nan, inf, binary64, div, lt}
 use Rattle.float.specs.Arithmetic.{number, plusZero}
 use Rattle.rows.specs.Rows.{rowOf, putPart}
-use Rattle.vector.specs.Vectors.{dotOf, normOf, dividedBy, unitVector, addScaled, argminOf}
+use Rattle.vector.specs.Vectors.{dotOf, normOf, dividedBy, unitVector, addScaled}
+use Rattle.pick.specs.Places.{argminOf}
 use Rattle.bounds.specs.Shifts.{cosine, shiftedBounds, skips, slowestUpTo, otherThan}
-use Rattle.bounds.specs.Nearest.{bestTo}
+use Rattle.nearest.specs.Nearest.{bestTo}
 use Rattle.bounds.specs.declared.Bounds.{Bounds}
 use Rattle.bounds.specs.declared.Slowest.{Slowest}
-use Rattle.bounds.specs.declared.Best.{Best}
+use Rattle.nearest.specs.declared.Best.{Best}
 
 -- ---- the state: centres row by row, a leaf's bounds, how well it is served, each centre's drift, and the labels
 pub record State : Type 0 where

@@ -6,8 +6,8 @@ use lib.Ieee.{Float, binary64, sub, mul, lt}
 use Rattle.float.specs.Arithmetic.{number, plusZero, maxOf}
 use Rattle.rows.specs.Rows.{rowOf}
 use Rattle.vector.specs.Vectors.{dotOf, unitVector}
-use Rattle.vector.specs.Pick.{pickOf}
-use Rattle.vector.specs.declared.Picked.{Picked}
+use Rattle.pick.specs.Pick.{pickOf}
+use Rattle.pick.specs.declared.Picked.{Picked}
 
 -- how far a leaf is from a centre: max(1 − dot, 0)
 abbrev pub angleOf : List Float → List Float → Float

@@ -72,7 +72,7 @@ fn is_spent(b: bounds::Bounds, own: f64, other: f64, k: usize) -> bool
 // ---- the assignment pass
 
 // The bounds of a leaf from its best and its second best dot.
-fn bounds_by(b: bounds::Best, o: bounds::Bounds, k: usize) -> bounds::Bounds
+fn bounds_by(b: nearest::Best, o: bounds::Bounds, k: usize) -> bounds::Bounds
     ensures { λ r. ⌜ r ≡ boundsBy k b o ⌝ }
 {
     if o.scale > 0.0 {
@@ -111,7 +111,7 @@ fn place_leaf(
     let kd = k * d;
     let at = i * d;
     let s = &work[..];
-    let b = bounds::best_of(&coords[at..at + d], &s[..kd], k, d);
+    let b = nearest::best_of(&coords[at..at + d], &s[..kd], k, d);
     let o = bounds_at(s, i, m, k, d);
     let served = kd + kd + m + m + m;
     work[served + i] = b.dot;
@@ -473,7 +473,7 @@ fn reseed(
     let kd = k * d;
     let served = kd + kd + m + m + m;
     let s = &work[..];
-    let worst = vector::argmin(&s[served..served + m]);
+    let worst = pick::argmin(&s[served..served + m]);
     let row = worst * d;
     let from = kd + c * d;
     vector::unit(&mut work[from..from + d], &coords[row..row + d]);
@@ -752,7 +752,7 @@ fn four_angles(
     ensures { λ r. ⌜ ((u : List ℕ) → r ≡ fourAngles (now (coords .entry)) d (rowOf (stateIn m k d (now (work .entry)) u .centers) d c) i) ⌝ }
 {
     let row = c * d;
-    let f = bounds::row_dots(&work[row..row + d], coords, i, d);
+    let f = nearest::row_dots(&work[row..row + d], coords, i, d);
     float::Four {
         a: float::max(1.0 - f.a, 0.0),
         b: float::max(1.0 - f.b, 0.0),
@@ -867,7 +867,7 @@ fn seed_next(
     let kd = k * d;
     let high = kd + kd + m + m;
     let s = &work[..];
-    let p = vector::weighted_pick(&s[high..high + m], state);
+    let p = pick::weighted_pick(&s[high..high + m], state);
     let i = p.index;
     seed_center(work, coords, c, i, m, k, d);
     lower_distances(work, coords, c, m, k, d);
@@ -888,7 +888,7 @@ fn seed(
     ensures { λ r. ⌜ ((u : List ℕ) → (stateIn m k d (now (work .exit)) u .centers ≡ seedsOf (now (weights .entry)) (now (coords .entry)) m k d state .centers)
         × (r ≡ seedsOf (now (weights .entry)) (now (coords .entry)) m k d state .state)) ⌝ }
 {
-    let p = vector::weighted_pick(weights, state);
+    let p = pick::weighted_pick(weights, state);
     let i = p.index;
     seed_center(work, coords, 0, i, m, k, d);
     first_distances(work, coords, m, k, d);

@@ -7,7 +7,7 @@ use lib.Ieee.{Float, nan, inf, binary64, add}
 use Rattle.float.specs.Arithmetic.{f64, plusZero, sumFrom, maxOf}
 use Rattle.logarithm.specs.Logarithm.{lnOf}
 use Rattle.rows.specs.Rows.{rowOf}
-use Rattle.vector.specs.Vectors.{argmaxOf}
+use Rattle.pick.specs.Places.{argmaxOf}
 use Rattle.lloyd.specs.Lloyd.{normsUpTo, sumsUpTo}
 use Rattle.lloyd.specs.Results.{Result, resultOf}
 use Rattle.groups.specs.Kappas.{tabulate, kappasOf}

@@ -9,10 +9,10 @@ use lib.ListN.{length, getD, take, set}
 use lib.Seq.{take-suc-set}
 use lib.Ieee.{Float, nan, binary64, add}
 use Rattle.rows.specs.Rows.{part}
-use Rattle.vector.specs.Vectors.{argmaxOf}
+use Rattle.pick.specs.Places.{argmaxOf}
 use Rattle.rows.proofs.Rows.{length-part, part-cut}
 use Rattle.rows.proofs.Fills.{take-end}
-use Rattle.vector.proofs.Vectors.{argmax-below}
+use Rattle.pick.proofs.Places.{argmax-below}
 use Rattle.groups.specs.Kappas.{tabulate}
 use Rattle.groups.specs.Groups.{logNormOf}
 use Rattle.mixture.specs.Fits.{lnWeight, logwAt}

@@ -83,7 +83,7 @@ fn put_labels(labels: &mut [u32], resp: &[f64], m: usize, k: usize)
     let mut i = 0;
     while i < m {
         let at = i * k;
-        labels[i] = vector::argmax(&resp[at..at + k]) as u32;
+        labels[i] = pick::argmax(&resp[at..at + k]) as u32;
         i += 1;
     }
 }

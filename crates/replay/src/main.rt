@@ -157,9 +157,9 @@ fn place_agrees(kind: u64, text: &[u8], n: usize) -> bool {
         return is_number(vector::norm(v), text, n);
     }
     if kind == 14 {
-        return vector::argmax(v) as u64 == word(text, n);
+        return pick::argmax(v) as u64 == word(text, n);
     }
-    kind == 15 && vector::argmin(v) as u64 == word(text, n)
+    kind == 15 && pick::argmin(v) as u64 == word(text, n)
 }
 
 // Whether v's unit vector, made in `to`, has the patterns of the words after v's.
@@ -184,7 +184,7 @@ fn unit_agrees(text: &[u8], n: usize) -> bool {
 fn pick_agrees(text: &[u8], n: usize) -> bool {
     let mut space = [0.0; 256];
     let m = load(&mut space, text, 1, n);
-    let p = vector::weighted_pick(&space[..m], word(text, 0));
+    let p = pick::weighted_pick(&space[..m], word(text, 0));
     p.index as u64 == word(text, plus(1, m)) && p.state == word(text, plus(2, m))
 }
 

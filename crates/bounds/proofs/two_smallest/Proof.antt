@@ -7,7 +7,7 @@ use borrow.Author.Needs.{needs}
 use lib.ListN.{length}
 use lib.Ieee.{div, ofBits}
 use Rattle.bounds.specs.Shifts.{slowestUpTo}
-use Rattle.bounds.proofs.Nearest.{slowest-turn}
+use Rattle.bounds.proofs.Turns.{slowest-turn}
 use Rattle.bounds.proofs.two_smallest.Statement.{statement}
 use Rattle.bounds.proofs.two_smallest.Tie as tie
 

@@ -4,7 +4,7 @@ use Prim.Native.Nat.{ℕ, _+_, _*_, _-_, _≤_}
 use native.Mathlib.Omega.{arith}
 use lib.ListN.{length, take}
 use Rattle.rows.specs.Rows.{rowOf}
-use Rattle.vector.specs.Vectors.{argmaxOf}
+use Rattle.pick.specs.Places.{argmaxOf}
 use Rattle.rows.proofs.Rows.{row-within, row-cut}
 use Rattle.groups.specs.Kappas.{tabulate}
 use Rattle.movmf.proofs.Outputs.{listed-turn, listed-end, label-below}

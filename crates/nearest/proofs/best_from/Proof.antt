@@ -1,0 +1,124 @@
+-- `nearest::best_from` meets its contract. The invariant of both loops: the best so far is that of the centres before c. The measure is what is left of the
+-- centres. Assumes nothing.
+use mathlib.Core.Path.{_≡_}
+use Prim.Native.Nat.{_+_, _≤_, _<_, _-_}
+use native.Mathlib.Nat.{mul-le-mul-right}
+use native.Mathlib.Omega.{arith}
+use Rattle.rows.proofs.Rows.{row-within}
+use Rattle.nearest.specs.Nearest.{bestTo}
+use Rattle.nearest.proofs.Nearest.{best-turn, best-four}
+use borrow.Author.Needs.{needs}
+use Rattle.nearest.proofs.best_from.Statement.{statement}
+use Rattle.nearest.proofs.best_from.Tie as tie
+
+abbrev Inv-loop : tie.InvT-loop
+Inv-loop x centers at k d b₀ c₀ b c = (0 < c) × (c ≤ k) × (b ≡ bestTo x centers d (c - 1))
+
+abbrev μ-loop : tie.MeasureT-loop
+μ-loop x centers at k d b₀ c₀ b c = k - c
+
+abbrev Inv-loop2 : tie.InvT-loop2
+Inv-loop2 x centers at k d b₀ c₀ b c = (0 < c) × (c ≤ k) × (b ≡ bestTo x centers d (c - 1))
+
+abbrev μ-loop2 : tie.MeasureT-loop2
+μ-loop2 x centers at k d b₀ c₀ b c = k - c
+
+loop-holds : tie.Need-loop-holds Inv-loop μ-loop Inv-loop2 μ-loop2
+loop-holds c = search needs
+
+sub-loop : tie.Need-sub-loop Inv-loop μ-loop Inv-loop2 μ-loop2
+sub-loop c = search needs
+
+row-dots-requires : tie.Need-row-dots-requires Inv-loop μ-loop Inv-loop2 μ-loop2
+row-dots-requires c κs =
+    let s = c .before .before .before .before in
+    let h : c .before .loop .c + 4 ≤ s .args .k = omega (arith, c .loop-test .taken, c .before .loop .inv .1) in
+    omega (arith, mul-le-mul-right (s .args .d) h, s .pre .0 .long)
+
+better-requires : tie.Need-better-requires Inv-loop μ-loop Inv-loop2 μ-loop2
+better-requires c κs = search needs
+
+with-three-requires : tie.Need-with-three-requires Inv-loop μ-loop Inv-loop2 μ-loop2
+with-three-requires c κs = search needs
+
+add-c : tie.Need-add-c Inv-loop μ-loop Inv-loop2 μ-loop2
+add-c c =
+    let l = c .before .before .before .before in
+    omega (arith, l .before .before .before .fits .k, l .loop .inv .1, c .before .before .before .loop-test .taken)
+
+loop-less : tie.Need-loop-less Inv-loop μ-loop Inv-loop2 μ-loop2
+loop-less c = search needs
+
+loop-again : tie.Need-loop-again Inv-loop μ-loop Inv-loop2 μ-loop2
+loop-again c =
+    let f = c .before .before in
+    let l = f .before .before in
+    let a = l .before .before .before .args in (
+      omega arith,
+      omega (arith, l .loop .inv .1, f .before .loop-test .taken),
+      best-four (a .x .now) (a .centers .now) (a .d) (l .loop .c) (l .loop .b) (c .before .better .result) (c .with-three .result) (f .row-dots .result)
+          (l .loop .inv .0)
+          (l .loop .inv .2)
+          (f .row-dots .ensures)
+          (c .before .better .ensures)
+          (c .with-three .ensures),
+    )
+
+loop2-holds : tie.Need-loop2-holds Inv-loop μ-loop Inv-loop2 μ-loop2
+loop2-holds c = search needs
+
+row-dot-requires : tie.Need-row-dot-requires Inv-loop μ-loop Inv-loop2 μ-loop2
+row-dot-requires c κs =
+    let s = c .before .before .before .before .before .before in
+    omega (arith, row-within (c .before .loop2 .c) (s .args .k) (s .args .d) (c .loop2-test .taken), s .pre .0 .long)
+
+better-requires-2 : tie.Need-better-requires-2 Inv-loop μ-loop Inv-loop2 μ-loop2
+better-requires-2 c κs = search needs
+
+add-c-2 : tie.Need-add-c-2 Inv-loop μ-loop Inv-loop2 μ-loop2
+add-c-2 c = search needs
+
+loop2-less : tie.Need-loop2-less Inv-loop μ-loop Inv-loop2 μ-loop2
+loop2-less c = search needs
+
+loop2-again : tie.Need-loop2-again Inv-loop μ-loop Inv-loop2 μ-loop2
+loop2-again c =
+    let l = c .before .before .before in
+    let a = l .before .before .before .before .before .args in (
+      omega arith,
+      omega arith,
+      best-turn (a .x .now) (a .centers .now) (a .d) (l .loop2 .c) (l .loop2 .b) (c .better2 .result) (c .before .row-dot .result) (l .loop2 .inv .0) (l .loop2 .inv .2)
+          (c .before .row-dot .ensures)
+          (c .better2 .ensures),
+    )
+
+returns : tie.Need-returns Inv-loop μ-loop Inv-loop2 μ-loop2
+returns c =
+    let l = c .before in
+    let a = l .before .before .before .before .before .args in
+    let e : l .loop2 .c ≡ a .k = omega arith in
+    rw (← e) (l .loop2 .inv .2)
+
+pub best-from-spec : {M : Type 1} → statement M
+best-from-spec =
+    tie.close
+    (tie.spec
+    Inv-loop
+    μ-loop
+    Inv-loop2
+    μ-loop2
+    loop-holds
+    sub-loop
+    row-dots-requires
+    better-requires
+    with-three-requires
+    add-c
+    loop-less
+    loop-again
+    loop2-holds
+    row-dot-requires
+    better-requires-2
+    add-c-2
+    loop2-less
+    loop2-again
+    returns)

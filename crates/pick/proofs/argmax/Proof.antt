@@ -1,0 +1,72 @@
+-- `pick::argmax` meets its contract. The loop's invariant: `best` is the place of the greatest among the first i elements, and below i. The measure is what is
+-- left of the length. Assumes nothing.
+use mathlib.Core.Path.{_≡_, sym, _∙_}
+use mathlib.Core.Bool.{true, false}
+use mathlib.Core.Logic.{⊎-elim}
+use Prim.Native.Nat.{_≤_, _<_, _-_, max}
+use native.Mathlib.Omega.{arith}
+use borrow.Author.Needs.{needs}
+use lib.ListN.{length}
+use Rattle.pick.specs.Places.{argmaxUpTo}
+use Rattle.pick.proofs.Places.{argmax-one, argmax-turn, argmax-end}
+use Rattle.pick.proofs.argmax.Statement.{statement}
+use Rattle.pick.proofs.argmax.Tie as tie
+
+abbrev Inv-loop : tie.InvT-loop
+Inv-loop v best₀ i₀ best i = (i ≤ max (length v) 1) × (best < i) × (best ≡ argmaxUpTo v i)
+
+abbrev μ-loop : tie.MeasureT-loop
+μ-loop v best₀ i₀ best i = length v - i
+
+loop-holds : tie.Need-loop-holds Inv-loop μ-loop
+loop-holds c = (omega arith, omega arith, sym (argmax-one (c .args .v .now)))
+
+mul-if1 : tie.Need-mul-if1 Inv-loop μ-loop
+mul-if1 c = search needs
+
+shared-slice-read-if1 : tie.Need-shared-slice-read-if1 Inv-loop μ-loop
+shared-slice-read-if1 c = search needs
+
+mul-if1-2 : tie.Need-mul-if1-2 Inv-loop μ-loop
+mul-if1-2 c = search needs
+
+shared-slice-read-if1-2 : tie.Need-shared-slice-read-if1-2 Inv-loop μ-loop
+shared-slice-read-if1-2 c = search needs
+
+add-i : tie.Need-add-i Inv-loop μ-loop
+add-i c = search needs
+
+loop-less : tie.Need-loop-less Inv-loop μ-loop
+loop-less c = search needs
+
+loop-again : tie.Need-loop-again Inv-loop μ-loop
+loop-again c =
+    let l = c .before .before .before .before in
+    let v = l .before .args .v .now in (
+      omega arith,
+      ⊎-elim (λ w. omega arith) (λ w. omega arith) (c .if1 .came),
+      ⊎-elim (λ w. argmax-turn v (l .loop .best) (c .if1 .best) (l .loop .i) true (l .loop .inv .2) (w .0 .taken) (w .1))
+          (λ w. argmax-turn v (l .loop .best) (c .if1 .best) (l .loop .i) false (l .loop .inv .2) (w .0 .left) (w .1))
+          (c .if1 .came),
+    )
+
+returns : tie.Need-returns Inv-loop μ-loop
+returns c =
+    let l = c .before in
+    l .loop .inv .2 ∙ argmax-end (l .before .args .v .now) (l .loop .i) (omega arith)
+
+pub argmax-spec : {M : Type 1} → statement M
+argmax-spec =
+    tie.close
+    (tie.spec
+    Inv-loop
+    μ-loop
+    loop-holds
+    mul-if1
+    shared-slice-read-if1
+    mul-if1-2
+    shared-slice-read-if1-2
+    add-i
+    loop-less
+    loop-again
+    returns)

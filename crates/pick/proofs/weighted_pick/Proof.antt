@@ -1,0 +1,78 @@
+-- `pick::weighted_pick` meets its contract, by what its calls ensure: with a total at or below 0 the draw modulo the length, else the pick by a fraction of
+-- the total. Each return is a law over plain values. Assumes nothing.
+use mathlib.Core.Path.{_≡_}
+use mathlib.Core.List.{List}
+use mathlib.Core.Bool.{true, false}
+use Prim.Native.Nat.{ℕ, _%_, max}
+use borrow.Author.Needs.{needs}
+use lib.ListN.{length}
+use lib.Ieee.{Float, binary64, mul, le, ofBits}
+use Rattle.float.specs.Arithmetic.{minusZero, plusZero, sumFrom}
+use Rattle.rng.specs.SplitMix.{unitOf}
+use Rattle.rng.specs.Drawn.{drawn}
+use Rattle.rng.specs.declared.Drawn.{Drawn}
+use Rattle.pick.specs.Pick.{pickFrom, pickOf}
+use Rattle.pick.specs.declared.Picked.{Picked}
+use Rattle.pick.proofs.weighted_pick.Statement.{statement}
+use Rattle.pick.proofs.weighted_pick.Tie as tie
+
+module _ (ws : List Float) (state : ℕ) (total : Float) (d : Drawn) (sums : total ≡ sumFrom minusZero ws) (draws : d ≡ drawn state) where
+  low : (most : ℕ) → most ≡ max (length ws) 1 → le total plusZero ≡ true → _≡_ {A = Picked} (record { index = d .out % most; state = d .state }) (pickOf ws state)
+  low most m t = rw (draws, m, ← sums, t)
+
+  high : (u : Float) (i : ℕ) → u ≡ unitOf (d .out) → i ≡ pickFrom (mul binary64 u total) 0 ws → le total plusZero ≡ false
+      → _≡_ {A = Picked} (record { index = i; state = d .state }) (pickOf ws state)
+  high u i f p t = rw (p, f, draws, ← sums, t)
+
+sum-requires : tie.Need-sum-requires
+sum-requires c κs = search needs
+
+draw-u64-requires : tie.Need-draw-u64-requires
+draw-u64-requires c κs = search needs
+
+at-least-one-requires : tie.Need-at-least-one-requires
+at-least-one-requires c κs = search needs
+
+rem-t9 : tie.Need-rem-t9
+rem-t9 c = search needs
+
+returns : tie.Need-returns
+unfolding ofBits
+returns c =
+    let d = c .before .before in
+    let s = d .before in
+    let x = s .before .before .args in
+    low (x .w .now) (x .state) (s .sum .result) (d .draw-u64 .result) (s .sum .ensures) (d .draw-u64 .ensures) (c .at-least-one .result)
+    (c .at-least-one .ensures)
+    (c .before .if1 .taken)
+
+unit-f64-requires : tie.Need-unit-f64-requires
+unit-f64-requires c κs = search needs
+
+pick-at-requires : tie.Need-pick-at-requires
+pick-at-requires c κs = search needs
+
+returns-2 : tie.Need-returns-2
+unfolding ofBits
+returns-2 c =
+    let u = c .before in
+    let d = u .before .before in
+    let s = d .before in
+    let x = s .before .before .args in
+    high (x .w .now) (x .state) (s .sum .result) (d .draw-u64 .result) (s .sum .ensures) (d .draw-u64 .ensures) (u .unit-f64 .result) (c .pick-at .result)
+    (u .unit-f64 .ensures)
+    (c .pick-at .ensures)
+    (u .before .if1 .left)
+
+pub weighted-pick-spec : {M : Type 1} → statement M
+weighted-pick-spec =
+    tie.close
+    (tie.spec
+    sum-requires
+    draw-u64-requires
+    at-least-one-requires
+    rem-t9
+    returns
+    unit-f64-requires
+    pick-at-requires
+    returns-2)
