@@ -10,7 +10,7 @@ use lib.ListN.{length}
 use lib.Ieee.{Float, nan, inf, lt}
 use Rattle.mixture.specs.Fits.{Once}
 use Rattle.groups.specs.declared.Settings.{Settings}
-use Rattle.movmf.specs.Outcome.{Outputs, written}
+use Rattle.outputs.specs.Outputs.{Outputs, written}
 use Rattle.choice.specs.Choice.{heldScore, chooseBy, choose, chosen, BestOf}
 use Rattle.auto.specs.Outcome.{Auto, tallyBy, outputsBy, answerBy, lone, score, autoUpTo, ended}
 use Rattle.auto.specs.Best.{refusalIn, Keeps, sumOver, products, Best}

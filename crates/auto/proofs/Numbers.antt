@@ -19,11 +19,11 @@ use Rattle.mixture.specs.Areas.{Area}
 use Rattle.groups.specs.declared.Settings.{Settings}
 use Rattle.mixture.proofs.Regions.{respR, weightsR, directionsR, kappasR, length-in, tabulate-length}
 use Rattle.keeper.specs.Keeper.{runOf, runsUpTo, fitOf}
-use Rattle.movmf.specs.Outcome.{Outputs, written, lengthsOf}
+use Rattle.outputs.specs.Outputs.{Outputs, written, lengthsOf}
 use Rattle.keeper.specs.Halves.{Both, keptPart, keptLoglik, keptEm}
-use Rattle.movmf.specs.Outputs.{Fillable}
+use Rattle.outputs.specs.Fillable.{Fillable}
 use Rattle.keeper.specs.declared.Runs.{Runs}
-use Rattle.movmf.proofs.Outcomes.{kept-area, fit-em, fit-counts}
+use Rattle.outputs.proofs.Kept.{kept-area, fit-em, fit-counts}
 use Rattle.choice.specs.Choice.{totalOf, scoreBy, heldScore}
 use Rattle.auto.specs.Outcome.{Auto, tallyBy, outputsBy, lone, score, tryNumber, autoUpTo}
 use Rattle.auto.specs.Tries.{TallySmall, RunsSmall, keptTally, leftTally, Full, Tails, TriedNumber}

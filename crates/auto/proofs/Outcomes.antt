@@ -6,7 +6,7 @@ use native.Mathlib.Omega.{arith}
 use lib.ListN.{length}
 use lib.Ieee.{Float}
 use Rattle.groups.specs.declared.Settings.{Settings}
-use Rattle.movmf.specs.Outcome.{Outputs, lengthsOf}
+use Rattle.outputs.specs.Outputs.{Outputs, lengthsOf}
 use Rattle.choice.specs.Choice.{highest, lowest}
 use Rattle.auto.specs.Refusals.{refusalOf}
 use Rattle.auto.specs.Outcome.{Auto, Outcome, answerBy, autoUpTo, ended, outcomeIn, outcome}

@@ -11,11 +11,10 @@ use lib.Ieee.{Float}
 use borrow.Author.Tests.{leb-true}
 use Rattle.limits.specs.Limits.{need, weightOk, coordinateOk, every, sizesOk, roundsOk}
 use Rattle.limits.proofs.Limits.{met, sizes-met}
-use Rattle.movmf.specs.Refusals.{arraysOk}
+use Rattle.outputs.specs.Refusals.{arraysOk}
 use Rattle.keeper.specs.Halves.{Roomy}
-use Rattle.movmf.specs.declared.Lengths.{Lengths}
-use Rattle.movmf.proofs.Refusals.{arrays-met, roomy-by}
-use Rattle.movmf.proofs.Outcomes.{fillable}
+use Rattle.outputs.specs.declared.Lengths.{Lengths}
+use Rattle.outputs.proofs.Refusals.{arrays-met, roomy-by, fillable}
 use Rattle.auto.specs.Refusals.{refusalOf}
 use Rattle.auto.specs.Tries.{Ready}
 

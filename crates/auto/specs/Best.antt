@@ -10,7 +10,7 @@ use lib.Ieee.{Float, inf, lt}
 use Rattle.rng.specs.SplitMix.{restartSeedOf}
 use Rattle.mixture.specs.Fits.{warmOf}
 use Rattle.groups.specs.declared.Settings.{Settings}
-use Rattle.movmf.specs.Outcome.{Outputs, written}
+use Rattle.outputs.specs.Outputs.{Outputs, written}
 use Rattle.choice.specs.Choice.{BestOf}
 use Rattle.auto.specs.Outcome.{lone, score}
 use Rattle.auto.specs.declared.Chosen.{Chosen}

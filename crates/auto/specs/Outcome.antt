@@ -7,7 +7,7 @@ use lib.Ieee.{Float, inf, lt}
 use Rattle.mixture.specs.Fits.{Once}
 use Rattle.groups.specs.declared.Settings.{Settings}
 use Rattle.keeper.specs.Keeper.{fitOf}
-use Rattle.movmf.specs.Outcome.{Outputs, written, lengthsOf}
+use Rattle.outputs.specs.Outputs.{Outputs, written, lengthsOf}
 use Rattle.choice.specs.Choice.{highest, lowest, scoreOf, heldScore}
 use Rattle.auto.specs.Refusals.{refusalOf}
 use Rattle.choice.specs.declared.Choice.{Choice}

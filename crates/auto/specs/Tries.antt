@@ -7,10 +7,10 @@ use lib.ListN.{length, drop}
 use lib.Ieee.{Float, lt}
 use Rattle.mixture.specs.Mixture.{Em}
 use Rattle.groups.specs.declared.Settings.{Settings}
-use Rattle.movmf.specs.Outcome.{Outputs, written}
+use Rattle.outputs.specs.Outputs.{Outputs, written}
 use Rattle.keeper.specs.Halves.{Roomy}
-use Rattle.movmf.specs.Outputs.{Fillable}
-use Rattle.movmf.specs.declared.Lengths.{Lengths}
+use Rattle.outputs.specs.Fillable.{Fillable}
+use Rattle.outputs.specs.declared.Lengths.{Lengths}
 use Rattle.keeper.specs.declared.Runs.{Runs}
 use Rattle.choice.specs.Choice.{heldScore}
 use Rattle.auto.specs.Outcome.{lone, score, tallyBy, outputsBy}

@@ -5,7 +5,7 @@ ghost use Prim.Native.Nat.{_+_, _*_, _-_, _≤_};
 ghost use lib.ListN.{length};
 ghost use Rattle.logarithm.specs.Logarithm.{lnOf};
 ghost use Rattle.groups.specs.declared.Kappa.the-variants.{Free};
-ghost use Rattle.movmf.specs.Outcome.{arrays, lengthsOf};
+ghost use Rattle.outputs.specs.Outputs.{arrays, lengthsOf};
 ghost use Rattle.choice.specs.Choice.{highest, lowest, totalOf};
 ghost use Rattle.auto.specs.Refusals.{refusalOf};
 ghost use Rattle.auto.specs.Outcome.{Auto, Outcome, answerBy, autoUpTo, outcome};
@@ -84,7 +84,7 @@ fn try_number(
     let score = choice::score_at(kappa, k, d, loglik, ln_total);
     let choice = t.choice;
     if choice::beats(score, choice) {
-        movmf::fill_outputs(
+        outputs::fill_outputs(
             labels,
             responsibilities,
             group_weights,
@@ -168,7 +168,7 @@ fn refusal(
     d: usize,
     hi: usize,
     rounds: usize,
-    l: movmf::Lengths,
+    l: outputs::Lengths,
 ) -> u32
     ensures { λ r. ⌜ r ≡ refusalOf (now (weights .entry)) (now (coords .entry)) d hi rounds l ⌝ }
 {
@@ -182,7 +182,7 @@ fn refusal(
     if rounds > 10000 {
         return 3;
     }
-    if !movmf::arrays_ok(m, hi, d, l) {
+    if !outputs::arrays_ok(m, hi, d, l) {
         return 4;
     }
     if !limits::weights_ok(weights) {
@@ -267,7 +267,7 @@ pub fn movmf_auto_with(
     let m = weights.len();
     let hi = choice::highest_number(k_max, m);
     let lo = choice::lowest_number(k_min, hi);
-    let l = movmf::Lengths {
+    let l = outputs::Lengths {
         labels: labels.len(),
         responsibilities: responsibilities.len(),
         weights: group_weights.len(),

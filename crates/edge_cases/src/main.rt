@@ -509,8 +509,8 @@ fn shortened(n: usize, less: bool) -> usize {
 
 // Arrays that are just long enough for three leaves of two coordinates in two groups, but for the one that `short` names,
 // which is one too short.
-fn lengths(short: usize) -> movmf::Lengths {
-    movmf::Lengths {
+fn lengths(short: usize) -> outputs::Lengths {
+    outputs::Lengths {
         labels: shortened(3, short == 1),
         responsibilities: shortened(6, short == 2),
         weights: shortened(2, short == 3),

@@ -9,7 +9,7 @@ use lib.Ieee.{Float}
 use Rattle.float.specs.Arithmetic.{plusZero}
 use Rattle.groups.specs.Kappas.{tabulate}
 use Rattle.mixture.proofs.Regions.{tabulate-length}
-use Rattle.movmf.specs.Outcome.{arrays, lengthsOf}
+use Rattle.outputs.specs.Outputs.{arrays, lengthsOf}
 use Rattle.choice.specs.Choice.{highest, lowest}
 use Rattle.auto.specs.Refusals.{refusalOf}
 use Rattle.auto.specs.Outcome.{Outcome, outcome}

@@ -12,7 +12,7 @@ use Rattle.limits.specs.Limits.{need, workLength, marksLength}
 use Rattle.groups.specs.Kappas.{tabulate}
 use Rattle.groups.specs.declared.Settings.{Settings}
 use Rattle.groups.specs.declared.Kappa.the-variants.{Free}
-use Rattle.movmf.specs.Outcome.{Outputs, arrays, lengthsOf}
+use Rattle.outputs.specs.Outputs.{Outputs, arrays, lengthsOf}
 use Rattle.choice.specs.Choice.{highest, lowest}
 use Rattle.auto.specs.Refusals.{refusalOf}
 use Rattle.auto.specs.Outcome.{Outcome, outcome}

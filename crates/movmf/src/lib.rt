@@ -1,54 +1,23 @@
-// The mixture of von Mises-Fisher distributions, the public entries (vmf.rs, movmf_with and movmf; mixture.rs, ln_weight; document 01, 'Mixture' and 'Refusals by
-// call'): what must be refused is, the four runs are made, and the outputs are filled from the part of the kept one.
+// The mixture of von Mises-Fisher distributions, the public entries (vmf.rs, movmf_with and movmf; document 01, 'Mixture' and 'Refusals by call'): what must be refused
+// is, the four runs are made, and the outputs are filled from the part of the kept one.
 ghost use mathlib.Core.Path.{_≡_};
-ghost use mathlib.Core.List.{_++_};
-ghost use Prim.Native.Nat.{_*_, _≤_, _<_};
-ghost use lib.ListN.{length, drop};
-ghost use Rattle.mixture.specs.Fits.{labelsOf, lnWeight, logwOf};
-ghost use Rattle.mixture.specs.Areas.{partsIn, modelOf, Area};
+ghost use lib.ListN.{length};
 ghost use Rattle.groups.specs.declared.Kappa.the-variants.{Free};
-ghost use Rattle.keeper.specs.Halves.{keptEm};
-ghost use Rattle.movmf.specs.Refusals.{outputsOk, arraysOk, refusalOf};
-ghost use Rattle.movmf.specs.Outcome.{Outputs, arrays, Outcome, written, outcome};
-ghost use Rattle.movmf.specs.Outputs.{LeavesFit, GroupsFit, Fillable};
+ghost use Rattle.outputs.specs.Outputs.{arrays};
+ghost use Rattle.movmf.specs.Refusals.{refusalOf};
+ghost use Rattle.movmf.specs.Outcome.{Outcome, outcome};
 
 // ---- what is refused
 
-// The lengths of the output and work arrays.
-pub struct Lengths {
-    pub labels: usize,
-    pub responsibilities: usize,
-    pub weights: usize,
-    pub directions: usize,
-    pub concentrations: usize,
-    pub logw: usize,
-    pub work: usize,
-    pub marks: usize,
-}
-
-// The outputs are long enough.
-fn outputs_ok(m: usize, k: usize, d: usize, l: Lengths) -> bool
-    requires { ⌜ (m ≤ 4096) × (k ≤ 64) × (d ≤ 256) ⌝ }
-    ensures { λ r. ⌜ r ≡ outputsOk m k d l ⌝ }
-{
-    let mk = m * k;
-    let kd = k * d;
-    (m <= l.labels)
-        & ((mk <= l.responsibilities)
-            & ((k <= l.weights)
-                & ((kd <= l.directions) & ((k <= l.concentrations) & (k <= l.logw)))))
-}
-
-// The outputs and the work arrays are long enough.
-pub fn arrays_ok(m: usize, k: usize, d: usize, l: Lengths) -> bool
-    requires { ⌜ (m ≤ 4096) × (k ≤ 64) × (d ≤ 256) ⌝ }
-    ensures { λ r. ⌜ r ≡ arraysOk m k d l ⌝ }
-{
-    outputs_ok(m, k, d, l) & limits::work_ok(m, k, d, l.work, l.marks)
-}
-
 // The first refusal that holds, or 0.
-fn refusal(weights: &[f64], coords: &[f64], d: usize, k: usize, rounds: usize, l: Lengths) -> u32
+fn refusal(
+    weights: &[f64],
+    coords: &[f64],
+    d: usize,
+    k: usize,
+    rounds: usize,
+    l: outputs::Lengths,
+) -> u32
     ensures { λ r. ⌜ r ≡ refusalOf (now (weights .entry)) (now (coords .entry)) d k rounds l ⌝ }
 {
     let m = weights.len();
@@ -61,7 +30,7 @@ fn refusal(weights: &[f64], coords: &[f64], d: usize, k: usize, rounds: usize, l
     if rounds > 10000 {
         return 3;
     }
-    if !arrays_ok(m, k, d, l) {
+    if !outputs::arrays_ok(m, k, d, l) {
         return 4;
     }
     if !limits::weights_ok(weights) {
@@ -71,123 +40,6 @@ fn refusal(weights: &[f64], coords: &[f64], d: usize, k: usize, rounds: usize, l
         return 6;
     }
     0
-}
-
-// ---- the outputs
-
-// The label of each leaf: the first group of its greatest responsibility.
-fn put_labels(labels: &mut [u32], resp: &[f64], m: usize, k: usize)
-    requires { ⌜ (length (now labels) ≡ m) × (length (now resp) ≡ m * k) × (m * k ≤ 262144) × (0 < k) × (k ≤ 64) ⌝ }
-    ensures { λ _. ⌜ now (labels .exit) ≡ labelsOf (now (resp .entry)) m k ⌝ }
-{
-    let mut i = 0;
-    while i < m {
-        let at = i * k;
-        labels[i] = pick::argmax(&resp[at..at + k]) as u32;
-        i += 1;
-    }
-}
-
-// The logarithm of a weight, with mixture.rs's floor.
-fn ln_weight(w: f64) -> f64
-    ensures { λ r. ⌜ r ≡ lnWeight w ⌝ }
-{
-    logarithm::ln(float::max(w, 2.2250738585072014e-308))
-}
-
-// ln weight + log normalizer of each group.
-fn put_logw(logw: &mut [f64], area: &[f64], m: usize, k: usize, d: usize)
-    requires { ⌜ (Area (length (now area)) m k d) × (length (now logw) ≡ k) ⌝ }
-    ensures { λ _. ⌜ now (logw .exit) ≡ logwOf k d (modelOf (partsIn m k d (now (area .entry)))) ⌝ }
-{
-    let kd = k * d;
-    let weights = kd + kd;
-    let kappas = weights + k;
-    let mut c = 0;
-    while c < k {
-        logw[c] = ln_weight(area[weights + c]) + groups::log_norm(area[kappas + c], d);
-        c += 1;
-    }
-}
-
-// What is found of the leaves, copied out.
-fn fill_leaves(
-    labels: &mut [u32],
-    responsibilities: &mut [f64],
-    area: &[f64],
-    m: usize,
-    k: usize,
-    d: usize,
-)
-    requires { ⌜ (Area (length (now area)) m k d) × (LeavesFit (length (now labels)) (length (now responsibilities)) m k) ⌝ }
-    ensures { λ _. ⌜ (now (labels .exit) ≡ labelsOf (partsIn m k d (now (area .entry)) .resp) m k ++ drop m (now (labels .entry)))
-        × (now (responsibilities .exit) ≡ partsIn m k d (now (area .entry)) .resp ++ drop (m * k) (now (responsibilities .entry))) ⌝ }
-{
-    let kd = k * d;
-    let mk = m * k;
-    let resp = kd + kd + k + k + k + k + k;
-    put_labels(&mut labels[..m], &area[resp..resp + mk], m, k);
-    rows::copy(&mut responsibilities[..mk], &area[resp..resp + mk]);
-}
-
-// What is found of the groups, copied out.
-fn fill_groups(
-    weights: &mut [f64],
-    directions: &mut [f64],
-    concentrations: &mut [f64],
-    logw: &mut [f64],
-    area: &[f64],
-    m: usize,
-    k: usize,
-    d: usize,
-)
-    requires { ⌜ (Area (length (now area)) m k d) × (GroupsFit (length (now weights)) (length (now directions)) (length (now concentrations)) (length (now logw)) k d) ⌝ }
-    ensures { λ _. ⌜ (now (weights .exit) ≡ partsIn m k d (now (area .entry)) .weights ++ drop k (now (weights .entry)))
-        × (now (directions .exit) ≡ partsIn m k d (now (area .entry)) .directions ++ drop (k * d) (now (directions .entry)))
-        × (now (concentrations .exit) ≡ partsIn m k d (now (area .entry)) .kappas ++ drop k (now (concentrations .entry)))
-        × (now (logw .exit) ≡ logwOf k d (modelOf (partsIn m k d (now (area .entry)))) ++ drop k (now (logw .entry))) ⌝ }
-{
-    let kd = k * d;
-    let at = kd + kd;
-    let kappas = at + k;
-    rows::copy(&mut weights[..k], &area[at..at + k]);
-    rows::copy(&mut directions[..kd], &area[..kd]);
-    rows::copy(&mut concentrations[..k], &area[kappas..kappas + k]);
-    put_logw(&mut logw[..k], area, m, k, d);
-}
-
-// What the kept one of the last two runs found, written into the outputs.
-pub fn fill_outputs(
-    labels: &mut [u32],
-    responsibilities: &mut [f64],
-    group_weights: &mut [f64],
-    directions: &mut [f64],
-    concentrations: &mut [f64],
-    logw: &mut [f64],
-    work: &[f64],
-    r: keeper::Runs,
-    m: usize,
-    k: usize,
-    d: usize,
-)
-    requires { ⌜ Fillable (length (now labels)) (length (now responsibilities)) (length (now «group_weights»)) (length (now directions)) (length (now concentrations)) (length (now logw)) (length (now work)) m k d ⌝ }
-    ensures { λ _. ⌜ _≡_ {A = Outputs}
-        (arrays (now (labels .exit)) (now (responsibilities .exit)) (now («group_weights» .exit)) (now (directions .exit)) (now (concentrations .exit)) (now (logw .exit)))
-        (written m k d (keptEm m k d (now (work .entry)) r)
-        (arrays (now (labels .entry)) (now (responsibilities .entry)) (now («group_weights» .entry)) (now (directions .entry)) (now (concentrations .entry)) (now (logw .entry)))) ⌝ }
-{
-    let area = keeper::kept_part(work, r, m, k, d);
-    fill_leaves(labels, responsibilities, area, m, k, d);
-    fill_groups(
-        group_weights,
-        directions,
-        concentrations,
-        logw,
-        area,
-        m,
-        k,
-        d,
-    );
 }
 
 // ---- the entries
@@ -226,7 +78,7 @@ pub fn movmf_with(
         (outcome (arrays (now (labels .entry)) (now (responsibilities .entry)) (now («group_weights» .entry)) (now (directions .entry)) (now (concentrations .entry)) (now (logw .entry)))
         (now (weights .entry)) (now (coords .entry)) d k s (length (now (work .entry))) (length (now (marks .entry)))) ⌝ }
 {
-    let l = Lengths {
+    let l = outputs::Lengths {
         labels: labels.len(),
         responsibilities: responsibilities.len(),
         weights: group_weights.len(),
@@ -242,7 +94,7 @@ pub fn movmf_with(
     }
     let m = weights.len();
     let r = keeper::four_runs(work, marks, weights, coords, s, m, k, d);
-    fill_outputs(
+    outputs::fill_outputs(
         labels,
         responsibilities,
         group_weights,

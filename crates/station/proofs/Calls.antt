@@ -6,7 +6,8 @@ use lib.Ieee.{Float}
 use Rattle.spherical.specs.Outcome.{Outcome as ClusteredOutcome}
 use Rattle.spherical.specs.declared.Clustered.{Clustered}
 use Rattle.groups.specs.declared.Kappa.{Kappa}
-use Rattle.movmf.specs.Outcome.{Outputs, Outcome as FittedOutcome}
+use Rattle.outputs.specs.Outputs.{Outputs}
+use Rattle.movmf.specs.Outcome.{Outcome as FittedOutcome}
 use Rattle.movmf.specs.declared.Fitted.{Fitted}
 use Rattle.auto.specs.Outcome.{Outcome as ChosenOutcome}
 use Rattle.auto.specs.declared.Chosen.{Chosen}

@@ -9,7 +9,8 @@ use Rattle.spherical.specs.declared.Clustered.{Clustered}
 use Rattle.spherical.specs.declared.Clustered.the-variants.{Refused as NotClustered, Done as ClusteredDone}
 use Rattle.groups.specs.declared.Kappa.{Kappa}
 use Rattle.groups.specs.declared.Kappa.the-variants.{Free, Shared}
-use Rattle.movmf.specs.Outcome.{Outputs, Outcome as FittedOutcome}
+use Rattle.outputs.specs.Outputs.{Outputs}
+use Rattle.movmf.specs.Outcome.{Outcome as FittedOutcome}
 use Rattle.movmf.specs.declared.Fitted.{Fitted}
 use Rattle.movmf.specs.declared.Fitted.the-variants.{Refused as NotFitted, Done as FittedDone}
 use Rattle.auto.specs.Outcome.{Outcome as ChosenOutcome}

@@ -3,7 +3,8 @@
 ghost use mathlib.Core.Path.{_≡_};
 ghost use lib.ListN.{length};
 ghost use Rattle.spherical.specs.Outcome.{outcome as clusteredOutcome};
-ghost use Rattle.movmf.specs.Outcome.{arrays, lengthsOf, outcome as fittedOutcome};
+ghost use Rattle.outputs.specs.Outputs.{arrays, lengthsOf};
+ghost use Rattle.movmf.specs.Outcome.{outcome as fittedOutcome};
 ghost use Rattle.choice.specs.Choice.{highest, lowest};
 ghost use Rattle.auto.specs.Refusals.{refusalOf};
 ghost use Rattle.auto.specs.Outcome.{outcome as chosenOutcome};

@@ -3,8 +3,8 @@
 use mathlib.Core.Path.{_≡_, refl}
 use Prim.Native.Nat.{ℕ}
 use lib.ListN.{length}
-use Rattle.movmf.specs.Outcome.{Outputs, arrays}
-use Rattle.movmf.specs.Outputs.{Fillable}
+use Rattle.outputs.specs.Outputs.{Outputs, arrays}
+use Rattle.outputs.specs.Fillable.{Fillable}
 use Rattle.keeper.specs.Keeper.{runOf, runsUpTo}
 use Rattle.auto.proofs.Numbers.{runs-small, fillable-of, tried-kept, tried-left}
 use borrow.Author.Needs.{needs}

@@ -5,8 +5,8 @@ use Prim.Native.Nat.{_+_, _-_, _≤_}
 use native.Mathlib.Omega.{arith}
 use lib.ListN.{length}
 use lib.Ieee.{ofBits, div, neg}
-use Rattle.movmf.specs.Outcome.{Outputs, lengthsOf, arrays}
-use Rattle.movmf.specs.declared.Lengths.{Lengths}
+use Rattle.outputs.specs.Outputs.{Outputs, lengthsOf, arrays}
+use Rattle.outputs.specs.declared.Lengths.{Lengths}
 use Rattle.auto.specs.Outcome.{Auto, autoUpTo}
 use Rattle.auto.specs.Tries.{Tails, TallySmall}
 use Rattle.auto.proofs.Refusals.{ready-below, ready-of}

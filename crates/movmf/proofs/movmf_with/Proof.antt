@@ -2,9 +2,10 @@
 -- nothing.
 use mathlib.Core.Path.{sym, _∙_}
 use lib.ListN.{length}
-use Rattle.movmf.specs.Outcome.{Outputs, lengthsOf}
+use Rattle.outputs.specs.Outputs.{Outputs, lengthsOf}
+use Rattle.outputs.proofs.Refusals.{fillable}
 use Rattle.movmf.proofs.Refusals.{Ready, ready}
-use Rattle.movmf.proofs.Outcomes.{fillable, refused, done}
+use Rattle.movmf.proofs.Outcomes.{refused, done}
 use borrow.Author.Needs.{needs}
 use Rattle.movmf.proofs.movmf_with.Statement.{statement}
 use Rattle.movmf.proofs.movmf_with.Tie as tie

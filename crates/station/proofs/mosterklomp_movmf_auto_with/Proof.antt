@@ -2,7 +2,7 @@
 -- entry's answer is best in the definition's. Assumes nothing.
 use lib.ListN.{length}
 use Rattle.groups.specs.declared.Kappa.{Kappa}
-use Rattle.movmf.specs.Outcome.{arrays}
+use Rattle.outputs.specs.Outputs.{arrays}
 use Rattle.choice.specs.Choice.{highest, lowest}
 use Rattle.auto.specs.Outcome.{outcome, Outcome}
 use Rattle.auto.specs.Best.{Best}

@@ -1,4 +1,4 @@
--- `movmf::put_logw` meets its contract. The loop's invariant: the logw of the first c groups are written. Assumes nothing.
+-- `outputs::put_logw` meets its contract. The loop's invariant: the logw of the first c groups are written. Assumes nothing.
 use mathlib.Core.Path.{_≡_, refl}
 use Prim.Native.Nat.{_-_, _≤_, _<_}
 use native.Mathlib.Omega.{arith}
@@ -7,10 +7,10 @@ use lib.Ieee.{binary64, add}
 use Rattle.groups.specs.Kappas.{tabulate}
 use Rattle.mixture.specs.Fits.{logwAt}
 use Rattle.mixture.specs.Areas.{partsIn, modelOf}
-use Rattle.movmf.proofs.Outputs.{listed-turn, listed-end, logw-is}
+use Rattle.outputs.proofs.Listed.{listed-turn, listed-end, logw-is}
 use borrow.Author.Needs.{needs}
-use Rattle.movmf.proofs.put_logw.Statement.{statement}
-use Rattle.movmf.proofs.put_logw.Tie as tie
+use Rattle.outputs.proofs.put_logw.Statement.{statement}
+use Rattle.outputs.proofs.put_logw.Tie as tie
 
 abbrev Inv-loop : tie.InvT-loop
 Inv-loop logw₀ area m k d kd weights kappas c₀ logw c =

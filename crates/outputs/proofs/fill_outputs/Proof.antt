@@ -1,8 +1,8 @@
 -- The kept part is an area that the outputs are filled from; each output is then what is written. Assumes nothing.
-use Rattle.movmf.proofs.Outcomes.{kept-area, filled}
+use Rattle.outputs.proofs.Kept.{kept-area, filled}
 use borrow.Author.Needs.{needs}
-use Rattle.movmf.proofs.fill_outputs.Statement.{statement}
-use Rattle.movmf.proofs.fill_outputs.Tie as tie
+use Rattle.outputs.proofs.fill_outputs.Statement.{statement}
+use Rattle.outputs.proofs.fill_outputs.Tie as tie
 
 kept-part-requires : tie.Need-kept-part-requires
 kept-part-requires c κs = search needs

@@ -1,4 +1,4 @@
--- `movmf::put_labels` meets its contract. The loop's invariant: the labels of the first i leaves are written. Assumes nothing.
+-- `outputs::put_labels` meets its contract. The loop's invariant: the labels of the first i leaves are written. Assumes nothing.
 use mathlib.Core.Path.{_≡_, refl, ap, _∙_}
 use Prim.Native.Nat.{ℕ, _+_, _*_, _-_, _≤_}
 use native.Mathlib.Omega.{arith}
@@ -7,10 +7,10 @@ use Rattle.rows.specs.Rows.{rowOf}
 use Rattle.pick.specs.Places.{argmaxOf}
 use Rattle.rows.proofs.Rows.{row-within, row-cut}
 use Rattle.groups.specs.Kappas.{tabulate}
-use Rattle.movmf.proofs.Outputs.{listed-turn, listed-end, label-below}
+use Rattle.outputs.proofs.Listed.{listed-turn, listed-end, label-below}
 use borrow.Author.Needs.{needs}
-use Rattle.movmf.proofs.put_labels.Statement.{statement}
-use Rattle.movmf.proofs.put_labels.Tie as tie
+use Rattle.outputs.proofs.put_labels.Statement.{statement}
+use Rattle.outputs.proofs.put_labels.Tie as tie
 
 abbrev Inv-loop : tie.InvT-loop
 Inv-loop labels₀ resp m k i₀ labels i =

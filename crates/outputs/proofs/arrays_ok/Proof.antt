@@ -1,7 +1,7 @@
--- `movmf::arrays_ok` meets its contract: both tests are what the calls ensure. Assumes nothing.
+-- `outputs::arrays_ok` meets its contract: both tests are what the calls ensure. Assumes nothing.
 use borrow.Author.Needs.{needs}
-use Rattle.movmf.proofs.arrays_ok.Statement.{statement}
-use Rattle.movmf.proofs.arrays_ok.Tie as tie
+use Rattle.outputs.proofs.arrays_ok.Statement.{statement}
+use Rattle.outputs.proofs.arrays_ok.Tie as tie
 
 outputs-ok-requires : tie.Need-outputs-ok-requires
 outputs-ok-requires c κs = search needs

@@ -1,9 +1,9 @@
--- `movmf::outputs_ok` meets its contract: the products are in reach by the limits of m, k and d; the tests are those of the definition. Assumes nothing.
+-- `outputs::outputs_ok` meets its contract: the products are in reach by the limits of m, k and d; the tests are those of the definition. Assumes nothing.
 use native.Mathlib.Nat.{mul-le-mul}
 use native.Mathlib.Omega.{arith}
 use borrow.Author.Needs.{needs}
-use Rattle.movmf.proofs.outputs_ok.Statement.{statement}
-use Rattle.movmf.proofs.outputs_ok.Tie as tie
+use Rattle.outputs.proofs.outputs_ok.Statement.{statement}
+use Rattle.outputs.proofs.outputs_ok.Tie as tie
 
 mul-mk : tie.Need-mul-mk
 mul-mk c = omega (arith, mul-le-mul (c .pre .0) (c .pre .1))

@@ -1,8 +1,8 @@
--- `movmf::ln_weight` meets its contract: the operations of `lnWeight` on what the calls ensure. Assumes nothing.
+-- `outputs::ln_weight` meets its contract: the operations of `lnWeight` on what the calls ensure. Assumes nothing.
 use lib.Ieee.{ofBits}
 use borrow.Author.Needs.{needs}
-use Rattle.movmf.proofs.ln_weight.Statement.{statement}
-use Rattle.movmf.proofs.ln_weight.Tie as tie
+use Rattle.outputs.proofs.ln_weight.Statement.{statement}
+use Rattle.outputs.proofs.ln_weight.Tie as tie
 
 max-requires : tie.Need-max-requires
 max-requires c κs = search needs

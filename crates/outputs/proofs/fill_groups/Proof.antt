@@ -1,4 +1,4 @@
--- `movmf::fill_groups` meets its contract: copies of three parts of the area, and the logw, each before what the output holds past it. Assumes nothing.
+-- `outputs::fill_groups` meets its contract: copies of three parts of the area, and the logw, each before what the output holds past it. Assumes nothing.
 use mathlib.Core.Path.{refl, ap, sym, _∙_}
 use mathlib.Core.List.{List, _++_}
 use Prim.Native.Nat.{_+_, _*_, _-_}
@@ -10,8 +10,8 @@ use Rattle.limits.proofs.Halves.{alike}
 use Rattle.mixture.proofs.Regions.{directionsR, weightsR, kappasR, whole-in}
 use Rattle.mixture.proofs.Groups.{region-cut}
 use borrow.Author.Needs.{needs}
-use Rattle.movmf.proofs.fill_groups.Statement.{statement}
-use Rattle.movmf.proofs.fill_groups.Tie as tie
+use Rattle.outputs.proofs.fill_groups.Statement.{statement}
+use Rattle.outputs.proofs.fill_groups.Tie as tie
 
 mul-kd : tie.Need-mul-kd
 mul-kd c = search needs

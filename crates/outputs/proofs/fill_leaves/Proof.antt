@@ -1,4 +1,4 @@
--- `movmf::fill_leaves` meets its contract: the labels of the responsibilities in the area, and their copy, each before what the output holds past it. Assumes nothing.
+-- `outputs::fill_leaves` meets its contract: the labels of the responsibilities in the area, and their copy, each before what the output holds past it. Assumes nothing.
 use mathlib.Core.Path.{ap, sym, _∙_}
 use mathlib.Core.List.{List, _++_}
 use Prim.Native.Nat.{ℕ, _+_, _*_, _-_}
@@ -10,10 +10,10 @@ use Rattle.limits.proofs.Halves.{alike}
 use Rattle.mixture.specs.Fits.{labelsOf}
 use Rattle.mixture.proofs.Regions.{respR}
 use Rattle.mixture.proofs.Groups.{region-cut}
-use Rattle.movmf.proofs.Outputs.{cut-long}
+use Rattle.outputs.proofs.Listed.{cut-long}
 use borrow.Author.Needs.{needs}
-use Rattle.movmf.proofs.fill_leaves.Statement.{statement}
-use Rattle.movmf.proofs.fill_leaves.Tie as tie
+use Rattle.outputs.proofs.fill_leaves.Statement.{statement}
+use Rattle.outputs.proofs.fill_leaves.Tie as tie
 
 mul-kd : tie.Need-mul-kd
 mul-kd c = search needs
