@@ -1,6 +1,6 @@
 -- The refusals of `movmf_with`: what it says that nothing is refused, and the first refusal by what each test answered. By cases on the Bools of the tests. Assumes
 -- nothing.
-use mathlib.Core.Path.{_≡_}
+use mathlib.Core.Path.{_≡_, sym, _∙_}
 use mathlib.Core.List.{List}
 use mathlib.Core.Bool.{Bool}
 use Prim.Native.Nat.{ℕ}
@@ -21,11 +21,11 @@ pub record Ready (weights coords : List Float) (d k rounds : ℕ) (l : Lengths) 
   pub arrays : Arrays (length weights) k d l
 
 module _ (weights coords : List Float) (d k rounds : ℕ) (l : Lengths) where
-  pub ready : refusalOf weights coords d k rounds l ≡ 0 → Ready weights coords d k rounds l
+  pub ready : (code : ℕ) → code ≡ refusalOf weights coords d k rounds l → code ≡ 0 → Ready weights coords d k rounds l
   unfolding refusalOf
-  ready e =
+  ready code same none =
       let m = length weights in
-      let e1 = met (sizesOk m d (length coords)) 0 _ e in
+      let e1 = met (sizesOk m d (length coords)) 0 _ (sym same ∙ none) in
       let e2 = met (groupsOk k m) 1 _ (e1 .1) in
       let e3 = met (roundsOk rounds) 2 _ (e2 .1) in
       let e4 = met (arraysOk m k d l) 3 _ (e3 .1) in

@@ -1,6 +1,5 @@
 -- What is not refused is within the limits, so both halves have room and the outputs can be filled; each end is the outcome at the number of the refusal. Assumes
 -- nothing.
-use mathlib.Core.Path.{sym, _∙_}
 use lib.ListN.{length}
 use Rattle.outputs.specs.Outputs.{Outputs, lengthsOf}
 use Rattle.outputs.proofs.Refusals.{fillable}
@@ -29,7 +28,7 @@ ready-at : (c : tie.Else1) → let s = c .before .before .before .before .before
 ready-at c =
     let s = c .before .before .before .before .before .before .before .before .before .before .before .before in
     let a = s .args in
-    ready (a .weights .now) (a .coords .now) (a .d) (a .k) (a .s .rounds) (lengthsOf (found s) (length (a .work .now)) (length (a .marks .now))) (sym (c .before .refusal .ensures) ∙ c .if1 .left)
+    ready (a .weights .now) (a .coords .now) (a .d) (a .k) (a .s .rounds) (lengthsOf (found s) (length (a .work .now)) (length (a .marks .now))) (c .before .refusal .result) (c .before .refusal .ensures) (c .if1 .left)
 
 refusal-requires : tie.Need-refusal-requires
 refusal-requires c κs = search needs
@@ -55,22 +54,22 @@ kept-loglik-requires : tie.Need-kept-loglik-requires
 kept-loglik-requires c κs = search needs
 
 same-length : tie.Need-same-length
-same-length c = search needs
+same-length c = c .before .before .before .before .before .before .before .before .before .before .before .before .before .fill-outputs .kept .0
 
 same-length-2 : tie.Need-same-length-2
-same-length-2 c = search needs
+same-length-2 c = c .before .before .before .before .before .before .before .before .before .before .before .before .before .fill-outputs .kept .1 .0
 
 same-length-3 : tie.Need-same-length-3
-same-length-3 c = search needs
+same-length-3 c = c .before .before .before .before .before .before .before .before .before .before .before .before .before .fill-outputs .kept .1 .1 .0
 
 same-length-4 : tie.Need-same-length-4
-same-length-4 c = search needs
+same-length-4 c = c .before .before .before .before .before .before .before .before .before .before .before .before .before .fill-outputs .kept .1 .1 .1 .0
 
 same-length-5 : tie.Need-same-length-5
-same-length-5 c = search needs
+same-length-5 c = c .before .before .before .before .before .before .before .before .before .before .before .before .before .fill-outputs .kept .1 .1 .1 .1 .0
 
 same-length-6 : tie.Need-same-length-6
-same-length-6 c = search needs
+same-length-6 c = c .before .before .before .before .before .before .before .before .before .before .before .before .before .fill-outputs .kept .1 .1 .1 .1 .1 .0
 
 same-length-7 : tie.Need-same-length-7
 same-length-7 c = c .before .before .before .before .before .before .before .before .before .before .before .before .before .before .before .before .before .before .before .before .before .before .before .before .before .four-runs .kept .0
