@@ -1,7 +1,7 @@
 // The mixture fit that chooses the number of groups (vmf.rs, movmf_auto_with and movmf_auto; document 01, 'Choosing the number of groups'): every number of the clamped
 // range is fitted once, in rising order, and the first whose score beats the one held is kept and written into the outputs.
 ghost use mathlib.Core.Path.{_≡_};
-ghost use Prim.Native.Nat.{_+_, _*_, _-_, _≤_};
+ghost use Prim.Native.Nat.{_+_, _-_, _≤_};
 ghost use lib.ListN.{length};
 ghost use Rattle.logarithm.specs.Logarithm.{lnOf};
 ghost use Rattle.groups.specs.declared.Kappa.the-variants.{Free};

@@ -20,22 +20,22 @@ fill-groups-requires c κs =
     (kept-area (a .m) (a .k) (a .d) (a .work .now) (a .r) (s .pre .halved .work-long) _ (c .before .before .before .before .before .before .before .before .before .before .before .kept-part .ensures) (s .pre .k-some) (s .pre .d-some) (s .pre .d-small) (s .pre .halved), s .pre .groups)
 
 same-length : tie.Need-same-length
-same-length c = search needs
+same-length c = c .before .before .before .before .before .before .before .before .before .before .before .before .before .before .before .before .before .fill-leaves .kept .0
 
 same-length-2 : tie.Need-same-length-2
-same-length-2 c = search needs
+same-length-2 c = c .before .before .before .before .before .before .before .before .before .before .before .before .before .before .before .before .before .fill-leaves .kept .1 .0
 
 same-length-3 : tie.Need-same-length-3
-same-length-3 c = search needs
+same-length-3 c = c .before .before .before .before .before .before .before .before .fill-groups .kept .0
 
 same-length-4 : tie.Need-same-length-4
-same-length-4 c = search needs
+same-length-4 c = c .before .before .before .before .before .before .before .before .fill-groups .kept .1 .0
 
 same-length-5 : tie.Need-same-length-5
-same-length-5 c = search needs
+same-length-5 c = c .before .before .before .before .before .before .before .before .fill-groups .kept .1 .1 .0
 
 same-length-6 : tie.Need-same-length-6
-same-length-6 c = search needs
+same-length-6 c = c .before .before .before .before .before .before .before .before .fill-groups .kept .1 .1 .1 .0
 
 returns : tie.Need-returns
 returns c =
