@@ -10,8 +10,8 @@ use lib.ListN.{length}
 use lib.Ieee.{Float, lt, le}
 use Rattle.rng.specs.SplitMix.{restartSeedOf}
 use Rattle.lloyd.specs.Lloyd.{startedFrom}
-use Rattle.lloyd.specs.Seeding.{seedsOf}
-use Rattle.lloyd.specs.Areas.{freshRun}
+use Rattle.seeding.specs.Seeding.{seedsOf}
+use Rattle.lloyd.specs.Runs.{freshRun}
 use Rattle.lloyd.specs.Results.{resultOf}
 use Rattle.lloyd.proofs.Runs.{run-counts}
 use Rattle.lloyd.proofs.Tallies.{begun-most}

@@ -1,11 +1,4 @@
--- Laws that other proofs cite, each file named after what it is about.
-pub mod Regions
-pub mod Sizes
-pub mod Seeds
-pub mod Tallies
-pub mod Passes
-pub mod Fused
-pub mod Sums
-pub mod Updates
+pub mod Starts
 pub mod Rounds
+pub mod Tallies
 pub mod Runs

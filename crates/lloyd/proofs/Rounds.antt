@@ -1,70 +1,23 @@
--- The rounds over plain lists: what the calls of an update ensure is the definition's update, what those of a round ensure is its round, a round that is made is
--- one round of the definition's run, and labels stay below k. By the way each test went, and by recursion on the rounds. Assumes nothing.
+-- The rounds over plain lists: what the calls of a round ensure is its round, a round that is made is one round of the definition's run, and labels stay below k.
+-- By the way each test went, and by recursion on the rounds. Assumes nothing.
 use mathlib.Core.Path.{_≡_, refl, ap, sym, _∙_}
 use mathlib.Core.List.{List}
 use mathlib.Core.Bool.{Bool, true, false, cond, true≢false}
 use Prim.Native.Nat.{ℕ, zero, suc, _+_, _*_, _≤_, _<_}
 use native.Mathlib.Omega.{arith}
-use lib.Dec.{ltb}
 use lib.Ieee.{Float}
-use Rattle.bounds.specs.Shifts.{slowestUpTo}
-use Rattle.lloyd.specs.Lloyd.{State, Pass, Update, Run, putServed, servedUpTo, shiftUpTo, shiftedFor, emptyUpTo, refreshed, sumsUpTo, countsUpTo, updateUpTo, updateOf, passOf, endsAt, afterPass, afterUpdate, roundsFrom}
-use Rattle.lloyd.specs.Areas.{stateIn, sumsIn, countsIn, Labelled, Accumulated, updatedBy, Updated, Settled, RoundBy, RoundDone, Lloyded}
-use Rattle.lloyd.specs.declared.Passed.{Passed}
+use Rattle.areas.specs.State.{State}
+use Rattle.pass.specs.Pass.{Pass, passOf}
+use Rattle.update.specs.Update.{updateOf}
+use Rattle.lloyd.specs.Lloyd.{Run, endsAt, afterPass, afterUpdate, roundsFrom}
+use Rattle.areas.specs.Areas.{Labelled}
+use Rattle.update.specs.Groups.{Settled}
+use Rattle.lloyd.specs.Runs.{RoundBy, RoundDone, Lloyded}
+use Rattle.pass.specs.declared.Passed.{Passed}
 use Rattle.lloyd.specs.declared.Round.{Round}
 use Rattle.lloyd.specs.declared.Counts.{Counts}
-use Rattle.lloyd.proofs.Passes.{shift-labels, passed, labelled-after-pass}
-use Rattle.lloyd.proofs.Updates.{update-labels}
-
--- ---- labels below k
-
-pub labelled-of : (m k : ℕ) (s s' : State) → s' .labels ≡ s .labels → Labelled m k s → Labelled m k s'
-labelled-of m k s s' e l = rw e l
-
-module _ (m k : ℕ) (s : State) where
-  refreshed-labels : (coords : List Float) (d : ℕ) (b : Bool) → cond b (putServed (servedUpTo coords d s m) s) s .labels ≡ s .labels
-  unfolding putServed
-  refreshed-labels coords d true = refl
-  refreshed-labels coords d false = refl
-
-  shifted-labels : (b : Bool) → cond b (shiftUpTo k (slowestUpTo (s .drift) k) s m) s .labels ≡ s .labels
-  shifted-labels true = shift-labels k (slowestUpTo (s .drift) k) s m
-  shifted-labels false = refl
-
-  pub labelled-of-pass : (coords : List Float) (d it : ℕ) → 0 < k → Labelled m k s → Labelled m k (passOf coords m k d it s .state)
-  labelled-of-pass coords d it h l =
-      labelled-after-pass coords m k d it (shiftedFor m k it s) (labelled-of m k s (shiftedFor m k it s) (shifted-labels (ltb 0 it)) l) h m
-
-  pub labelled-of-update : (weights coords : List Float) (d : ℕ) → Labelled m k s → Labelled m k (updateOf weights coords m k d s .state)
-  labelled-of-update weights coords d l =
-      let counts = countsUpTo (s .labels) k m in
-      labelled-of m k s (updateOf weights coords m k d s .state)
-      (update-labels coords d (sumsUpTo weights coords (s .labels) k d m) counts (refreshed coords m k d counts s) k ∙ refreshed-labels coords d (emptyUpTo counts k)) l
-
--- ---- the update
-
--- served refreshed where a group is empty
-module _ (coords : List Float) (m k d : ℕ) (counts : List ℕ) (s x : State) (b : Bool) where
-  pub refresh-made : b ≡ emptyUpTo counts k → b ≡ true → x ≡ putServed (servedUpTo coords d s m) s → x ≡ refreshed coords m k d counts s
-  refresh-made e t f = f ∙ rw (← e, t)
-
-  pub refresh-left : b ≡ emptyUpTo counts k → b ≡ false → s ≡ refreshed coords m k d counts s
-  refresh-left e t = rw (← e, t)
-
-module _ (weights coords : List Float) (m k d : ℕ) (w w₁ w₂ w₃ : List Float) (u u₁ u₃ : List ℕ) (r : ℕ) where
-  updated-is : Accumulated weights coords m k d w w₁ u u₁ → stateIn m k d w₂ u₁ ≡ refreshed coords m k d (countsIn m k u₁) (stateIn m k d w₁ u₁)
-      → sumsIn k d w₂ ≡ sumsIn k d w₁ → updatedBy coords m k d w₂ u₁ ≡ updateOf weights coords m k d (stateIn m k d w u)
-  updated-is a e f =
-      ap (λ (x : State). updateUpTo coords d (sumsIn k d w₂) (countsIn m k u₁) x k) e
-      ∙ ap (λ (x : State). updateUpTo coords d (sumsIn k d w₂) (countsIn m k u₁) (refreshed coords m k d (countsIn m k u₁) x) k) (a .state)
-      ∙ ap (λ (x : List Float). updateUpTo coords d x (countsIn m k u₁) (refreshed coords m k d (countsIn m k u₁) (stateIn m k d w u)) k) (f ∙ a .sums)
-      ∙ ap (λ (x : List ℕ). updateUpTo coords d (sumsUpTo weights coords (stateIn m k d w u .labels) k d m) x (refreshed coords m k d x (stateIn m k d w u)) k) (a .counts)
-
-  pub settle-done : Accumulated weights coords m k d w w₁ u u₁ → stateIn m k d w₂ u₁ ≡ refreshed coords m k d (countsIn m k u₁) (stateIn m k d w₁ u₁)
-      → sumsIn k d w₂ ≡ sumsIn k d w₁ → Updated coords m k d w₂ w₃ u₁ u₃ r → Settled weights coords m k d (stateIn m k d w u) (stateIn m k d w₃ u₃) r
-  settle-done a e f g =
-      let h = updated-is a e f in
-      record { state = g .state ∙ ap (λ (x : Update). x .state) h; doubled = g .doubled ∙ ap (λ (x : Update). x .doubled) h; small = g .small }
+use Rattle.pass.proofs.Passes.{passed, labelled-of-pass}
+use Rattle.update.proofs.Settles.{labelled-of-update}
 
 -- ---- a round, by its pass p
 module _ (weights coords : List Float) (m k d it : ℕ) (p : Pass) (x x' : State) (q : Passed) (r : ℕ) (is : passed x q ≡ p)
@@ -97,8 +50,6 @@ module _ (weights coords : List Float) (m k d it : ℕ) (p : Pass) (x x' : State
         saved-small = small .1;
         doubled-small = g .small;
       })
-
--- ---- the rounds
 
 -- a run with one round more
 abbrev pub counted : Run → State → Round → Run

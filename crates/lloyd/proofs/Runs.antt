@@ -6,14 +6,18 @@ use Prim.Native.Nat.{ℕ, zero, suc, _+_, _*_, _<_}
 use native.Mathlib.Omega.{arith}
 use lib.ListN.{getD, replicate}
 use lib.Ieee.{Float}
-use Rattle.lloyd.specs.Seeding.{seedsOf}
-use Rattle.lloyd.specs.Lloyd.{State, Run, startedFrom, roundsFrom, lloydOf, sumsUpTo}
-use Rattle.lloyd.specs.Cohesion.{cohesionOf}
+use Rattle.seeding.specs.Seeding.{seedsOf}
+use Rattle.areas.specs.State.{State}
+use Rattle.lloyd.specs.Lloyd.{Run, startedFrom, roundsFrom, lloydOf}
+use Rattle.sums.specs.Sums.{sumsUpTo}
+use Rattle.sums.specs.Cohesion.{cohesionOf}
 use Rattle.lloyd.specs.Results.{resultOf}
-use Rattle.lloyd.specs.Areas.{freshRun, Labelled, Lloyded, RunDone, RunLeft, stateIn, sumsIn}
+use Rattle.lloyd.specs.Runs.{freshRun, Lloyded, RunDone, RunLeft}
+use Rattle.areas.specs.Areas.{Labelled, stateIn, sumsIn}
 use Rattle.lloyd.specs.declared.Counts.{Counts}
 use Rattle.lloyd.proofs.Tallies.{counts-of-rounds}
-use Rattle.lloyd.proofs.Rounds.{labelled-after-rounds, labelled-of}
+use Rattle.lloyd.proofs.Rounds.{labelled-after-rounds}
+use Rattle.areas.proofs.Sizes.{labelled-of}
 
 -- ---- before the first round every label is 0
 zero-at : (m i : ℕ) → _≡_ {A = ℕ} (getD (replicate m 0) i 0) 0

@@ -1,5 +1,5 @@
--- What the definitions of the passes and the rounds count: a pass makes or saves k products for each leaf, so that a run makes or saves k · m for each round
--- begun, and begins no more rounds than it may. By recursion on the leaves and on the rounds. Assumes nothing.
+-- What the definition of the rounds counts: a run makes or saves k · m products for each round begun, and begins no more rounds than it may. By recursion on the
+-- rounds. Assumes nothing.
 use mathlib.Core.Path.{_≡_}
 use mathlib.Core.List.{List}
 use mathlib.Core.Bool.{Bool, true, false, cond}
@@ -8,22 +8,10 @@ use native.Mathlib.Nat.{mul-suc}
 use native.Mathlib.Numerals.{add-one}
 use native.Mathlib.Omega.{arith}
 use lib.Ieee.{Float}
-use Rattle.bounds.specs.Shifts.{skips}
-use Rattle.lloyd.specs.Lloyd.{State, Pass, Run, boundsAt, passUpTo, passOf, shiftedFor, updateOf, endsAt, afterPass, afterUpdate, roundsFrom}
-
-either-pass : (b : Bool) (x y : Pass) (n : ℕ) → x .made + x .saved ≡ n → y .made + y .saved ≡ n → cond b x y .made + cond b x y .saved ≡ n
-either-pass true x y n e f = e
-either-pass false x y n e f = f
-
--- products made and saved by a pass over the first n leaves
-pub counts-of-pass : (coords : List Float) (k d it : ℕ) (s : State) (n : ℕ) → passUpTo coords k d it s n .made + passUpTo coords k d it s n .saved ≡ k * n
-unfolding passUpTo
-counts-of-pass coords k d it s zero = omega arith
-counts-of-pass coords k d it s (suc n) =
-    let p = passUpTo coords k d it s n in
-    let e : p .made + p .saved ≡ k * n = counts-of-pass coords k d it s n in
-    let f : k * suc n ≡ k * n + k = mul-suc k n in
-    either-pass (skips it (boundsAt (p .state) n)) _ _ (k * suc n) (omega (arith, e, f)) (omega (arith, e, f))
+use Rattle.pass.specs.Pass.{passOf, shiftedFor}
+use Rattle.lloyd.specs.Lloyd.{Run, endsAt, afterPass, afterUpdate, roundsFrom}
+use Rattle.update.specs.Update.{updateOf}
+use Rattle.pass.proofs.Tallies.{counts-of-pass}
 
 -- a round more
 round-counts : (km a b x y n : ℕ) → a + b ≡ km * n → x + y ≡ km → a + x + (b + y) ≡ km * (n + 1)

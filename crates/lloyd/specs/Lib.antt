@@ -1,5 +1,3 @@
-pub mod Seeding
 pub mod Lloyd
-pub mod Cohesion
+pub mod Runs
 pub mod Results
-pub mod Areas

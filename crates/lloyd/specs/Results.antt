@@ -2,9 +2,9 @@
 use mathlib.Core.List.{List}
 use Prim.Native.Nat.{ℕ}
 use lib.Ieee.{Float}
-use Rattle.lloyd.specs.Seeding.{Seeds, seedsOf}
+use Rattle.seeding.specs.Seeding.{Seeds, seedsOf}
 use Rattle.lloyd.specs.Lloyd.{Run, lloydOf}
-use Rattle.lloyd.specs.Cohesion.{cohesionOf}
+use Rattle.sums.specs.Cohesion.{cohesionOf}
 
 -- labels, centres, cohesion, the counts and the rounds begun, and the generator's state after it
 pub record Result : Type 0 where

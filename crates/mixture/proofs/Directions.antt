@@ -16,9 +16,9 @@ use Rattle.rows.specs.Rows.{part, putPart, rowOf}
 use Rattle.vector.specs.Vectors.{normOf, dividedBy}
 use Rattle.rows.proofs.Rows.{length-part, row-within}
 use Rattle.vector.proofs.Vectors.{divide-length}
-use Rattle.lloyd.specs.Lloyd.{normsUpTo, centerBy}
-use Rattle.lloyd.proofs.Seeds.{norms-length}
-use Rattle.lloyd.proofs.Updates.{put-same}
+use Rattle.sums.specs.Sums.{normsUpTo, centerBy}
+use Rattle.sums.proofs.Sums.{norms-length}
+use Rattle.rows.proofs.Rows.{put-same}
 use Rattle.mixture.specs.Mixture.{directionsUpTo}
 use Rattle.mixture.specs.Areas.{Parts, partsIn, withDirections, withNorms, total}
 use Rattle.mixture.proofs.Regions.{directionsR, sumsR, normsR, frontIn, get-in, part-in, put-in, length-in, front-in-start, front-in-turn, front-in-end}

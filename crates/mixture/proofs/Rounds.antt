@@ -6,7 +6,7 @@ use mathlib.Core.Bool.{true, false}
 use Prim.Native.Nat.{ℕ, suc, _+_}
 use lib.Ieee.{Float}
 use Rattle.float.specs.Arithmetic.{minusZero, sumFrom}
-use Rattle.lloyd.specs.Lloyd.{normsUpTo}
+use Rattle.sums.specs.Sums.{normsUpTo}
 use Rattle.groups.specs.Kappas.{tabulate, kappasOf}
 use Rattle.mixture.specs.Mixture.{Gathered, Em, weightAt, directionsUpTo, maximize, maximizeBy, basesOf, expectUpTo, gatherUpTo, emRound, stopsAt, emFrom}
 use Rattle.mixture.specs.Areas.{Parts, modelOf, emOf, withGathered, withNorms, withWeights, withDirections, withKappas, withBases, withResp}

@@ -8,12 +8,13 @@ use lib.ListN.{take, replicate}
 use lib.Seq.{getD-take}
 use lib.Ieee.{Float, inf}
 use Rattle.float.specs.Arithmetic.{plusZero, sumFrom}
-use Rattle.lloyd.specs.Lloyd.{normsUpTo, sumsUpTo}
+use Rattle.sums.specs.Sums.{normsUpTo, sumsUpTo}
 use Rattle.lloyd.specs.Results.{Result}
-use Rattle.lloyd.specs.Areas.{stateIn, RunLeft}
-use Rattle.lloyd.specs.Areas as lloyd
+use Rattle.areas.specs.Areas.{stateIn}
+use Rattle.lloyd.specs.Runs.{RunLeft}
+use Rattle.lloyd.specs.Runs as lloyd
 use Rattle.lloyd.specs.declared.Ran as lloyd-ran
-use Rattle.lloyd.proofs.Regions.{centers-are, labels-are}
+use Rattle.areas.proofs.Regions.{centers-are, labels-are}
 use Rattle.groups.specs.Kappas.{kappasOf}
 use Rattle.mixture.specs.Mixture.{evenWeight, emFrom}
 use Rattle.mixture.specs.Fits.{labelTotalsUpTo, startKappasBy, startFrom, warmOf, onceOf}

@@ -6,7 +6,7 @@ use lib.ListN.{getD}
 use lib.Ieee.{Float, nan, binary64, add, mul}
 use Rattle.float.specs.declared.Four.{Four}
 use Rattle.rows.specs.Rows.{cut}
-use Rattle.lloyd.specs.Areas as lloyd
+use Rattle.areas.specs.Areas as areas
 use Rattle.mixture.specs.Mixture.{Model, Gathered, Em, likenessAt}
 use Rattle.mixture.specs.Fits.{Once}
 use Rattle.mixture.specs.declared.Ran.{Ran}
@@ -141,7 +141,7 @@ Labels m k labels = (i : ℕ) → i < m → getD labels i 0 < k
 pub record Runnable (work marks weights coords m k d rounds : ℕ) : Type 0 where
   pub m-some : 0 < m
   pub area : Area work m k d
-  pub warm-long : lloyd.total m k d ≤ work
+  pub warm-long : areas.total m k d ≤ work
   pub marks-long : m + k ≤ marks
   pub leaves : Leaves weights coords m d
   pub rounds-small : rounds ≤ 10000

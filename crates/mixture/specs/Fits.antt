@@ -8,7 +8,7 @@ use Rattle.float.specs.Arithmetic.{f64, plusZero, sumFrom, maxOf}
 use Rattle.logarithm.specs.Logarithm.{lnOf}
 use Rattle.rows.specs.Rows.{rowOf}
 use Rattle.pick.specs.Places.{argmaxOf}
-use Rattle.lloyd.specs.Lloyd.{normsUpTo, sumsUpTo}
+use Rattle.sums.specs.Sums.{normsUpTo, sumsUpTo}
 use Rattle.lloyd.specs.Results.{Result, resultOf}
 use Rattle.groups.specs.Kappas.{tabulate, kappasOf}
 use Rattle.mixture.specs.Mixture.{Model, Em, evenWeight, emFrom}

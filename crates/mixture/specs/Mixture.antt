@@ -8,7 +8,7 @@ use lib.Ieee.{Float, nan, binary64, add, sub, mul, div, lt, le}
 use Rattle.float.specs.Arithmetic.{f64, number, plusZero, minusZero, sumFrom, maxOf, absOf}
 use Rattle.rows.specs.Rows.{rowOf, putPart}
 use Rattle.vector.specs.Vectors.{dotOf}
-use Rattle.lloyd.specs.Lloyd.{addLeaf, normsUpTo, centerBy}
+use Rattle.sums.specs.Sums.{addLeaf, normsUpTo, centerBy}
 use Rattle.softmax.specs.Softmax.{logSumExp, sharesOf}
 use Rattle.groups.specs.Groups.{baseOf}
 use Rattle.groups.specs.Kappas.{tabulate, kappasOf}

@@ -10,7 +10,7 @@ ghost use Rattle.float.specs.Arithmetic.{plusZero, sumFrom};
 ghost use Rattle.rows.specs.Rows.{Apart, part, putPart, rowOf};
 ghost use Rattle.vector.specs.Vectors.{dividedBy};
 ghost use Rattle.bessel.specs.Concentration.{Dimension, estimateOf};
-ghost use Rattle.lloyd.specs.Lloyd.{normsUpTo};
+ghost use Rattle.sums.specs.Sums.{normsUpTo};
 ghost use Rattle.groups.specs.Kappas.{tabulate, meanLength, sharedKappa, kappaAt, kappasOf};
 ghost use Rattle.groups.specs.Groups.{logNormOf};
 ghost use Rattle.mixture.specs.Mixture.{basesOf, likenessAt, likenesses, expectUpTo, gatherGroup, gatherLeaf, gatherUpTo, evenWeight, weightBy, weightAt, directionsUpTo, maximize, emRound, stopsAt, emFrom};

@@ -6,7 +6,7 @@ use Prim.Native.Nat.{ℕ, zero, suc, _+_, _*_, _-_, _≤_, _<_}
 use native.Mathlib.Nat.{suc-mul, mul-le-mul-right}
 use native.Mathlib.Numerals.{add-one}
 use native.Mathlib.Omega.{arith}
-use lib.ListN.{length, getD, take, drop, set, drop-of-length-le, length-append, length-drop}
+use lib.ListN.{length, getD, take, drop, set, drop-of-length-le, length-append, length-drop, take-append-drop}
 use lib.Seq.{take-set-le, drop-set-lt, take-set-lt, drop-set-add, drop-drop, take-take, length-take-le, take-at, drop-at, getD-take, getD-drop, drop-cons, set-at, paste, paste-suc, drop-paste}
 use Rattle.rows.specs.Rows.{part, putPart, rowOf, cut, startOf}
 
@@ -160,3 +160,7 @@ module _ {A : Type 0} where
       let p : length (take to w ++ s) ≡ to + c = length-append (take to w) s ∙ rw (length-take-le to w (omega arith), l) in
       rw (add-one, drop-cons (drop to w) c z, ← append-assoc (take to w) s (getD (drop to w) c z ∷ drop (suc c) (drop to w)))
       (set-at (take to w ++ s) (getD (drop to w) c z) (drop (suc c) (drop to w)) v (to + c) p ∙ rw (append-assoc, append-assoc))
+
+  -- a part put in its own place
+  pub put-same : (w : List A) (at n : ℕ) → putPart w at n (part w at n) ≡ w
+  put-same w at n = rw (take-append-drop, take-append-drop)

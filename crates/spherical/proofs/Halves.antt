@@ -11,11 +11,12 @@ use lib.Seq.{take-take}
 use lib.Ieee.{Float, le}
 use Rattle.rows.specs.Rows.{part, putPart}
 use Rattle.rows.proofs.Rows.{length-part}
-use Rattle.lloyd.specs.Lloyd.{State}
+use Rattle.areas.specs.State.{State}
 use Rattle.lloyd.specs.Results.{Result, resultOf}
-use Rattle.lloyd.specs.Areas.{stateIn, Runnable, RunDone}
+use Rattle.areas.specs.Areas.{stateIn}
+use Rattle.lloyd.specs.Runs.{Runnable, RunDone}
 use Rattle.lloyd.specs.declared.Ran.{Ran}
-use Rattle.lloyd.proofs.Regions.{labels-are, centers-are}
+use Rattle.areas.proofs.Regions.{labels-are, centers-are}
 use Rattle.spherical.specs.Restarts.{keepBy, keep, restartsUpTo, kmeansOf}
 use Rattle.spherical.specs.Refusals.{refusalOf}
 use Rattle.spherical.specs.Outcome.{Outcome, outcome}

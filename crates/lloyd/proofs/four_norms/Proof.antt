@@ -9,7 +9,7 @@ use Rattle.float.specs.declared.Four.{Four}
 use Rattle.root.specs.Fours.{rootsOf}
 use Rattle.rows.specs.Rows.{part, rowOf}
 use Rattle.vector.specs.Vectors.{dotOf}
-use Rattle.lloyd.specs.Areas.{fourNorms}
+use Rattle.lloyd.specs.Runs.{fourNorms}
 use borrow.Author.Needs.{needs}
 use Rattle.lloyd.proofs.four_norms.Statement.{statement}
 use Rattle.lloyd.proofs.four_norms.Tie as tie

@@ -6,8 +6,9 @@ use native.Mathlib.Nat.{sub-zero}
 use native.Mathlib.Omega.{arith}
 use lib.ListN.{length}
 use Rattle.lloyd.specs.Lloyd.{roundsFrom}
-use Rattle.lloyd.specs.Areas.{stateIn, Sized, Labelled, freshRun}
-use Rattle.lloyd.proofs.Sizes.{sized-of}
+use Rattle.areas.specs.Areas.{stateIn, Sized, Labelled}
+use Rattle.lloyd.specs.Runs.{freshRun}
+use Rattle.areas.proofs.Sizes.{sized-of}
 use Rattle.lloyd.proofs.Rounds.{running, Few, plus, few-turn, run-turn, run-stop, run-end, labelled-of-round, lloyd-done}
 use borrow.Author.Needs.{needs}
 use Rattle.lloyd.proofs.lloyd.Statement.{statement}

@@ -6,9 +6,9 @@ use native.Mathlib.Nat.{mul-le-mul-right}
 use native.Mathlib.Omega.{arith}
 use lib.ListN.{length, length-set}
 use Rattle.rows.proofs.Rows.{row-within}
-use Rattle.lloyd.specs.Areas.{stateIn}
-use Rattle.lloyd.proofs.Regions.{length-scale}
-use Rattle.lloyd.proofs.Seeds.{NormedFrom, norms-start, norms-four, norms-turn, norms-end}
+use Rattle.areas.specs.Areas.{stateIn}
+use Rattle.areas.proofs.Regions.{length-scale}
+use Rattle.lloyd.proofs.Starts.{NormedFrom, norms-start, norms-four, norms-turn, norms-end}
 use borrow.Author.Needs.{needs}
 use Rattle.lloyd.proofs.measure.Statement.{statement}
 use Rattle.lloyd.proofs.measure.Tie as tie

@@ -2,10 +2,12 @@
 -- Assumes nothing.
 use mathlib.Core.Path.{ap}
 use lib.ListN.{length}
-use Rattle.lloyd.specs.Lloyd.{Pass, passOf}
-use Rattle.lloyd.specs.Areas.{stateIn}
-use Rattle.lloyd.proofs.Sizes.{sized-of}
-use Rattle.lloyd.proofs.Rounds.{labelled-of, labelled-of-pass, round-ended, round-settled}
+use Rattle.pass.specs.Pass.{Pass, passOf}
+use Rattle.areas.specs.Areas.{stateIn}
+use Rattle.areas.proofs.Sizes.{sized-of}
+use Rattle.areas.proofs.Sizes.{labelled-of}
+use Rattle.pass.proofs.Passes.{labelled-of-pass}
+use Rattle.lloyd.proofs.Rounds.{round-ended, round-settled}
 use borrow.Author.Needs.{needs}
 use Rattle.lloyd.proofs.one_round.Statement.{statement}
 use Rattle.lloyd.proofs.one_round.Tie as tie

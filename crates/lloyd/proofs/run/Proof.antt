@@ -2,7 +2,7 @@
 use mathlib.Core.Path.{_∙_}
 use lib.ListN.{length}
 use borrow.Author.Needs.{needs}
-use Rattle.lloyd.proofs.Sizes.{sized-of}
+use Rattle.areas.proofs.Sizes.{sized-of}
 use Rattle.lloyd.proofs.Runs.{started-labelled, rounds-labelled, run-done, run-left}
 use Rattle.lloyd.proofs.run.Statement.{statement}
 use Rattle.lloyd.proofs.run.Tie as tie

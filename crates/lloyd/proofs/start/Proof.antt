@@ -4,7 +4,7 @@ use native.Mathlib.Omega.{arith}
 use lib.Seq.{length-take-le}
 use lib.Ieee.{div, neg, ofBits, ofInt}
 use Rattle.rows.specs.Rows.{putPart}
-use Rattle.lloyd.proofs.Seeds.{start-done}
+use Rattle.lloyd.proofs.Starts.{start-done}
 use borrow.Author.Needs.{needs}
 use Rattle.lloyd.proofs.start.Statement.{statement}
 use Rattle.lloyd.proofs.start.Tie as tie

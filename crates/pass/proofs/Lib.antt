@@ -1,0 +1,4 @@
+pub mod Leaves
+pub mod Passes
+pub mod Tallies
+pub mod Fused

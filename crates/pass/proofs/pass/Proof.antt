@@ -1,0 +1,60 @@
+-- `pass::pass` meets its contract: the pass with the shift, or over the first state in the first round. Assumes nothing.
+use mathlib.Core.Path.{ap, _∙_}
+use Rattle.areas.specs.State.{State}
+use Rattle.pass.specs.Pass.{passUpTo}
+use Rattle.areas.specs.Areas.{stateIn}
+use Rattle.pass.proofs.Passes.{shift-made, shift-left}
+use borrow.Author.Needs.{needs}
+use Rattle.pass.proofs.pass.Statement.{statement}
+use Rattle.pass.proofs.pass.Tie as tie
+
+shift-and-assign-requires : tie.Need-shift-and-assign-requires
+shift-and-assign-requires c κs = search needs
+
+same-length : tie.Need-same-length
+same-length c = search needs
+
+same-length-2 : tie.Need-same-length-2
+same-length-2 c = search needs
+
+returns : tie.Need-returns
+returns c =
+    let f = c .before .before .before .before in
+    let a = f .before .before .before .before .before .before .before .args in
+    let s = stateIn (a .m) (a .k) (a .d) (a .work .now) (a .marks .now) in (
+      f .shift-and-assign .ensures .0
+          ∙ ap (λ (x : State). passUpTo (a .coords .now) (a .k) (a .d) (a .it) x (a .m)) (shift-made (a .m) (a .k) (a .it) s (f .before .before .before .if1 .taken)),
+      f .shift-and-assign .ensures .1,
+    )
+
+assign-requires : tie.Need-assign-requires
+assign-requires c κs = search needs
+
+same-length-3 : tie.Need-same-length-3
+same-length-3 c = search needs
+
+same-length-4 : tie.Need-same-length-4
+same-length-4 c = search needs
+
+returns-2 : tie.Need-returns-2
+returns-2 c =
+    let f = c .before .before .before .before in
+    let a = f .before .before .before .before .before .before .before .args in
+    let s = stateIn (a .m) (a .k) (a .d) (a .work .now) (a .marks .now) in (
+      f .assign .ensures .0
+          ∙ ap (λ (x : State). passUpTo (a .coords .now) (a .k) (a .d) (a .it) x (a .m)) (shift-left (a .m) (a .k) (a .it) s (f .before .before .before .if1 .left)),
+      f .assign .ensures .1,
+    )
+
+pub pass-spec : {M : Type 1} → statement M
+pass-spec =
+    tie.close
+    (tie.spec
+    shift-and-assign-requires
+    same-length
+    same-length-2
+    returns
+    assign-requires
+    same-length-3
+    same-length-4
+    returns-2)

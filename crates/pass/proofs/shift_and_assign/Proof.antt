@@ -1,0 +1,152 @@
+-- `pass::shift_and_assign` meets its contract. The invariant: state and answer are the definition's pass over the leaves before i, of the state with the
+-- bounds of just those shifted. The measure is what is left of the leaves. Assumes nothing.
+use mathlib.Core.Path.{_≡_, refl, ap, _∙_}
+use Prim.Native.Nat.{ℕ, _≤_, _<_, _-_}
+use native.Mathlib.Omega.{arith}
+use lib.ListN.{length}
+use Rattle.bounds.specs.Shifts.{slowestUpTo}
+use Rattle.bounds.specs.declared.Slowest.{Slowest}
+use Rattle.pass.specs.Pass.{shiftUpTo, passUpTo}
+use Rattle.areas.specs.Areas.{Sized, stateIn}
+use Rattle.areas.proofs.Regions.{get-labels}
+use Rattle.areas.proofs.Sizes.{sized-of, leaf-of}
+use Rattle.pass.proofs.Passes.{slowest-is, passed, pass-small}
+use Rattle.pass.proofs.Fused.{fused-turn, fused-labelled}
+use borrow.Author.Needs.{needs}
+use Rattle.pass.proofs.shift_and_assign.Statement.{statement}
+use Rattle.pass.proofs.shift_and_assign.Tie as tie
+
+abbrev Inv-loop : tie.InvT-loop
+Inv-loop work₀ marks₀ coords it m k d kd drift t p₀ i₀ work marks p i =
+    (i ≤ m) × Sized (length work) (length marks) (length coords) m k d
+    × (passed (stateIn m k d work marks) p ≡ passUpTo coords k d it (shiftUpTo k t (stateIn m k d work₀ marks₀) i) i) × (length work ≡ length work₀) × (length marks ≡ length marks₀)
+
+abbrev μ-loop : tie.MeasureT-loop
+μ-loop work₀ marks₀ coords it m k d kd drift t p₀ i₀ work marks p i = m - i
+
+mul-kd : tie.Need-mul-kd Inv-loop μ-loop
+mul-kd c = search needs
+
+add-drift : tie.Need-add-drift Inv-loop μ-loop
+add-drift c = search needs
+
+add-drift-2 : tie.Need-add-drift-2 Inv-loop μ-loop
+add-drift-2 c = search needs
+
+add-drift-3 : tie.Need-add-drift-3 Inv-loop μ-loop
+add-drift-3 c = search needs
+
+add-drift-4 : tie.Need-add-drift-4 Inv-loop μ-loop
+add-drift-4 c = search needs
+
+add-drift-5 : tie.Need-add-drift-5 Inv-loop μ-loop
+add-drift-5 c = search needs
+
+add-two-smallest : tie.Need-add-two-smallest Inv-loop μ-loop
+add-two-smallest c = search needs
+
+mul-two-smallest : tie.Need-mul-two-smallest Inv-loop μ-loop
+mul-two-smallest c = search needs
+
+sub-two-smallest : tie.Need-sub-two-smallest Inv-loop μ-loop
+sub-two-smallest c = search needs
+
+part-two-smallest-start : tie.Need-part-two-smallest-start Inv-loop μ-loop
+part-two-smallest-start c = search needs
+
+part-two-smallest-end : tie.Need-part-two-smallest-end Inv-loop μ-loop
+part-two-smallest-end c = search needs
+
+two-smallest-requires : tie.Need-two-smallest-requires Inv-loop μ-loop
+two-smallest-requires c κs = search needs
+
+loop-holds : tie.Need-loop-holds Inv-loop μ-loop
+unfolding shiftUpTo passUpTo
+loop-holds c = (omega arith, c .before .before .before .before .before .before .pre .0, refl, refl, refl)
+
+turn-leaf-requires : tie.Need-turn-leaf-requires Inv-loop μ-loop
+turn-leaf-requires c κs =
+    let l = c .before .before .before .loop in
+    let s = c .before .before .before .before .before .before .before .before .before .before in
+    let a = s .args in
+    let h : l .i < a .m = c .before .before .loop-test .taken in
+    let labelled = fused-labelled (a .coords .now) (a .k) (a .d) (a .it) _ (stateIn (a .m) (a .k) (a .d) (a .work .now) (a .marks .now)) (a .m) (s .pre .1) (s .pre .0 .k-some) (l .i)
+    (stateIn (a .m) (a .k) (a .d) (l .work) (l .marks)) (l .p) (l .inv .2) in
+    (l .inv .1, (leaf-of (l .i) (a .m) (a .d) h, rw (get-labels (a .m) (a .k) (a .d) (l .work) (l .marks) (l .i) 0 h) (labelled (l .i) h)))
+
+tally-requires : tie.Need-tally-requires Inv-loop μ-loop
+tally-requires c κs =
+    let l = c .before .before .before .before .before .before .before .before .loop in
+    let a = c .before .before .before .before .before .before .before .before .before .before .before .before .before .before .before .args in
+    let small = pass-small (a .coords .now) (a .k) (a .d) (a .it) _ (l .i) _ (l .p) (l .inv .2) (omega (arith, l .inv .0, l .inv .1 .m-small)) (l .inv .1 .k-small) in
+    (small .0, small .1, l .inv .1 .k-small)
+
+add-i : tie.Need-add-i Inv-loop μ-loop
+add-i c = search needs
+
+loop-less : tie.Need-loop-less Inv-loop μ-loop
+loop-less c = search needs
+
+loop-again : tie.Need-loop-again Inv-loop μ-loop
+loop-again c =
+    let f = c .before .before .before .before .before in
+    let l = f .before .before .before .before .loop in
+    let a = f .before .before .before .before .before .before .before .before .before .before .before .args in
+    let ew = f .turn-leaf .kept .0 in
+    let eu = f .turn-leaf .kept .1 .0 in (
+      omega (arith, f .before .before .before .loop-test .taken),
+      sized-of _ _ _ _ (length (a .coords .now)) (a .m) (a .k) (a .d) ew eu (l .inv .1),
+      fused-turn (a .coords .now) (a .k) (a .d) (a .it) _ _ (l .i) (stateIn (a .m) (a .k) (a .d) (l .work) (l .marks)) _ (l .p) (c .tally .result) (f .turn-leaf .result)
+          (l .inv .2) (f .turn-leaf .ensures) (c .tally .ensures),
+      ew ∙ l .inv .3,
+      eu ∙ l .inv .4,
+    )
+
+same-length : tie.Need-same-length Inv-loop μ-loop
+same-length c = c .before .loop .inv .3
+
+same-length-2 : tie.Need-same-length-2 Inv-loop μ-loop
+same-length-2 c = c .before .loop .inv .4
+
+returns : tie.Need-returns Inv-loop μ-loop
+returns c =
+    let l = c .before .loop in
+    let f = c .before .before in
+    let s = c .before .before .before .before .before .before .before .before in
+    let a = s .args in
+    let s₀ = stateIn (a .m) (a .k) (a .d) (a .work .now) (a .marks .now) in
+    let e : l .i ≡ a .m = omega (arith, l .inv .0, c .loop-test .left) in
+    let t : f .two-smallest .result ≡ slowestUpTo (s₀ .drift) (a .k) =
+    slowest-is (a .m) (a .k) (a .d) (a .work .now) (a .marks .now) (f .two-smallest .result) (s .pre .0 .work-long) (f .two-smallest .ensures) in (
+      l .inv .2 ∙ ap (λ (n : ℕ). passUpTo (a .coords .now) (a .k) (a .d) (a .it) (shiftUpTo (a .k) (f .two-smallest .result) s₀ n) n) e
+          ∙ ap (λ (x : Slowest). passUpTo (a .coords .now) (a .k) (a .d) (a .it) (shiftUpTo (a .k) x s₀ (a .m)) (a .m)) t,
+      pass-small (a .coords .now) (a .k) (a .d) (a .it) _ (l .i) _ (l .p) (l .inv .2) (omega (arith, l .inv .0, l .inv .1 .m-small)) (l .inv .1 .k-small),
+    )
+
+pub shift-and-assign-spec : {M : Type 1} → statement M
+shift-and-assign-spec =
+    tie.close
+    (tie.spec
+    Inv-loop
+    μ-loop
+    mul-kd
+    add-drift
+    add-drift-2
+    add-drift-3
+    add-drift-4
+    add-drift-5
+    add-two-smallest
+    mul-two-smallest
+    sub-two-smallest
+    part-two-smallest-start
+    part-two-smallest-end
+    two-smallest-requires
+    loop-holds
+    turn-leaf-requires
+    tally-requires
+    add-i
+    loop-less
+    loop-again
+    same-length
+    same-length-2
+    returns)

@@ -1,0 +1,24 @@
+-- `pass::tally` meets its contract: each answer is a case of `tallied` by its test. Assumes nothing.
+use mathlib.Core.Path.{_≡_, _∙_}
+use mathlib.Core.Bool.{_||_}
+use mathlib.Core.Logic.{⊎-elim}
+use borrow.Author.Needs.{needs}
+use Rattle.pass.proofs.tally.Statement.{statement}
+use Rattle.pass.proofs.tally.Tie as tie
+
+add-t10 : tie.Need-add-t10
+add-t10 c = search needs
+
+returns : tie.Need-returns
+returns c = simp (c .if1 .taken)
+
+add-t16 : tie.Need-add-t16
+add-t16 c = search needs
+
+returns-2 : tie.Need-returns-2
+returns-2 c =
+    let e : c .if2 .t12 ≡ (c .before .before .args .p .changed || c .before .before .args .t .changed) = ⊎-elim (λ h. simp (h .0 .taken) (h .1 ∙ h .0 .taken)) (λ h. simp (h .0 .left) (h .1)) (c .if2 .came) in
+    simp (c .before .if1 .left, e)
+
+pub tally-spec : {M : Type 1} → statement M
+tally-spec = tie.close (tie.spec add-t10 returns add-t16 returns-2)

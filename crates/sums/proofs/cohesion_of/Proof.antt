@@ -1,0 +1,35 @@
+-- cohesion_of answers the cohesion of the labels and leaves the state: the sums that accumulate makes, and their norms. Assumes nothing.
+use lib.ListN.{length}
+use Rattle.areas.proofs.Sizes.{sized-of, area-of}
+use Rattle.sums.proofs.Sums.{cohesion-done}
+use borrow.Author.Needs.{needs}
+use Rattle.sums.proofs.cohesion_of.Statement.{statement}
+use Rattle.sums.proofs.cohesion_of.Tie as tie
+
+accumulate-requires : tie.Need-accumulate-requires
+accumulate-requires c κs = search needs
+
+add-norms-requires : tie.Need-add-norms-requires
+add-norms-requires c κs =
+    let g = c .before .before .before .before .before in
+    let s = c .before .before .before .before .before .before .before .before .before .before .before .before in
+    let a = s .args in
+    area-of _ _ (length (a .coords .now)) (a .m) (a .k) (a .d) (sized-of _ _ _ _ (length (a .coords .now)) (a .m) (a .k) (a .d) (g .accumulate .kept .0) (g .accumulate .kept .1 .0) (s .pre .0))
+
+same-length : tie.Need-same-length
+same-length c = search needs
+
+same-length-2 : tie.Need-same-length-2
+same-length-2 c = search needs
+
+returns : tie.Need-returns
+returns c =
+    let g = c .before .before .before .before .before .before in
+    let a = c .before .before .before .before .before .before .before .before .before .before .before .before .before .args in (
+      cohesion-done (a .weights .now) (a .coords .now) (a .m) (a .k) (a .d) (a .work .now) _ (a .marks .now) _ (c .add-norms .result) (g .accumulate .ensures) (c .add-norms .ensures),
+      g .accumulate .ensures .state,
+      g .accumulate .ensures .sums,
+    )
+
+pub cohesion-of-spec : {M : Type 1} → statement M
+cohesion-of-spec = tie.close (tie.spec accumulate-requires add-norms-requires same-length same-length-2 returns)

@@ -1,0 +1,50 @@
+-- The update as a whole, over plain lists: what its calls ensure is the definition's update, and labels stay below k. By the way each test went. Assumes nothing.
+use mathlib.Core.Path.{_≡_, refl, ap, _∙_}
+use mathlib.Core.List.{List}
+use mathlib.Core.Bool.{Bool, true, false, cond}
+use Prim.Native.Nat.{ℕ}
+use lib.Ieee.{Float}
+use Rattle.areas.specs.State.{State}
+use Rattle.update.specs.Update.{Update, putServed, servedUpTo, emptyUpTo, refreshed, updateUpTo, updateOf}
+use Rattle.sums.specs.Sums.{sumsUpTo, countsUpTo}
+use Rattle.areas.specs.Areas.{stateIn, sumsIn, countsIn, Labelled}
+use Rattle.sums.specs.Gains.{Accumulated}
+use Rattle.update.specs.Groups.{updatedBy, Updated, Settled}
+use Rattle.update.proofs.Updates.{update-labels}
+use Rattle.areas.proofs.Sizes.{labelled-of}
+
+-- so does the update
+module _ (m k : ℕ) (s : State) where
+  refreshed-labels : (coords : List Float) (d : ℕ) (b : Bool) → cond b (putServed (servedUpTo coords d s m) s) s .labels ≡ s .labels
+  unfolding putServed
+  refreshed-labels coords d true = refl
+  refreshed-labels coords d false = refl
+
+  pub labelled-of-update : (weights coords : List Float) (d : ℕ) → Labelled m k s → Labelled m k (updateOf weights coords m k d s .state)
+  labelled-of-update weights coords d l =
+      let counts = countsUpTo (s .labels) k m in
+      labelled-of m k s (updateOf weights coords m k d s .state)
+      (update-labels coords d (sumsUpTo weights coords (s .labels) k d m) counts (refreshed coords m k d counts s) k ∙ refreshed-labels coords d (emptyUpTo counts k)) l
+
+-- served refreshed where a group is empty
+module _ (coords : List Float) (m k d : ℕ) (counts : List ℕ) (s x : State) (b : Bool) where
+  pub refresh-made : b ≡ emptyUpTo counts k → b ≡ true → x ≡ putServed (servedUpTo coords d s m) s → x ≡ refreshed coords m k d counts s
+  refresh-made e t f = f ∙ rw (← e, t)
+
+  pub refresh-left : b ≡ emptyUpTo counts k → b ≡ false → s ≡ refreshed coords m k d counts s
+  refresh-left e t = rw (← e, t)
+
+module _ (weights coords : List Float) (m k d : ℕ) (w w₁ w₂ w₃ : List Float) (u u₁ u₃ : List ℕ) (r : ℕ) where
+  updated-is : Accumulated weights coords m k d w w₁ u u₁ → stateIn m k d w₂ u₁ ≡ refreshed coords m k d (countsIn m k u₁) (stateIn m k d w₁ u₁)
+      → sumsIn k d w₂ ≡ sumsIn k d w₁ → updatedBy coords m k d w₂ u₁ ≡ updateOf weights coords m k d (stateIn m k d w u)
+  updated-is a e f =
+      ap (λ (x : State). updateUpTo coords d (sumsIn k d w₂) (countsIn m k u₁) x k) e
+      ∙ ap (λ (x : State). updateUpTo coords d (sumsIn k d w₂) (countsIn m k u₁) (refreshed coords m k d (countsIn m k u₁) x) k) (a .state)
+      ∙ ap (λ (x : List Float). updateUpTo coords d x (countsIn m k u₁) (refreshed coords m k d (countsIn m k u₁) (stateIn m k d w u)) k) (f ∙ a .sums)
+      ∙ ap (λ (x : List ℕ). updateUpTo coords d (sumsUpTo weights coords (stateIn m k d w u .labels) k d m) x (refreshed coords m k d x (stateIn m k d w u)) k) (a .counts)
+
+  pub settle-done : Accumulated weights coords m k d w w₁ u u₁ → stateIn m k d w₂ u₁ ≡ refreshed coords m k d (countsIn m k u₁) (stateIn m k d w₁ u₁)
+      → sumsIn k d w₂ ≡ sumsIn k d w₁ → Updated coords m k d w₂ w₃ u₁ u₃ r → Settled weights coords m k d (stateIn m k d w u) (stateIn m k d w₃ u₃) r
+  settle-done a e f g =
+      let h = updated-is a e f in
+      record { state = g .state ∙ ap (λ (x : Update). x .state) h; doubled = g .doubled ∙ ap (λ (x : Update). x .doubled) h; small = g .small }
