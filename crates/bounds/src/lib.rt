@@ -21,7 +21,7 @@ fn sines(a: f64, p: f64) -> f64
 }
 
 // A lower bound on a cosine after its centre turned by p.
-pub fn shift_lower(l: f64, p: f64) -> f64
+fn shift_lower(l: f64, p: f64) -> f64
     ensures { λ r. ⌜ r ≡ shiftLower l p ⌝ }
 {
     let l = float::clamp(l, -1.0, 1.0);
@@ -33,7 +33,7 @@ pub fn shift_lower(l: f64, p: f64) -> f64
 }
 
 // An upper bound on a cosine after its centre turned by p.
-pub fn shift_upper(u: f64, p: f64) -> f64
+fn shift_upper(u: f64, p: f64) -> f64
     ensures { λ r. ⌜ r ≡ shiftUpper u p ⌝ }
 {
     let u = float::clamp(u, -1.0, 1.0);

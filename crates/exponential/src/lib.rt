@@ -196,7 +196,7 @@ fn all_inside(x: float::Four) -> bool
 }
 
 // float::Four exponentials: zeros where all are below -708, side by side where all are between the borders, else one by one.
-pub fn exp4(x: float::Four) -> float::Four
+fn exp4(x: float::Four) -> float::Four
     ensures { λ r. ⌜ r ≡ exponentials x ⌝ }
 {
     if (x.a < -708.0) & (x.b < -708.0) & (x.c < -708.0) & (x.e < -708.0) {

@@ -19,7 +19,7 @@ pub fn wrapping_mul_u64(a: u64, b: u64) -> u64
 }
 
 // The state moved on.
-pub fn step(state: u64) -> u64
+fn step(state: u64) -> u64
     ensures { λ r. ⌜ r ≡ stepOf state ⌝ }
 {
     std::num::wrapping_add_u64(state, 0x9E37_79B9_7F4A_7C15)

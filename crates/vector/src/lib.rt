@@ -84,7 +84,7 @@ fn accumulate(start: f64, v: &[f64]) -> f64
 }
 
 // to becomes from divided by n.
-pub fn divide(to: &mut [f64], from: &[f64], n: f64)
+fn divide(to: &mut [f64], from: &[f64], n: f64)
     requires { ⌜ Alike (now to) (now from) ⌝ }
     ensures { λ _. ⌜ now (to .exit) ≡ dividedBy n (now (from .entry)) ⌝ }
 {
