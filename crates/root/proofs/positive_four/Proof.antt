@@ -1,6 +1,6 @@
 -- `root::positive_four` meets its contract: as `positive_root`, for all four. Assumes nothing.
 use mathlib.Core.Path.{_≡_, sym, _∙_, subst}
-use Prim.Native.Nat.{ℕ, _+_, _-_, _*_, _/_, _%_, _^_, _≤_}
+use Prim.Native.Nat.{ℕ, _+_, _-_, _*_, _/_, _%_, _^_, _≤_, _<_}
 use native.Mathlib.Omega.{arith}
 use borrow.Author.Needs.{needs}
 use lib.Dec.{T}
@@ -23,6 +23,10 @@ digits {m = m} {e = e} s = paired-word (paired m (e % 2) (s .first) (s .last) (o
 -- and their root
 by-word : {x : Float} {m e r : ℕ} → SplitOf x m e → T (positive x) → T (fits binary64 x) → Nearest (m * 2 ^ (e % 2) % 2 ^ 64 * 2 ^ 52) r → valueOf r (e / 2 + 485) ≡ rootOf x
 by-word {x} {m} {e} {r} s p h n = root-by-word x m e s (in-whole x p h) r n ∙ of-positive x p
+
+-- what a root is composed of
+whole : {x : Float} {m e n r : ℕ} → SplitOf x m e → Nearest n r → (2 ^ 52 ≤ r) × (r < 2 ^ 53) × (e / 2 + 485 < 2046)
+whole s n = (n .first, n .last, omega (arith, s .high))
 
 -- what owning four `f64`s tells: the format holds each
 held : (c : tie.Start) → T (fits binary64 (c .args .x .a)) × T (fits binary64 (c .args .x .b)) × T (fits binary64 (c .args .x .c)) × T (fits binary64 (c .args .x .e))
@@ -63,25 +67,33 @@ add-compose : tie.Need-add-compose
 add-compose c = search needs
 
 compose-requires : tie.Need-compose-requires
-compose-requires c κs = search needs
+compose-requires c κs =
+    let n = c .before in
+    whole (n .before .before .before .before .before .before .before .before .before .before .before .before .before .before .before .split .ensures) (n .near-four .ensures .0)
 
 add-compose-2 : tie.Need-add-compose-2
 add-compose-2 c = search needs
 
 compose-requires-2 : tie.Need-compose-requires-2
-compose-requires-2 c κs = search needs
+compose-requires-2 c κs =
+    let n = c .before .before .before in
+    whole (n .before .before .before .before .before .before .before .before .before .before .before .before .before .before .split2 .ensures) (n .near-four .ensures .1)
 
 add-compose-3 : tie.Need-add-compose-3
 add-compose-3 c = search needs
 
 compose-requires-3 : tie.Need-compose-requires-3
-compose-requires-3 c κs = search needs
+compose-requires-3 c κs =
+    let n = c .before .before .before .before .before in
+    whole (n .before .before .before .before .before .before .before .before .before .before .before .before .before .split3 .ensures) (n .near-four .ensures .2)
 
 add-compose-4 : tie.Need-add-compose-4
 add-compose-4 c = search needs
 
 compose-requires-4 : tie.Need-compose-requires-4
-compose-requires-4 c κs = search (c .before .before .before .before .before .before .before .before .before .before .before .before .before .before .before .before .before .before .before .split4 .ensures .high, needs)
+compose-requires-4 c κs =
+    let n = c .before .before .before .before .before .before .before in
+    whole (n .before .before .before .before .before .before .before .before .before .before .before .before .split4 .ensures) (n .near-four .ensures .3)
 
 returns : tie.Need-returns
 returns c =
