@@ -4,7 +4,6 @@
 use mathlib.Core.Path.{_≡_, refl, ap, sym, _∙_}
 use mathlib.Core.List.{List, _++_}
 use Prim.Native.Nat.{ℕ, zero, suc, _+_, _*_, _-_, _≤_, _<_}
-use native.Mathlib.Nat.{add-mul}
 use native.Mathlib.Omega.{arith}
 use lib.ListN.{length, getD, drop, set, take-append-drop}
 use lib.Ieee.{Float, nan, binary64, add, mul}
@@ -12,7 +11,7 @@ use Rattle.float.specs.Arithmetic.{plusZero}
 use Rattle.float.specs.declared.Four.{Four}
 use Rattle.rows.specs.Rows.{part, putPart, rowOf}
 use Rattle.vector.specs.Vectors.{dotOf}
-use Rattle.vector.specs.Fours.{dotsOf}
+use Rattle.nearest.specs.Nearest.{rowDots}
 use Rattle.rows.proofs.Rows.{row-within, put-more, part-cut}
 use Rattle.softmax.specs.Softmax.{logSumExp, logSumAt, sharesAt, joined, weighed, sharesUpTo, logsUpTo}
 use Rattle.softmax.proofs.Softmax.{shares-length}
@@ -36,27 +35,17 @@ likeness-done m k d w coords i c v base kappa at n b q a f h e =
     rw (base-in, kappa-in, e, part-cut coords (i * d) d, f, row)
 
 -- four of them
-pub four-done : (m k d : ℕ) (w coords : List Float) (i c : ℕ) (f : Four) → c + 4 ≤ k
-    → f
-    ≡ dotsOf (part coords (i * d) (i * d + d - i * d)) (part w (c * d) (c * d + d - c * d)) (part w (c * d + d) (c * d + d + d - (c * d + d)))
-    (part w (c * d + d + d) (c * d + d + d + d - (c * d + d + d))) (part w (c * d + d + d + d) (c * d + d + d + d + d - (c * d + d + d + d)))
+pub four-done : (m k d : ℕ) (w coords : List Float) (i c : ℕ) (f : Four) → c + 4 ≤ k → f ≡ rowDots (part coords (i * d) (i * d + d - i * d)) w d c
     → _≡_ {A = Four} (basedFour w (k * d + k * d + k + c + k) (k * d + k * d + k + c) f)
     (fourLikenesses d (partsIn m k d w .bases) (modelOf (partsIn m k d w)) (rowOf coords d i) c)
 four-done m k d w coords i c f h is =
     let base = k * d + k * d + k + c + k in
     let kappa = k * d + k * d + k + c in
-    let p = c * d in
-    let q = p + d in
-    let r = q + d in
-    let s = r + d in
-    let q' : q ≡ (c + 1) * d = simp add-mul (omega arith) in
-    let r' : r ≡ (c + 2) * d = simp add-mul (omega arith) in
-    let s' : s ≡ (c + 3) * d = simp add-mul (omega arith) in
     let one = likeness-done m k d w coords i in
-    let at-a = one c (f .a) base kappa p (q - p) (omega arith) refl refl (omega arith) (omega arith) (ap (λ (g : Four). g .a) is) in
-    let at-b = one (c + 1) (f .b) (base + 1) (kappa + 1) q (r - q) (omega arith) (omega arith) q' (omega arith) (omega arith) (ap (λ (g : Four). g .b) is) in
-    let at-c = one (c + 2) (f .c) (base + 2) (kappa + 2) r (s - r) (omega arith) (omega arith) r' (omega arith) (omega arith) (ap (λ (g : Four). g .c) is) in
-    let at-e = one (c + 3) (f .e) (base + 3) (kappa + 3) s (s + d - s) (omega arith) (omega arith) s' (omega arith) (omega arith) (ap (λ (g : Four). g .e) is) in
+    let at-a = one c (f .a) base kappa (c * d) d (omega arith) refl refl refl (omega arith) (ap (λ (g : Four). g .a) is) in
+    let at-b = one (c + 1) (f .b) (base + 1) (kappa + 1) ((c + 1) * d) d (omega arith) (omega arith) refl refl (omega arith) (ap (λ (g : Four). g .b) is) in
+    let at-c = one (c + 2) (f .c) (base + 2) (kappa + 2) ((c + 2) * d) d (omega arith) (omega arith) refl refl (omega arith) (ap (λ (g : Four). g .c) is) in
+    let at-e = one (c + 3) (f .e) (base + 3) (kappa + 3) ((c + 3) * d) d (omega arith) (omega arith) refl refl (omega arith) (ap (λ (g : Four). g .e) is) in
     rw (at-a, at-b, at-c, at-e)
 
 module _ (m k d : ℕ) (w₀ coords : List Float) (i : ℕ) where

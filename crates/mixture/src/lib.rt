@@ -154,17 +154,7 @@ fn four_likenesses(
     let kappa = kd + kd + k + c;
     let base = kappa + k;
     let at = i * d;
-    let p = c * d;
-    let q = p + d;
-    let r = q + d;
-    let s = r + d;
-    let f = vector::dot4(
-        &coords[at..at + d],
-        &work[p..q],
-        &work[q..r],
-        &work[r..s],
-        &work[s..s + d],
-    );
+    let f = nearest::row_dots(&coords[at..at + d], work, c, d);
     based(work, base, kappa, f)
 }
 
