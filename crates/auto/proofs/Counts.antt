@@ -17,7 +17,7 @@ use Rattle.lloyd.proofs.Runs.{run-counts}
 use Rattle.lloyd.proofs.Tallies.{begun-most}
 use Rattle.mixture.specs.Fits.{Once, onceOf}
 use Rattle.groups.specs.declared.Settings.{Settings}
-use Rattle.keeper.specs.Keeper.{keepBy, runOf, runsUpTo}
+use Rattle.runs.specs.Runs.{keepBy, runOf, runsUpTo}
 use Rattle.outputs.specs.Outputs.{Outputs}
 use Rattle.choice.specs.Choice.{heldScore}
 use Rattle.auto.specs.Outcome.{tallyBy, lone, score, autoUpTo}

@@ -18,9 +18,10 @@ use Rattle.mixture.specs.Fits.{Once, labelsOf, logwAt, logwOf}
 use Rattle.mixture.specs.Areas.{Area}
 use Rattle.groups.specs.declared.Settings.{Settings}
 use Rattle.mixture.proofs.Regions.{respR, weightsR, directionsR, kappasR, length-in, tabulate-length}
-use Rattle.keeper.specs.Keeper.{runOf, runsUpTo, fitOf}
+use Rattle.runs.specs.Runs.{runOf, runsUpTo, fitOf}
 use Rattle.outputs.specs.Outputs.{Outputs, written, lengthsOf}
-use Rattle.keeper.specs.Halves.{Both, keptPart, keptLoglik, keptEm}
+use Rattle.runs.specs.Halves.{Both, keptEm}
+use Rattle.keeper.specs.Kept.{keptPart, keptLoglik}
 use Rattle.outputs.specs.Fillable.{Fillable}
 use Rattle.keeper.specs.declared.Runs.{Runs}
 use Rattle.outputs.proofs.Kept.{kept-area, fit-em, fit-counts}

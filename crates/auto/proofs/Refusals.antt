@@ -12,7 +12,7 @@ use borrow.Author.Tests.{leb-true}
 use Rattle.limits.specs.Limits.{need, weightOk, coordinateOk, every, sizesOk, roundsOk}
 use Rattle.limits.proofs.Limits.{met, sizes-met}
 use Rattle.outputs.specs.Refusals.{arraysOk}
-use Rattle.keeper.specs.Halves.{Roomy}
+use Rattle.runs.specs.Halves.{Roomy}
 use Rattle.outputs.specs.declared.Lengths.{Lengths}
 use Rattle.outputs.proofs.Refusals.{arrays-met, roomy-by, fillable}
 use Rattle.auto.specs.Refusals.{refusalOf}

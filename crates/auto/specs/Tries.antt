@@ -8,7 +8,7 @@ use lib.Ieee.{Float, lt}
 use Rattle.mixture.specs.Mixture.{Em}
 use Rattle.groups.specs.declared.Settings.{Settings}
 use Rattle.outputs.specs.Outputs.{Outputs, written}
-use Rattle.keeper.specs.Halves.{Roomy}
+use Rattle.runs.specs.Halves.{Roomy}
 use Rattle.outputs.specs.Fillable.{Fillable}
 use Rattle.outputs.specs.declared.Lengths.{Lengths}
 use Rattle.keeper.specs.declared.Runs.{Runs}

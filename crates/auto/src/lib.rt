@@ -78,7 +78,7 @@ fn try_number(
         (arrays (now (labels .exit)) (now (responsibilities .exit)) (now («group_weights» .exit)) (now (directions .exit)) (now (concentrations .exit)) (now (logw .exit))) ⌝ }
 {
     let m = weights.len();
-    let r = keeper::four_runs(work, marks, weights, coords, s, m, k, d);
+    let r = runs::four_runs(work, marks, weights, coords, s, m, k, d);
     let loglik = keeper::kept_loglik(r);
     let kappa = s.kappa;
     let score = choice::score_at(kappa, k, d, loglik, ln_total);

@@ -1,2 +1,1 @@
-pub mod Keeper
-pub mod Halves
+pub mod Kept

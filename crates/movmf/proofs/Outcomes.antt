@@ -7,8 +7,9 @@ use lib.ListN.{length}
 use lib.Ieee.{Float}
 use Rattle.mixture.specs.Mixture.{Em}
 use Rattle.groups.specs.declared.Settings.{Settings}
-use Rattle.keeper.specs.Keeper.{runOf, runsUpTo, fitOf}
-use Rattle.keeper.specs.Halves.{Both, keptLoglik, keptEm}
+use Rattle.runs.specs.Runs.{runOf, runsUpTo, fitOf}
+use Rattle.runs.specs.Halves.{Both, keptEm}
+use Rattle.keeper.specs.Kept.{keptLoglik}
 use Rattle.keeper.specs.declared.Runs.{Runs}
 use Rattle.outputs.specs.Outputs.{Outputs, written, lengthsOf}
 use Rattle.outputs.proofs.Kept.{fit-em, fit-counts}

@@ -9,7 +9,7 @@ use lib.Ieee.{Float}
 use borrow.Author.Tests.{leb-true}
 use Rattle.limits.specs.Limits.{need, weightOk, coordinateOk, every, sizesOk, groupsOk, roundsOk}
 use Rattle.limits.proofs.Limits.{met, sizes-met, groups-met}
-use Rattle.keeper.specs.Halves.{Roomy}
+use Rattle.runs.specs.Halves.{Roomy}
 use Rattle.outputs.specs.Refusals.{arraysOk}
 use Rattle.outputs.specs.declared.Lengths.{Lengths}
 use Rattle.outputs.proofs.Refusals.{Arrays, arrays-met, roomy-by}

@@ -5,7 +5,7 @@ use lib.ListN.{length}
 use lib.Ieee.{Float}
 use Rattle.mixture.specs.Fits.{Once}
 use Rattle.groups.specs.declared.Settings.{Settings}
-use Rattle.keeper.specs.Keeper.{fitOf}
+use Rattle.runs.specs.Runs.{fitOf}
 use Rattle.outputs.specs.Outputs.{Outputs, written, lengthsOf}
 use Rattle.movmf.specs.Refusals.{refusalOf}
 use Rattle.movmf.specs.declared.Fitted.{Fitted}

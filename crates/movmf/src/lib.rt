@@ -93,7 +93,7 @@ pub fn movmf_with(
         return Fitted::Refused(code);
     }
     let m = weights.len();
-    let r = keeper::four_runs(work, marks, weights, coords, s, m, k, d);
+    let r = runs::four_runs(work, marks, weights, coords, s, m, k, d);
     outputs::fill_outputs(
         labels,
         responsibilities,

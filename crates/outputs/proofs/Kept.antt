@@ -14,10 +14,11 @@ use Rattle.limits.specs.Halves.{half, heldAt, freeAt}
 use Rattle.mixture.specs.Fits.{labelsOf, logwOf}
 use Rattle.mixture.specs.Areas.{partsIn, modelOf, emOf, Area}
 use Rattle.groups.specs.declared.Settings.{Settings}
-use Rattle.keeper.specs.Keeper.{runOf, runsUpTo, fitOf}
-use Rattle.keeper.specs.Halves.{Both, keptPart, keptLoglik, keptEm, Halved}
+use Rattle.runs.specs.Runs.{runOf, runsUpTo, fitOf}
+use Rattle.runs.specs.Halves.{Both, keptEm}
+use Rattle.keeper.specs.Kept.{keptPart, keptLoglik, Halved}
 use Rattle.keeper.specs.declared.Runs.{Runs}
-use Rattle.keeper.proofs.Halves.{kept-em, kept-counts}
+use Rattle.runs.proofs.Halves.{kept-em, kept-counts}
 use Rattle.outputs.specs.Outputs.{Outputs, written}
 
 -- ---- the kept part is an area

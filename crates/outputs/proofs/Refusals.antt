@@ -9,8 +9,8 @@ use lib.Dec.{leb}
 use borrow.Author.Tests.{leb-true}
 use Rattle.limits.specs.Limits.{workLength, marksLength}
 use Rattle.limits.proofs.Limits.{both}
-use Rattle.keeper.specs.Halves.{Roomy}
-use Rattle.keeper.proofs.Halves.{halved}
+use Rattle.runs.specs.Halves.{Roomy}
+use Rattle.runs.proofs.Halves.{halved}
 use Rattle.outputs.specs.Refusals.{outputsOk, arraysOk}
 use Rattle.outputs.specs.Fillable.{LeavesFit, GroupsFit, Fillable}
 use Rattle.outputs.specs.declared.Lengths.{Lengths}

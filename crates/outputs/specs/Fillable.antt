@@ -1,6 +1,6 @@
 -- What the functions that fill the outputs ask. No definition of document 01 stands on this file.
 use Prim.Native.Nat.{ℕ, _*_, _≤_, _<_}
-use Rattle.keeper.specs.Halves.{Halved}
+use Rattle.keeper.specs.Kept.{Halved}
 
 -- the outputs are long enough
 pub record LeavesFit (labels responsibilities m k : ℕ) : Type 0 where

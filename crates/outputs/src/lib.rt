@@ -6,7 +6,7 @@ ghost use Prim.Native.Nat.{_*_, _≤_, _<_};
 ghost use lib.ListN.{length, drop};
 ghost use Rattle.mixture.specs.Fits.{labelsOf, lnWeight, logwOf};
 ghost use Rattle.mixture.specs.Areas.{partsIn, modelOf, Area};
-ghost use Rattle.keeper.specs.Halves.{keptEm};
+ghost use Rattle.runs.specs.Halves.{keptEm};
 ghost use Rattle.outputs.specs.Outputs.{Outputs, arrays, written};
 ghost use Rattle.outputs.specs.Refusals.{outputsOk, arraysOk};
 ghost use Rattle.outputs.specs.Fillable.{LeavesFit, GroupsFit, Fillable};

@@ -5,7 +5,7 @@ use Prim.Native.Nat.{ℕ}
 use lib.ListN.{length}
 use Rattle.outputs.specs.Outputs.{Outputs, arrays}
 use Rattle.outputs.specs.Fillable.{Fillable}
-use Rattle.keeper.specs.Keeper.{runOf, runsUpTo}
+use Rattle.runs.specs.Runs.{runOf, runsUpTo}
 use Rattle.auto.proofs.Numbers.{runs-small, fillable-of, tried-kept, tried-left}
 use borrow.Author.Needs.{needs}
 use Rattle.auto.proofs.try_number.Statement.{statement}

@@ -4,7 +4,7 @@ use native.Mathlib.Omega.{arith}
 use lib.ListN.{length}
 use Rattle.limits.specs.Halves.{half}
 use Rattle.limits.proofs.Halves.{held-within, free-within}
-use Rattle.keeper.proofs.Halves.{parts-long, part-kept}
+use Rattle.keeper.proofs.Kept.{parts-long, part-kept}
 use borrow.Author.Needs.{needs}
 use Rattle.keeper.proofs.kept_part.Statement.{statement}
 use Rattle.keeper.proofs.kept_part.Tie as tie

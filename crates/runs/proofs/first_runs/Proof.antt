@@ -3,11 +3,11 @@ use mathlib.Core.Path.{_≡_, refl, _∙_}
 use Prim.Native.Nat.{_-_, _≤_}
 use native.Mathlib.Omega.{arith}
 use lib.ListN.{length}
-use Rattle.keeper.specs.Keeper.{runOf, runsUpTo}
-use Rattle.keeper.specs.Halves.{Roomy, Holds}
-use Rattle.keeper.proofs.Halves.{roomy-of, held-small, addable, first-held, runs-turn, runs-end}
-use Rattle.keeper.proofs.first_runs.Statement.{statement}
-use Rattle.keeper.proofs.first_runs.Tie as tie
+use Rattle.runs.specs.Runs.{runOf, runsUpTo}
+use Rattle.runs.specs.Halves.{Roomy, Holds}
+use Rattle.runs.proofs.Halves.{roomy-of, held-small, addable, first-held, runs-turn, runs-end}
+use Rattle.runs.proofs.first_runs.Statement.{statement}
+use Rattle.runs.proofs.first_runs.Tie as tie
 
 abbrev Inv-loop : tie.InvT-loop
 Inv-loop work₀ marks₀ weights coords s m k d h₀ t₀ work marks h t =

@@ -5,11 +5,11 @@ use native.Mathlib.Omega.{arith}
 use lib.ListN.{length}
 use Rattle.limits.specs.Halves.{half}
 use Rattle.mixture.specs.Areas.{partsIn, RunDone}
-use Rattle.keeper.specs.Keeper.{runOf, settingsOf}
-use Rattle.keeper.proofs.Halves.{runnable, try-done}
+use Rattle.runs.specs.Runs.{runOf, settingsOf}
+use Rattle.runs.proofs.Halves.{runnable, try-done}
 use borrow.Author.Needs.{needs}
-use Rattle.keeper.proofs.run_at.Statement.{statement}
-use Rattle.keeper.proofs.run_at.Tie as tie
+use Rattle.runs.proofs.run_at.Statement.{statement}
+use Rattle.runs.proofs.run_at.Tie as tie
 
 mul-kd : tie.Need-mul-kd
 mul-kd c = search needs

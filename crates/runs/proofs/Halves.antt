@@ -18,10 +18,11 @@ use Rattle.mixture.specs.Fits.{Once}
 use Rattle.mixture.specs.Areas.{partsIn, emOf, Runnable, RunDone}
 use Rattle.mixture.specs.declared.Ran.{Ran}
 use Rattle.groups.specs.declared.Settings.{Settings}
-use Rattle.keeper.specs.Keeper.{keepBy, keep, runOf, runsUpTo}
-use Rattle.keeper.specs.Halves.{emAt, Roomy, Tried, Holds, HeldSmall, Addable, keptBy, keptHeld, Both, keptPart, keptEm, Halved}
-use Rattle.keeper.specs.declared.Held.{Held}
+use Rattle.runs.specs.Runs.{keepBy, keep, runOf, runsUpTo}
+use Rattle.runs.specs.Halves.{emAt, Roomy, Tried, Holds, HeldSmall, Addable, keptBy, keptHeld, Both, keptEm}
+use Rattle.keeper.specs.Kept.{Halved}
+use Rattle.runs.specs.declared.Held.{Held}
 use Rattle.keeper.specs.declared.Runs.{Runs}
 
 -- ---- one run in one half
 pub roomy-of : (w w' u u' x y m k d rounds : ℕ) → w' ≡ w → u' ≡ u → Roomy w u x y m k d rounds → Roomy w' u' x y m k d rounds
@@ -199,17 +200,3 @@ module _ (m k d : ℕ) (w : List Float) (held last : Once) (r : Runs) (b : Both 
 
   pub kept-counts : (r .made ≡ keep held last .made) × (r .saved ≡ keep held last .saved) × (r .doubled ≡ keep held last .doubled)
   kept-counts = keep-made (le (last .em .loglik) (held .em .loglik))
-
--- a half as the code cuts it is as long as it should be, and the kept part of two such is the keeper's
-pub parts-long : (m k d : ℕ) (w : List Float) (a : ℕ) → a + half m k d ≤ length w → half m k d ≤ length (take (a + half m k d - a) (drop a w))
-parts-long m k d w a h =
-    let f : a + half m k d - a ≡ half m k d = omega arith in
-    rw f (omega (arith, length-part w a (half m k d) h))
-
-pub part-kept : (m k d : ℕ) (w q : List Float) (r : Runs) (a b : ℕ) → a ≡ heldAt (r .second) (half m k d) → b ≡ freeAt (r .second) (half m k d)
-    → q ≡ keptPart (take (a + half m k d - a) (drop a w)) (take (b + half m k d - b) (drop b w)) (half m k d) (r .held) (r .last)
-    → q ≡ keptPart (part w (heldAt (r .second) (half m k d)) (half m k d)) (part w (freeAt (r .second) (half m k d)) (half m k d)) (half m k d) (r .held) (r .last)
-part-kept m k d w q r a b ea eb e =
-    let f : a + half m k d - a ≡ half m k d = omega arith in
-    let g : b + half m k d - b ≡ half m k d = omega arith in
-    rw (← ea, ← eb) (e ∙ rw (f, g))

@@ -1,7 +1,7 @@
 -- How two runs lie in the two halves of the lent work array, and what the functions on them ask. No definition of document 01 stands on this file.
 use mathlib.Core.Path.{_≡_}
 use mathlib.Core.List.{List}
-use mathlib.Core.Bool.{Bool, true, false, not, cond}
+use mathlib.Core.Bool.{Bool, true, false, not}
 use Prim.Native.Nat.{ℕ, _+_, _*_, _≤_, _<_}
 use lib.ListN.{take, drop}
 use lib.Ieee.{Float, le}
@@ -11,8 +11,9 @@ use Rattle.mixture.specs.Mixture.{Em}
 use Rattle.mixture.specs.Fits.{Once}
 use Rattle.mixture.specs.Areas.{partsIn, emOf}
 use Rattle.mixture.specs.declared.Ran.{Ran}
-use Rattle.keeper.specs.declared.Held.{Held}
+use Rattle.runs.specs.declared.Held.{Held}
 use Rattle.keeper.specs.declared.Runs.{Runs}
+use Rattle.keeper.specs.Kept.{keptPart, keptLoglik}
 
 -- what the run found whose half starts at place a
 abbrev pub emAt : ℕ → ℕ → ℕ → List Float → ℕ → Float → Em
@@ -90,13 +91,6 @@ pub record Both (held last : Once) (w : List Float) (m k d : ℕ) (r : Runs) : T
   pub saved-small : r .saved ≤ 10485760000
   pub doubled-small : r .doubled ≤ 2560000
 
--- the kept part of two, and its log-likelihood
-abbrev pub keptPart : List Float → List Float → ℕ → Float → Float → List Float
-keptPart held run n heldLoglik runLoglik = cond (le runLoglik heldLoglik) (take n held) (take n run)
-
-abbrev pub keptLoglik : Float → Float → Float
-keptLoglik held run = cond (le run held) held run
-
 -- what the kept one found
 abbrev pub keptEm : ℕ → ℕ → ℕ → List Float → Runs → Em
 keptEm m k d w r =
@@ -104,11 +98,3 @@ keptEm m k d w r =
     (partsIn m k d
     (keptPart (part w (heldAt (r .second) (half m k d)) (half m k d)) (part w (freeAt (r .second) (half m k d)) (half m k d)) (half m k d) (r .held) (r .last)))
     (keptLoglik (r .held) (r .last))
-
--- both halves lie in the work array
-pub record Halved (work m k d : ℕ) : Type 0 where
-  pub m-small : m ≤ 4096
-  pub k-small : k ≤ 64
-  pub mk-small : m * k ≤ 262144
-  pub kd-small : k * d ≤ 16384
-  pub work-long : half m k d + half m k d ≤ work

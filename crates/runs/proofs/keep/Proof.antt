@@ -1,10 +1,10 @@
 -- The sums fit by what is asked, and each return is the definition at the way that the test went. Assumes nothing.
 use mathlib.Core.Path.{ap, sym}
 use mathlib.Core.Bool.{Bool}
-use Rattle.keeper.specs.Halves.{keptBy}
+use Rattle.runs.specs.Halves.{keptBy}
 use borrow.Author.Needs.{needs}
-use Rattle.keeper.proofs.keep.Statement.{statement}
-use Rattle.keeper.proofs.keep.Tie as tie
+use Rattle.runs.proofs.keep.Statement.{statement}
+use Rattle.runs.proofs.keep.Tie as tie
 
 add-made : tie.Need-add-made
 add-made c = search needs

@@ -2,11 +2,11 @@
 use lib.ListN.{length}
 use Rattle.limits.specs.Halves.{half, freeAt}
 use Rattle.limits.proofs.Halves.{free-within}
-use Rattle.keeper.specs.Keeper.{runOf}
-use Rattle.keeper.proofs.Halves.{tried-of}
+use Rattle.runs.specs.Runs.{runOf}
+use Rattle.runs.proofs.Halves.{tried-of}
 use borrow.Author.Needs.{needs}
-use Rattle.keeper.proofs.run_beside.Statement.{statement}
-use Rattle.keeper.proofs.run_beside.Tie as tie
+use Rattle.runs.proofs.run_beside.Statement.{statement}
+use Rattle.runs.proofs.run_beside.Tie as tie
 
 mul-kd : tie.Need-mul-kd
 mul-kd c = search needs

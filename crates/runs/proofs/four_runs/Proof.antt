@@ -2,11 +2,11 @@
 use mathlib.Core.Path.{_∙_}
 use native.Mathlib.Omega.{arith}
 use lib.ListN.{length}
-use Rattle.keeper.specs.Keeper.{runOf, runsUpTo}
-use Rattle.keeper.proofs.Halves.{roomy-of, both-done}
+use Rattle.runs.specs.Runs.{runOf, runsUpTo}
+use Rattle.runs.proofs.Halves.{roomy-of, both-done}
 use borrow.Author.Needs.{needs}
-use Rattle.keeper.proofs.four_runs.Statement.{statement}
-use Rattle.keeper.proofs.four_runs.Tie as tie
+use Rattle.runs.proofs.four_runs.Statement.{statement}
+use Rattle.runs.proofs.four_runs.Tie as tie
 
 first-runs-requires : tie.Need-first-runs-requires
 first-runs-requires c κs = search needs
