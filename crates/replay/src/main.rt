@@ -55,25 +55,29 @@ fn plus(a: usize, b: usize) -> usize {
 }
 
 // Kinds 1 to 6: root, exp, ln, max, clamp, abs.
-fn arithmetic_agrees(kind: u64, text: &[u8]) -> bool {
-    let x = number(text, 0);
+fn arithmetic(kind: u64, x: f64, y: f64, z: f64) -> f64 {
     if kind == 1 {
-        return is_number(root::root(x), text, 1);
+        return root::root(x);
     }
     if kind == 2 {
-        return is_number(exponential::exp(x), text, 1);
+        return exponential::exp(x);
     }
     if kind == 3 {
-        return is_number(logarithm::ln(x), text, 1);
+        return logarithm::ln(x);
     }
-    let y = number(text, 1);
     if kind == 4 {
-        return is_number(float::max(x, y), text, 2);
+        return float::max(x, y);
     }
     if kind == 5 {
-        return is_number(float::clamp(x, y, number(text, 2)), text, 3);
+        return float::clamp(x, y, z);
     }
-    kind == 6 && is_number(float::abs(x), text, 1)
+    float::abs(x)
+}
+
+// The same by the number of words in, after which the answer stands.
+fn arithmetic_agrees(kind: u64, text: &[u8], ins: usize) -> bool {
+    let x = arithmetic(kind, number(text, 0), number(text, 1), number(text, 2));
+    is_number(x, text, ins)
 }
 
 // The 64 draws of a seed, one after the other.
@@ -90,22 +94,29 @@ fn draws_agree(text: &[u8]) -> bool {
     same
 }
 
-// Kinds 7 to 10: a draw, a run of draws, a product modulo 2^64, a restart's seed.
-fn generator_agrees(kind: u64, text: &[u8]) -> bool {
+// Kind 7: a draw, as a whole number and as an f64.
+fn draw_agrees(text: &[u8]) -> bool {
     let a = word(text, 0);
+    (rng::draw_u64(a).out == word(text, 1)) & is_number(rng::draw_f64(a).out, text, 2)
+}
+
+// Kinds 9 and 10: a product modulo 2^64, a restart's seed.
+fn whole(kind: u64, a: u64, b: u64) -> u64 {
+    if kind == 9 {
+        return rng::wrapping_mul_u64(a, b);
+    }
+    rng::restart_seed(a, b)
+}
+
+// Kinds 7 to 10; 8 is a run of draws.
+fn generator_agrees(kind: u64, text: &[u8]) -> bool {
     if kind == 7 {
-        let n = rng::draw_u64(a);
-        let x = rng::draw_f64(a);
-        return n.out == word(text, 1) && is_number(x.out, text, 2);
+        return draw_agrees(text);
     }
     if kind == 8 {
         return draws_agree(text);
     }
-    let b = word(text, 1);
-    if kind == 9 {
-        return rng::wrapping_mul_u64(a, b) == word(text, 2);
-    }
-    kind == 10 && rng::restart_seed(a, b) == word(text, 2)
+    whole(kind, word(text, 0), word(text, 1)) == word(text, 2)
 }
 
 fn least(a: usize, b: usize) -> usize
@@ -127,17 +138,6 @@ fn load(v: &mut [f64], text: &[u8], from: usize, n: usize) -> usize
     m
 }
 
-// Whether v has the patterns of the words from word `from` on.
-fn are_numbers(v: &[f64], text: &[u8], from: usize) -> bool {
-    let mut same = true;
-    let mut j = 0;
-    while j < v.len() {
-        same = same & is_number(v[j], text, plus(from, j));
-        j += 1;
-    }
-    same
-}
-
 // Kind 11, a product: the lengths of two vectors, and the vectors.
 fn dot_agrees(text: &[u8]) -> bool {
     let mut a = [0.0; 256];
@@ -148,19 +148,105 @@ fn dot_agrees(text: &[u8]) -> bool {
     is_number(vector::dot(&a[..n], &b[..m]), text, end)
 }
 
-// Kinds 12, 14 and 15: norm, argmax and argmin of a vector of length n.
+// Kinds 12, 14 and 15: the pattern of the norm, argmax, argmin.
+fn norm_or_place(kind: u64, v: &[f64]) -> u64 {
+    if kind == 12 {
+        return float::bits_of(vector::norm(v));
+    }
+    if kind == 14 {
+        return pick::argmax(v) as u64;
+    }
+    pick::argmin(v) as u64
+}
+
+// The same of a vector of length n.
 fn place_agrees(kind: u64, text: &[u8], n: usize) -> bool {
     let mut space = [0.0; 256];
     let m = load(&mut space, text, 0, n);
-    let v = &space[..m];
-    if kind == 12 {
-        return is_number(vector::norm(v), text, n);
-    }
-    if kind == 14 {
-        return pick::argmax(v) as u64 == word(text, n);
-    }
-    kind == 15 && pick::argmin(v) as u64 == word(text, n)
+    norm_or_place(kind, &space[..m]) == word(text, n)
 }
+
+// ---- what a case says of an output
+
+// The words from word `at` on, or the digest of them at word `at`; and whether all before it agreed.
+struct Place {
+    at: usize,
+    digest: bool,
+    same: bool,
+}
+
+// The place of an answer's words from word `at` on.
+fn place_at(at: usize) -> Place {
+    Place {
+        at,
+        digest: false,
+        same: true,
+    }
+}
+
+// A digest with one word more.
+fn digested(h: u64, w: u64) -> u64 {
+    rng::mix(std::num::wrapping_add_u64(h, w))
+}
+
+// The place after an output of n words with the digest h; `same` says whether its words agree, or its rest where it is
+// compared by its digest.
+fn past(p: Place, n: usize, h: u64, same: bool, text: &[u8]) -> Place {
+    if p.digest {
+        return Place {
+            at: plus(p.at, 1),
+            digest: true,
+            same: p.same & same & (h == word(text, p.at)),
+        };
+    }
+    Place {
+        at: plus(p.at, n),
+        digest: false,
+        same: p.same & same,
+    }
+}
+
+fn mark(x: u32) -> u64 {
+    x as u64
+}
+
+// Compares the first n of v with what p says, and the rest with 7: the place after it.
+fn marks_agree(v: &[u32], n: usize, text: &[u8], p: Place) -> Place {
+    let mut h: u64 = 0;
+    let mut same = true;
+    let mut j = 0;
+    while j < v.len() {
+        if j < n {
+            let w = mark(v[j]);
+            h = digested(h, w);
+            same = same & (p.digest | (w == word(text, plus(p.at, j))));
+        } else {
+            same = same & (v[j] == 7);
+        }
+        j += 1;
+    }
+    past(p, n, h, same, text)
+}
+
+// The same of f64, the rest still 7.5.
+fn rows_agree(v: &[f64], n: usize, text: &[u8], p: Place) -> Place {
+    let mut h: u64 = 0;
+    let mut same = true;
+    let mut j = 0;
+    while j < v.len() {
+        if j < n {
+            let w = float::bits_of(v[j]);
+            h = digested(h, w);
+            same = same & (p.digest | (w == word(text, plus(p.at, j))));
+        } else {
+            same = same & (v[j] == 7.5);
+        }
+        j += 1;
+    }
+    past(p, n, h, same, text)
+}
+
+// ---- vectors
 
 // Whether v's unit vector, made in `to`, has the patterns of the words after v's.
 fn unit_same(to: &mut [f64], v: &[f64], text: &[u8]) -> bool {
@@ -168,7 +254,7 @@ fn unit_same(to: &mut [f64], v: &[f64], text: &[u8]) -> bool {
         return false;
     }
     vector::unit(to, v);
-    are_numbers(to, text, v.len())
+    rows_agree(to, v.len(), text, place_at(v.len())).same
 }
 
 // Kind 13: a vector of length n, divided by its norm.
@@ -213,81 +299,51 @@ fn dimension(n: usize) -> usize
 }
 
 // Kinds 17 to 20: ln_gamma, log_vmf_norm, estimate_kappa, kappa_max.
-fn bessel_agrees(kind: u64, text: &[u8]) -> bool {
+fn concentration(kind: u64, a: u64, b: u64) -> f64 {
     if kind == 17 {
-        return is_number(bessel::ln_gamma(number(text, 0)), text, 1);
+        return bessel::ln_gamma(float::of_bits(a));
     }
     if kind == 18 {
-        let d = dimension(word(text, 0) as usize);
-        return is_number(bessel::log_vmf_norm(d, number(text, 1)), text, 2);
+        return bessel::log_vmf_norm(dimension(a as usize), float::of_bits(b));
     }
     if kind == 19 {
-        let d = dimension(word(text, 1) as usize);
-        return is_number(bessel::estimate_kappa(number(text, 0), d), text, 2);
+        return bessel::estimate_kappa(float::of_bits(a), dimension(b as usize));
     }
-    let d = word(text, 0) as usize;
-    kind == 20 && is_number(bessel::kappa_max(d), text, 1)
+    bessel::kappa_max(a as usize)
 }
+
+fn bessel_agrees(kind: u64, text: &[u8], ins: usize) -> bool {
+    is_number(concentration(kind, word(text, 0), word(text, 1)), text, ins)
+}
+
+// ---- the fits
 
 // The product of two counts.
 fn times(a: usize, b: usize) -> usize {
     a % 65536 * (b % 65536)
 }
 
-fn mark(x: u32) -> u64 {
-    x as u64
-}
-
-// Whether the first n of v are the words from word `from` on, and the rest are still 7.
-fn are_marks(v: &[u32], n: usize, text: &[u8], from: usize) -> bool {
-    let mut same = true;
-    let mut j = 0;
-    while j < v.len() {
-        if j < n {
-            same = same & (mark(v[j]) == word(text, plus(from, j)));
-        } else {
-            same = same & (v[j] == 7);
-        }
-        j += 1;
-    }
-    same
-}
-
-// The same of f64, the rest still 7.5.
-fn are_rows(v: &[f64], n: usize, text: &[u8], from: usize) -> bool {
-    let mut same = true;
-    let mut j = 0;
-    while j < v.len() {
-        if j < n {
-            same = same & is_number(v[j], text, plus(from, j));
-        } else {
-            same = same & (v[j] == 7.5);
-        }
-        j += 1;
-    }
-    same
-}
-
-// Whether r is done and has the words from word `at` on.
-fn done_agrees(r: spherical::Clustered, text: &[u8], at: usize) -> bool {
-    match r {
+// Whether r is done and has the words from word `at` on: the place after them.
+fn done_agrees(r: spherical::Clustered, text: &[u8], at: usize) -> Place {
+    let same = match r {
         spherical::Clustered::Refused(_) => false,
         spherical::Clustered::Done {
             cohesion,
             made,
             saved,
             doubled,
-        } => {
-            is_number(cohesion, text, at)
-                && made == word(text, plus(at, 1))
-                && saved == word(text, plus(at, 2))
-                && doubled == word(text, plus(at, 3))
-        }
+        } => is_number(cohesion, text, at) & counts_agree(made, saved, doubled, text, plus(at, 1)),
+    };
+    Place {
+        at: plus(at, 4),
+        digest: false,
+        same,
     }
 }
 
-// Kind 21 with these leaves; the answer's words are from word `at` on. The outputs are longer than needed, and their rest is
-// looked at too.
+// Kind 21 with these leaves, spherical k-means: m, d, k, rounds, restarts, seed, m weights, m * d coordinates; cohesion, made,
+// saved, doubled, the labels, the directions. The answer's words are from word `at` on. The outputs are longer than needed, and
+// their rest is looked at too.
 fn groups_agree(text: &[u8], weights: &[f64], coords: &[f64], at: usize) -> bool {
     let d = word(text, 1) as usize;
     let k = word(text, 2) as usize;
@@ -308,26 +364,10 @@ fn groups_agree(text: &[u8], weights: &[f64], coords: &[f64], at: usize) -> bool
         &mut work,
         &mut marks,
     );
-    let m = weights.len();
-    done_agrees(r, text, at)
-        && are_marks(&labels, m, text, plus(at, 4))
-        && are_rows(&directions, times(k, d), text, plus(plus(at, 4), m))
+    let p = done_agrees(r, text, at);
+    let q = marks_agree(&labels, weights.len(), text, p);
+    rows_agree(&directions, times(k, d), text, q).same
 }
-
-// Kind 21, spherical k-means: m, d, k, rounds, restarts, seed, m weights, m * d coordinates; cohesion, made, saved, doubled, the
-// labels, the directions.
-fn spherical_agrees(text: &[u8]) -> bool {
-    let m = word(text, 0) as usize;
-    let n = times(m, word(text, 1) as usize);
-    let mut weights = [0.0; 128];
-    let mut coords = [0.0; 1024];
-    let a = load(&mut weights, text, 6, m);
-    let b = load(&mut coords, text, plus(6, m), n);
-    let at = plus(plus(6, m), n);
-    groups_agree(text, &weights[..a], &coords[..b], at)
-}
-
-// ---- the mixture
 
 fn kappa_of(x: u64) -> groups::Kappa {
     if x == 0 {
@@ -337,9 +377,40 @@ fn kappa_of(x: u64) -> groups::Kappa {
     }
 }
 
-// Whether r is done and has the words from word `at` on.
-fn fit_agrees(r: movmf::Fitted, k: usize, text: &[u8], at: usize) -> bool {
-    match r {
+// The settings from word `from` on: rounds, seed, Kappa.
+fn settings(text: &[u8], from: usize) -> groups::Settings {
+    groups::Settings {
+        rounds: word(text, from) as usize,
+        seed: word(text, plus(from, 1)),
+        kappa: kappa_of(word(text, plus(from, 2))),
+    }
+}
+
+// Whether the six outputs of m leaves in k groups are as p says.
+fn outputs_agree(
+    m: usize,
+    k: usize,
+    d: usize,
+    labels: &[u32],
+    responsibilities: &[f64],
+    group_weights: &[f64],
+    directions: &[f64],
+    concentrations: &[f64],
+    logw: &[f64],
+    text: &[u8],
+    p: Place,
+) -> bool {
+    let a = marks_agree(labels, m, text, p);
+    let b = rows_agree(responsibilities, times(m, k), text, a);
+    let c = rows_agree(group_weights, k, text, b);
+    let e = rows_agree(directions, times(k, d), text, c);
+    let f = rows_agree(concentrations, k, text, e);
+    rows_agree(logw, k, text, f).same
+}
+
+// Whether r is done with k groups and has the words from word `at` on: the place after them.
+fn fitted_agrees(r: movmf::Fitted, k: usize, text: &[u8], at: usize, digest: bool) -> Place {
+    let same = match r {
         movmf::Fitted::Refused(_) => false,
         movmf::Fitted::Done {
             k: groups,
@@ -348,97 +419,23 @@ fn fit_agrees(r: movmf::Fitted, k: usize, text: &[u8], at: usize) -> bool {
             saved,
             doubled,
         } => {
-            groups == k
-                && is_number(loglik, text, at)
-                && made == word(text, plus(at, 1))
-                && saved == word(text, plus(at, 2))
-                && doubled == word(text, plus(at, 3))
+            (groups == k)
+                & is_number(loglik, text, at)
+                & counts_agree(made, saved, doubled, text, plus(at, 1))
         }
+    };
+    Place {
+        at: plus(at, 4),
+        digest,
+        same,
     }
 }
 
-// What an output is compared with: its words from word `at` on, or the digest of them at word `at`.
-struct Place {
-    at: usize,
-    digest: bool,
-}
-
-// The place after n words more, or after one digest more.
-fn past(p: Place, n: usize) -> Place {
-    if p.digest {
-        Place {
-            at: plus(p.at, 1),
-            digest: true,
-        }
-    } else {
-        Place {
-            at: plus(p.at, n),
-            digest: false,
-        }
-    }
-}
-
-// A digest with one word more.
-fn digested(h: u64, w: u64) -> u64 {
-    rng::mix(std::num::wrapping_add_u64(h, w))
-}
-
-// Whether the digest of the first n of v is word `at`, and the rest are still 7.
-fn are_marks_by_digest(v: &[u32], n: usize, text: &[u8], at: usize) -> bool {
-    let mut h: u64 = 0;
-    let mut same = true;
-    let mut j = 0;
-    while j < v.len() {
-        if j < n {
-            h = digested(h, mark(v[j]));
-        } else {
-            same = same & (v[j] == 7);
-        }
-        j += 1;
-    }
-    same & (h == word(text, at))
-}
-
-// The same of f64, the rest still 7.5.
-fn are_rows_by_digest(v: &[f64], n: usize, text: &[u8], at: usize) -> bool {
-    let mut h: u64 = 0;
-    let mut same = true;
-    let mut j = 0;
-    while j < v.len() {
-        if j < n {
-            h = digested(h, float::bits_of(v[j]));
-        } else {
-            same = same & (v[j] == 7.5);
-        }
-        j += 1;
-    }
-    same & (h == word(text, at))
-}
-
-fn marks_agree(v: &[u32], n: usize, text: &[u8], p: Place) -> bool {
-    if p.digest {
-        return are_marks_by_digest(v, n, text, p.at);
-    }
-    are_marks(v, n, text, p.at)
-}
-
-fn rows_agree(v: &[f64], n: usize, text: &[u8], p: Place) -> bool {
-    if p.digest {
-        return are_rows_by_digest(v, n, text, p.at);
-    }
-    are_rows(v, n, text, p.at)
-}
-
-// Kinds 22 and 23 with these leaves; the answer's words are from word `at` on. The outputs are longer than needed, and their
-// rest is looked at too.
+// Kinds 22 and 23 with these leaves, the mixture fit: m, d, k, rounds, seed, Kappa, m weights, m * d coordinates; the
+// log-likelihood, made, saved, doubled, and the six outputs, or in kind 23 a digest of each.
 fn mixture_agrees(text: &[u8], weights: &[f64], coords: &[f64], at: usize, digest: bool) -> bool {
     let d = word(text, 1) as usize;
     let k = word(text, 2) as usize;
-    let s = groups::Settings {
-        rounds: word(text, 3) as usize,
-        seed: word(text, 4),
-        kappa: kappa_of(word(text, 5)),
-    };
     let mut labels = [7u32; 132];
     let mut responsibilities = [7.5; 6500];
     let mut group_weights = [7.5; 68];
@@ -452,7 +449,7 @@ fn mixture_agrees(text: &[u8], weights: &[f64], coords: &[f64], at: usize, diges
         coords,
         d,
         k,
-        s,
+        settings(text, 3),
         &mut labels,
         &mut responsibilities,
         &mut group_weights,
@@ -462,55 +459,38 @@ fn mixture_agrees(text: &[u8], weights: &[f64], coords: &[f64], at: usize, diges
         &mut work,
         &mut marks,
     );
-    let m = weights.len();
-    let p1 = Place {
-        at: plus(at, 4),
-        digest,
-    };
-    let p2 = past(p1, m);
-    let p3 = past(p2, times(m, k));
-    let p4 = past(p3, k);
-    let p5 = past(p4, times(k, d));
-    let p6 = past(p5, k);
-    fit_agrees(r, k, text, at)
-        && marks_agree(&labels, m, text, p1)
-        && rows_agree(&responsibilities, times(m, k), text, p2)
-        && rows_agree(&group_weights, k, text, p3)
-        && rows_agree(&directions, times(k, d), text, p4)
-        && rows_agree(&concentrations, k, text, p5)
-        && rows_agree(&logw, k, text, p6)
+    outputs_agree(
+        weights.len(),
+        k,
+        d,
+        &labels,
+        &responsibilities,
+        &group_weights,
+        &directions,
+        &concentrations,
+        &logw,
+        text,
+        fitted_agrees(r, k, text, at, digest),
+    )
 }
 
-// Kinds 22 and 23, the mixture fit: m, d, k, rounds, seed, Kappa, m weights, m * d coordinates; the log-likelihood, made, saved,
-// doubled, and the six outputs, or in kind 23 a digest of each.
-fn mixtures_agree(text: &[u8], digest: bool) -> bool {
-    let m = word(text, 0) as usize;
-    let n = times(m, word(text, 1) as usize);
-    let mut weights = [0.0; 128];
-    let mut coords = [0.0; 1024];
-    let a = load(&mut weights, text, 6, m);
-    let b = load(&mut coords, text, plus(6, m), n);
-    let at = plus(plus(6, m), n);
-    mixture_agrees(text, &weights[..a], &coords[..b], at, digest)
+// Whether made, saved and doubled are the words from word `at` on.
+fn counts_agree(made: u64, saved: u64, doubled: u64, text: &[u8], at: usize) -> bool {
+    (made == word(text, at))
+        & (saved == word(text, plus(at, 1)))
+        & (doubled == word(text, plus(at, 2)))
 }
-
-// ---- the automatic fit
 
 // Whether r is what the words from word `at` on say: the number, 0 where none is kept, its log-likelihood and score, and the
-// counts.
-fn choice_agrees(r: auto::Chosen, text: &[u8], at: usize) -> bool {
-    match r {
+// counts. The place after them.
+fn chosen_agrees(r: auto::Chosen, text: &[u8], at: usize) -> Place {
+    let same = match r {
         auto::Chosen::Refused(_) => false,
         auto::Chosen::Unscored {
             made,
             saved,
             doubled,
-        } => {
-            word(text, at) == 0
-                && made == word(text, plus(at, 3))
-                && saved == word(text, plus(at, 4))
-                && doubled == word(text, plus(at, 5))
-        }
+        } => (word(text, at) == 0) & counts_agree(made, saved, doubled, text, plus(at, 3)),
         auto::Chosen::Done {
             k,
             loglik,
@@ -519,24 +499,29 @@ fn choice_agrees(r: auto::Chosen, text: &[u8], at: usize) -> bool {
             saved,
             doubled,
         } => {
-            k as u64 == word(text, at)
-                && is_number(loglik, text, plus(at, 1))
-                && is_number(score, text, plus(at, 2))
-                && made == word(text, plus(at, 3))
-                && saved == word(text, plus(at, 4))
-                && doubled == word(text, plus(at, 5))
+            (k as u64 == word(text, at))
+                & is_number(loglik, text, plus(at, 1))
+                & is_number(score, text, plus(at, 2))
+                & counts_agree(made, saved, doubled, text, plus(at, 3))
         }
+    };
+    Place {
+        at: plus(at, 6),
+        digest: true,
+        same,
     }
 }
 
-// Kind 24 with these leaves; the answer's words are from word `at` on.
+// The number of leaves, or 0 where no number of groups is kept.
+fn labelled(k: usize, m: usize) -> usize {
+    if k == 0 { 0 } else { m }
+}
+
+// Kind 24 with these leaves, the automatic fit: m, d, k_min, k_max, rounds, seed, Kappa, m weights, m * d coordinates; the number,
+// the log-likelihood, the score, made, saved, doubled, and a digest of each output.
 fn auto_agrees(text: &[u8], weights: &[f64], coords: &[f64], at: usize) -> bool {
     let d = word(text, 1) as usize;
-    let s = groups::Settings {
-        rounds: word(text, 4) as usize,
-        seed: word(text, 5),
-        kappa: kappa_of(word(text, 6)),
-    };
+    let k = word(text, at) as usize;
     let mut labels = [7u32; 132];
     let mut responsibilities = [7.5; 1024];
     let mut group_weights = [7.5; 68];
@@ -551,7 +536,7 @@ fn auto_agrees(text: &[u8], weights: &[f64], coords: &[f64], at: usize) -> bool 
         d,
         word(text, 2) as usize,
         word(text, 3) as usize,
-        s,
+        settings(text, 4),
         &mut labels,
         &mut responsibilities,
         &mut group_weights,
@@ -561,28 +546,46 @@ fn auto_agrees(text: &[u8], weights: &[f64], coords: &[f64], at: usize) -> bool 
         &mut work,
         &mut marks,
     );
-    let k = word(text, at) as usize;
-    let m = if k == 0 { 0 } else { weights.len() };
-    choice_agrees(r, text, at)
-        && are_marks_by_digest(&labels, m, text, plus(at, 6))
-        && are_rows_by_digest(&responsibilities, times(m, k), text, plus(at, 7))
-        && are_rows_by_digest(&group_weights, k, text, plus(at, 8))
-        && are_rows_by_digest(&directions, times(k, d), text, plus(at, 9))
-        && are_rows_by_digest(&concentrations, k, text, plus(at, 10))
-        && are_rows_by_digest(&logw, k, text, plus(at, 11))
+    outputs_agree(
+        labelled(k, weights.len()),
+        k,
+        d,
+        &labels,
+        &responsibilities,
+        &group_weights,
+        &directions,
+        &concentrations,
+        &logw,
+        text,
+        chosen_agrees(r, text, at),
+    )
 }
 
-// Kind 24, the automatic fit: m, d, k_min, k_max, rounds, seed, Kappa, m weights, m * d coordinates; the number, the
-// log-likelihood, the score, made, saved, doubled, and a digest of each output.
-fn choices_agree(text: &[u8]) -> bool {
+// Kinds 21 to 24 with these leaves; the answer's words are from word `at` on.
+fn fit_agrees(kind: u64, text: &[u8], weights: &[f64], coords: &[f64], at: usize) -> bool {
+    if kind == 21 {
+        return groups_agree(text, weights, coords, at);
+    }
+    if kind == 24 {
+        return auto_agrees(text, weights, coords, at);
+    }
+    mixture_agrees(text, weights, coords, at, kind == 23)
+}
+
+// Kinds 21 to 24: word 0 is m and word 1 is d, and m weights and m * d coordinates end the words in.
+fn fits_agree(kind: u64, text: &[u8], ins: usize) -> bool {
     let m = word(text, 0) as usize;
-    let n = times(m, word(text, 1) as usize);
+    let from: usize = if kind == 24 { 7 } else { 6 };
     let mut weights = [0.0; 128];
     let mut coords = [0.0; 1024];
-    let a = load(&mut weights, text, 7, m);
-    let b = load(&mut coords, text, plus(7, m), n);
-    let at = plus(plus(7, m), n);
-    auto_agrees(text, &weights[..a], &coords[..b], at)
+    let a = load(&mut weights, text, from, m);
+    let b = load(
+        &mut coords,
+        text,
+        plus(from, m),
+        times(m, word(text, 1) as usize),
+    );
+    fit_agrees(kind, text, &weights[..a], &coords[..b], ins)
 }
 
 // ---- leaf files
@@ -629,14 +632,14 @@ fn listing_agrees(text: &[u8], ins: usize) -> bool {
     let mut out = [7u8; 4096];
     let n = unpack(&mut file, text, word(text, 0) as usize);
     let end = leaf_file::list_file(&file[..n], &mut out);
-    n as u64 == word(text, 0)
-        && end as u64 == word(text, ins)
-        && are_bytes(&out, end, text, plus(ins, 1))
+    (n as u64 == word(text, 0))
+        & (end as u64 == word(text, ins))
+        & are_bytes(&out, end, text, plus(ins, 1))
 }
 
 fn agrees(kind: u64, text: &[u8], ins: usize) -> bool {
     if kind <= 6 {
-        return arithmetic_agrees(kind, text);
+        return arithmetic_agrees(kind, text, ins);
     }
     if kind <= 10 {
         return generator_agrees(kind, text);
@@ -645,107 +648,64 @@ fn agrees(kind: u64, text: &[u8], ins: usize) -> bool {
         return vector_agrees(kind, text, ins);
     }
     if kind <= 20 {
-        return bessel_agrees(kind, text);
+        return bessel_agrees(kind, text, ins);
     }
-    if kind == 21 {
-        return spherical_agrees(text);
-    }
-    if kind == 22 {
-        return mixtures_agree(text, false);
-    }
-    if kind == 23 {
-        return mixtures_agree(text, true);
-    }
-    if kind == 24 {
-        return choices_agree(text);
+    if kind <= 24 {
+        return fits_agree(kind, text, ins);
     }
     kind == 25 && listing_agrees(text, ins)
 }
 
-fn print_arithmetic(kind: u64) {
-    if kind == 1 {
-        io::write_all(1, b"root: ");
-    } else if kind == 2 {
-        io::write_all(1, b"exp: ");
-    } else if kind == 3 {
-        io::write_all(1, b"ln: ");
-    } else if kind == 4 {
-        io::write_all(1, b"max: ");
-    } else if kind == 5 {
-        io::write_all(1, b"clamp: ");
-    } else {
-        io::write_all(1, b"abs: ");
+fn print_byte(b: u8) {
+    io::write_all(1, &[b]);
+}
+
+// Prints line n of a text, from 0.
+fn print_line(text: &[u8], n: usize) {
+    let mut line = 0;
+    let mut i = 0;
+    while i < text.len() {
+        if text[i] == 10 {
+            line = plus(line, 1);
+        } else if line == n {
+            print_byte(text[i]);
+        }
+        i += 1;
     }
 }
 
-fn print_generator(kind: u64) {
-    if kind == 7 {
-        io::write_all(1, b"next_u64, next_f64: ");
-    } else if kind == 8 {
-        io::write_all(1, b"runs of 64 draws: ");
-    } else if kind == 9 {
-        io::write_all(1, b"wrapping_mul_u64: ");
-    } else {
-        io::write_all(1, b"restart_seed: ");
-    }
-}
-
-fn print_vector(kind: u64) {
-    if kind == 11 {
-        io::write_all(1, b"dot: ");
-    } else if kind == 12 {
-        io::write_all(1, b"norm: ");
-    } else if kind == 13 {
-        io::write_all(1, b"unit: ");
-    } else if kind == 14 {
-        io::write_all(1, b"argmax: ");
-    } else if kind == 15 {
-        io::write_all(1, b"argmin: ");
-    } else {
-        io::write_all(1, b"weighted_pick: ");
-    }
-}
-
-fn print_bessel(kind: u64) {
-    if kind == 17 {
-        io::write_all(1, b"ln_gamma: ");
-    } else if kind == 18 {
-        io::write_all(1, b"log_vmf_norm: ");
-    } else if kind == 19 {
-        io::write_all(1, b"estimate_kappa: ");
-    } else {
-        io::write_all(1, b"kappa_max: ");
-    }
-}
-
-fn print_fit(kind: u64) {
-    if kind == 21 {
-        io::write_all(1, b"spherical_kmeans: ");
-    } else if kind == 22 {
-        io::write_all(1, b"movmf_with: ");
-    } else if kind == 23 {
-        io::write_all(1, b"movmf_with, by digests: ");
-    } else if kind == 24 {
-        io::write_all(1, b"movmf_auto_with: ");
-    } else if kind == 25 {
-        io::write_all(1, b"listings of leaf files: ");
-    } else {
-        io::write_all(1, b"unknown kind: ");
-    }
-}
-
+// Prints what the cases of a kind are of.
 fn print_kind(kind: u64) {
-    if kind <= 6 {
-        print_arithmetic(kind);
-    } else if kind <= 10 {
-        print_generator(kind);
-    } else if kind <= 16 {
-        print_vector(kind);
-    } else if kind <= 20 {
-        print_bessel(kind);
-    } else {
-        print_fit(kind);
-    }
+    let n = if kind <= 25 { kind } else { 0 };
+    print_line(
+        b"unknown kind
+root
+exp
+ln
+max
+clamp
+abs
+next_u64, next_f64
+runs of 64 draws
+wrapping_mul_u64
+restart_seed
+dot
+norm
+unit
+argmax
+argmin
+weighted_pick
+ln_gamma
+log_vmf_norm
+estimate_kappa
+kappa_max
+spherical_kmeans
+movmf_with
+movmf_with, by digests
+movmf_auto_with
+listings of leaf files",
+        n as usize,
+    );
 }
 
 // Reads that many words to the start of `space`; whether they were there and `space` holds them.
@@ -769,6 +729,7 @@ struct Tally {
 
 fn print_tally(kind: u64, agreed: usize, count: usize) {
     print_kind(kind);
+    io::write_all(1, b": ");
     io::print_decimal(1, agreed as u64);
     io::write_all(1, b" of ");
     io::print_decimal(1, count as u64);

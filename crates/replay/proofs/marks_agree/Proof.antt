@@ -1,15 +1,15 @@
--- `replay::are_marks_by_digest` is safe and ends: a turn for each element. Assumes nothing.
+-- `replay::marks_agree` is safe and ends: a turn for each element. Assumes nothing.
 use Prim.Native.Nat.{_≤_, _-_}
 use lib.ListN.{length}
 use borrow.Author.Needs.{needs}
-use Rattle.replay.proofs.are_marks_by_digest.Statement.{statement}
-use Rattle.replay.proofs.are_marks_by_digest.Tie as tie
+use Rattle.replay.proofs.marks_agree.Statement.{statement}
+use Rattle.replay.proofs.marks_agree.Tie as tie
 
 abbrev Inv-loop : tie.InvT-loop
-Inv-loop v n text at h₀ same₀ j₀ h same j = j ≤ length v
+Inv-loop v n text p h₀ same₀ j₀ h same j = j ≤ length v
 
 abbrev μ-loop : tie.MeasureT-loop
-μ-loop v n text at h₀ same₀ j₀ h same j = length v - j
+μ-loop v n text p h₀ same₀ j₀ h same j = length v - j
 
 loop-holds : tie.Need-loop-holds Inv-loop μ-loop
 loop-holds c = search needs
@@ -26,6 +26,12 @@ mark-requires c κs = search needs
 digested-requires : tie.Need-digested-requires Inv-loop μ-loop
 digested-requires c κs = search needs
 
+plus-requires : tie.Need-plus-requires Inv-loop μ-loop
+plus-requires c κs = search needs
+
+word-requires : tie.Need-word-requires Inv-loop μ-loop
+word-requires c κs = search needs
+
 mul-same : tie.Need-mul-same Inv-loop μ-loop
 mul-same c = search needs
 
@@ -41,14 +47,14 @@ loop-less c = search needs
 loop-again : tie.Need-loop-again Inv-loop μ-loop
 loop-again c = search needs
 
-word-requires : tie.Need-word-requires Inv-loop μ-loop
-word-requires c κs = search needs
+past-requires : tie.Need-past-requires Inv-loop μ-loop
+past-requires c κs = search needs
 
 returns : tie.Need-returns Inv-loop μ-loop
 returns c = search needs
 
-pub are-marks-by-digest-spec : {M : Type 1} → statement M
-are-marks-by-digest-spec =
+pub marks-agree-spec : {M : Type 1} → statement M
+marks-agree-spec =
     tie.close
     (tie.spec
     Inv-loop
@@ -58,10 +64,12 @@ are-marks-by-digest-spec =
     shared-slice-read-mark
     mark-requires
     digested-requires
+    plus-requires
+    word-requires
     mul-same
     shared-slice-read-same
     add-j
     loop-less
     loop-again
-    word-requires
+    past-requires
     returns)
