@@ -323,30 +323,99 @@ fn times(a: usize, b: usize) -> usize {
     a % 65536 * (b % 65536)
 }
 
-// Whether r is done and has the words from word `at` on: the place after them.
-fn done_agrees(r: spherical::Clustered, text: &[u8], at: usize) -> Place {
-    let same = match r {
-        spherical::Clustered::Refused(_) => false,
+// Words 1 to 6 of a case: the numbers of the call.
+struct Head {
+    w1: u64,
+    w2: u64,
+    w3: u64,
+    w4: u64,
+    w5: u64,
+    w6: u64,
+}
+
+fn head_of(text: &[u8]) -> Head {
+    Head {
+        w1: word(text, 1),
+        w2: word(text, 2),
+        w3: word(text, 3),
+        w4: word(text, 4),
+        w5: word(text, 5),
+        w6: word(text, 6),
+    }
+}
+
+// What a fit answers: the number of groups, 0 where none is kept or asked; the cohesion or the log-likelihood; the score; the
+// counts.
+struct Answer {
+    done: bool,
+    unscored: bool,
+    k: u64,
+    x: f64,
+    score: f64,
+    made: u64,
+    saved: u64,
+    doubled: u64,
+}
+
+// Whether the answer is done and its counts are the words from word `at` on.
+fn counts_agree(a: Answer, text: &[u8], at: usize) -> bool {
+    a.done
+        & (a.made == word(text, at))
+        & (a.saved == word(text, plus(at, 1)))
+        & (a.doubled == word(text, plus(at, 2)))
+}
+
+// Whether an answer with k groups has the words from word `at` on: the place after them.
+fn answer_agrees(a: Answer, k: u64, text: &[u8], at: usize, digest: bool) -> Place {
+    let same = (a.k == k) & is_number(a.x, text, at) & counts_agree(a, text, plus(at, 1));
+    Place {
+        at: plus(at, 4),
+        digest,
+        same,
+    }
+}
+
+fn clustered(r: spherical::Clustered) -> Answer {
+    match r {
+        spherical::Clustered::Refused(_) => unanswered(0, 0, 0, false),
         spherical::Clustered::Done {
             cohesion,
             made,
             saved,
             doubled,
-        } => is_number(cohesion, text, at) & counts_agree(made, saved, doubled, text, plus(at, 1)),
-    };
-    Place {
-        at: plus(at, 4),
-        digest: false,
-        same,
+        } => Answer {
+            done: true,
+            unscored: false,
+            k: 0,
+            x: cohesion,
+            score: 0.0,
+            made,
+            saved,
+            doubled,
+        },
+    }
+}
+
+// The answer of a fit that keeps no number.
+fn unanswered(made: u64, saved: u64, doubled: u64, done: bool) -> Answer {
+    Answer {
+        done,
+        unscored: true,
+        k: 0,
+        x: 0.0,
+        score: 0.0,
+        made,
+        saved,
+        doubled,
     }
 }
 
 // Kind 21 with these leaves, spherical k-means: m, d, k, rounds, restarts, seed, m weights, m * d coordinates; cohesion, made,
 // saved, doubled, the labels, the directions. The answer's words are from word `at` on. The outputs are longer than needed, and
 // their rest is looked at too.
-fn groups_agree(text: &[u8], weights: &[f64], coords: &[f64], at: usize) -> bool {
-    let d = word(text, 1) as usize;
-    let k = word(text, 2) as usize;
+fn groups_agree(text: &[u8], weights: &[f64], coords: &[f64], h: Head, at: usize) -> bool {
+    let d = h.w1 as usize;
+    let k = h.w2 as usize;
     let mut labels = [7u32; 132];
     let mut directions = [7.5; 640];
     let mut work = [0.0; 12288];
@@ -356,15 +425,15 @@ fn groups_agree(text: &[u8], weights: &[f64], coords: &[f64], at: usize) -> bool
         coords,
         d,
         k,
-        word(text, 3) as usize,
-        word(text, 4) as usize,
-        word(text, 5),
+        h.w3 as usize,
+        h.w4 as usize,
+        h.w5,
         &mut labels,
         &mut directions,
         &mut work,
         &mut marks,
     );
-    let p = done_agrees(r, text, at);
+    let p = answer_agrees(clustered(r), 0, text, at, false);
     let q = marks_agree(&labels, weights.len(), text, p);
     rows_agree(&directions, times(k, d), text, q).same
 }
@@ -377,12 +446,11 @@ fn kappa_of(x: u64) -> groups::Kappa {
     }
 }
 
-// The settings from word `from` on: rounds, seed, Kappa.
-fn settings(text: &[u8], from: usize) -> groups::Settings {
+fn settings(rounds: u64, seed: u64, kappa: u64) -> groups::Settings {
     groups::Settings {
-        rounds: word(text, from) as usize,
-        seed: word(text, plus(from, 1)),
-        kappa: kappa_of(word(text, plus(from, 2))),
+        rounds: rounds as usize,
+        seed,
+        kappa: kappa_of(kappa),
     }
 }
 
@@ -408,34 +476,40 @@ fn outputs_agree(
     rows_agree(logw, k, text, f).same
 }
 
-// Whether r is done with k groups and has the words from word `at` on: the place after them.
-fn fitted_agrees(r: movmf::Fitted, k: usize, text: &[u8], at: usize, digest: bool) -> Place {
-    let same = match r {
-        movmf::Fitted::Refused(_) => false,
+fn fitted(r: movmf::Fitted) -> Answer {
+    match r {
+        movmf::Fitted::Refused(_) => unanswered(0, 0, 0, false),
         movmf::Fitted::Done {
-            k: groups,
+            k,
             loglik,
             made,
             saved,
             doubled,
-        } => {
-            (groups == k)
-                & is_number(loglik, text, at)
-                & counts_agree(made, saved, doubled, text, plus(at, 1))
-        }
-    };
-    Place {
-        at: plus(at, 4),
-        digest,
-        same,
+        } => Answer {
+            done: true,
+            unscored: false,
+            k: k as u64,
+            x: loglik,
+            score: 0.0,
+            made,
+            saved,
+            doubled,
+        },
     }
 }
 
 // Kinds 22 and 23 with these leaves, the mixture fit: m, d, k, rounds, seed, Kappa, m weights, m * d coordinates; the
 // log-likelihood, made, saved, doubled, and the six outputs, or in kind 23 a digest of each.
-fn mixture_agrees(text: &[u8], weights: &[f64], coords: &[f64], at: usize, digest: bool) -> bool {
-    let d = word(text, 1) as usize;
-    let k = word(text, 2) as usize;
+fn mixture_agrees(
+    text: &[u8],
+    weights: &[f64],
+    coords: &[f64],
+    h: Head,
+    at: usize,
+    digest: bool,
+) -> bool {
+    let d = h.w1 as usize;
+    let k = h.w2 as usize;
     let mut labels = [7u32; 132];
     let mut responsibilities = [7.5; 6500];
     let mut group_weights = [7.5; 68];
@@ -449,7 +523,7 @@ fn mixture_agrees(text: &[u8], weights: &[f64], coords: &[f64], at: usize, diges
         coords,
         d,
         k,
-        settings(text, 3),
+        settings(h.w3, h.w4, h.w5),
         &mut labels,
         &mut responsibilities,
         &mut group_weights,
@@ -470,27 +544,18 @@ fn mixture_agrees(text: &[u8], weights: &[f64], coords: &[f64], at: usize, diges
         &concentrations,
         &logw,
         text,
-        fitted_agrees(r, k, text, at, digest),
+        answer_agrees(fitted(r), h.w2, text, at, digest),
     )
 }
 
-// Whether made, saved and doubled are the words from word `at` on.
-fn counts_agree(made: u64, saved: u64, doubled: u64, text: &[u8], at: usize) -> bool {
-    (made == word(text, at))
-        & (saved == word(text, plus(at, 1)))
-        & (doubled == word(text, plus(at, 2)))
-}
-
-// Whether r is what the words from word `at` on say: the number, 0 where none is kept, its log-likelihood and score, and the
-// counts. The place after them.
-fn chosen_agrees(r: auto::Chosen, text: &[u8], at: usize) -> Place {
-    let same = match r {
-        auto::Chosen::Refused(_) => false,
+fn chosen(r: auto::Chosen) -> Answer {
+    match r {
+        auto::Chosen::Refused(_) => unanswered(0, 0, 0, false),
         auto::Chosen::Unscored {
             made,
             saved,
             doubled,
-        } => (word(text, at) == 0) & counts_agree(made, saved, doubled, text, plus(at, 3)),
+        } => unanswered(made, saved, doubled, true),
         auto::Chosen::Done {
             k,
             loglik,
@@ -498,13 +563,27 @@ fn chosen_agrees(r: auto::Chosen, text: &[u8], at: usize) -> Place {
             made,
             saved,
             doubled,
-        } => {
-            (k as u64 == word(text, at))
-                & is_number(loglik, text, plus(at, 1))
-                & is_number(score, text, plus(at, 2))
-                & counts_agree(made, saved, doubled, text, plus(at, 3))
-        }
-    };
+        } => Answer {
+            done: true,
+            unscored: false,
+            k: k as u64,
+            x: loglik,
+            score,
+            made,
+            saved,
+            doubled,
+        },
+    }
+}
+
+// Whether the answer is what the words from word `at` on say: the number, 0 where none is kept, its log-likelihood and score, and
+// the counts. The place after them.
+fn choice_agrees(a: Answer, text: &[u8], at: usize) -> Place {
+    let x = is_number(a.x, text, plus(at, 1));
+    let score = is_number(a.score, text, plus(at, 2));
+    let same = (a.k == word(text, at))
+        & (a.unscored | (x & score))
+        & counts_agree(a, text, plus(at, 3));
     Place {
         at: plus(at, 6),
         digest: true,
@@ -519,8 +598,8 @@ fn labelled(k: usize, m: usize) -> usize {
 
 // Kind 24 with these leaves, the automatic fit: m, d, k_min, k_max, rounds, seed, Kappa, m weights, m * d coordinates; the number,
 // the log-likelihood, the score, made, saved, doubled, and a digest of each output.
-fn auto_agrees(text: &[u8], weights: &[f64], coords: &[f64], at: usize) -> bool {
-    let d = word(text, 1) as usize;
+fn auto_agrees(text: &[u8], weights: &[f64], coords: &[f64], h: Head, at: usize) -> bool {
+    let d = h.w1 as usize;
     let k = word(text, at) as usize;
     let mut labels = [7u32; 132];
     let mut responsibilities = [7.5; 1024];
@@ -534,9 +613,9 @@ fn auto_agrees(text: &[u8], weights: &[f64], coords: &[f64], at: usize) -> bool 
         weights,
         coords,
         d,
-        word(text, 2) as usize,
-        word(text, 3) as usize,
-        settings(text, 4),
+        h.w2 as usize,
+        h.w3 as usize,
+        settings(h.w4, h.w5, h.w6),
         &mut labels,
         &mut responsibilities,
         &mut group_weights,
@@ -557,19 +636,19 @@ fn auto_agrees(text: &[u8], weights: &[f64], coords: &[f64], at: usize) -> bool 
         &concentrations,
         &logw,
         text,
-        chosen_agrees(r, text, at),
+        choice_agrees(chosen(r), text, at),
     )
 }
 
 // Kinds 21 to 24 with these leaves; the answer's words are from word `at` on.
 fn fit_agrees(kind: u64, text: &[u8], weights: &[f64], coords: &[f64], at: usize) -> bool {
     if kind == 21 {
-        return groups_agree(text, weights, coords, at);
+        return groups_agree(text, weights, coords, head_of(text), at);
     }
     if kind == 24 {
-        return auto_agrees(text, weights, coords, at);
+        return auto_agrees(text, weights, coords, head_of(text), at);
     }
-    mixture_agrees(text, weights, coords, at, kind == 23)
+    mixture_agrees(text, weights, coords, head_of(text), at, kind == 23)
 }
 
 // Kinds 21 to 24: word 0 is m and word 1 is d, and m weights and m * d coordinates end the words in.
@@ -626,15 +705,18 @@ fn are_bytes(v: &[u8; 4096], n: usize, text: &[u8], from: usize) -> bool {
     same
 }
 
+// Whether a file's listing is what the words from word `at` on say, and the rest is still 7.
+fn listing_is(file: &[u8], text: &[u8], at: usize) -> bool {
+    let mut out = [7u8; 4096];
+    let end = leaf_file::list_file(file, &mut out);
+    (end as u64 == word(text, at)) & are_bytes(&out, end, text, plus(at, 1))
+}
+
 // Kind 25, a leaf file's listing: the number of bytes and the bytes, in `ins` words; the number of the text's bytes and the text.
 fn listing_agrees(text: &[u8], ins: usize) -> bool {
     let mut file = [0u8; 16384];
-    let mut out = [7u8; 4096];
     let n = unpack(&mut file, text, word(text, 0) as usize);
-    let end = leaf_file::list_file(&file[..n], &mut out);
-    (n as u64 == word(text, 0))
-        & (end as u64 == word(text, ins))
-        & are_bytes(&out, end, text, plus(ins, 1))
+    (n as u64 == word(text, 0)) & listing_is(&file[..n], text, ins)
 }
 
 fn agrees(kind: u64, text: &[u8], ins: usize) -> bool {
@@ -710,14 +792,9 @@ listings of leaf files",
 
 // Reads that many words to the start of `space`; whether they were there and `space` holds them.
 fn read_words(space: &mut [u8], words: usize) -> bool {
-    let bytes = words % 65536 * 17;
-    if words >= 65536 {
-        return false;
-    }
-    if bytes > space.len() {
-        return false;
-    }
-    io::read_full(0, &mut space[..bytes]) == bytes
+    let want = words % 65536 * 17;
+    let bytes = least(want, space.len());
+    (io::read_full(0, &mut space[..bytes]) == want) & (words < 65536)
 }
 
 // How many cases of a kind agreed so far, and of how many.
@@ -751,13 +828,36 @@ fn tally_for(kind: u64, t: Tally) -> Tally {
     }
 }
 
+// A block's kind, the numbers of words in and out of a case, and the number of cases.
+struct Block {
+    kind: u64,
+    ins: usize,
+    outs: usize,
+    count: usize,
+}
+
+fn only(there: bool, w: u64) -> u64 {
+    if there { w } else { 0 }
+}
+
+// The block that four words say; of kind 0 and without cases where they are not there.
+fn block_of(text: &[u8], there: bool) -> Block {
+    Block {
+        kind: only(there, word(text, 0)),
+        ins: word(text, 1) as usize,
+        outs: word(text, 2) as usize,
+        count: only(there, word(text, 3)) as usize,
+    }
+}
+
 // How many of the next cases agree.
 fn run_cases(space: &mut [u8], kind: u64, ins: usize, outs: usize, count: usize) -> usize {
     let width = plus(ins, outs);
     let mut agreed: usize = 0;
     let mut i = 0;
     while i < count {
-        let same = read_words(space, width) && agrees(kind, space, ins);
+        let there = read_words(space, width);
+        let same = there & agrees(kind, space, ins);
         agreed = plus(agreed, same as usize);
         i += 1;
     }
@@ -766,23 +866,14 @@ fn run_cases(space: &mut [u8], kind: u64, ins: usize, outs: usize, count: usize)
 
 // Runs the next block; kind 0 where there is none.
 fn run_block(space: &mut [u8], t: Tally) -> Tally {
-    if !read_words(space, 4) {
-        return tally_for(0, t);
-    }
-    let kind = word(space, 0);
-    let count = word(space, 3) as usize;
-    let old = tally_for(kind, t);
-    let agreed = run_cases(
-        space,
-        kind,
-        word(space, 1) as usize,
-        word(space, 2) as usize,
-        count,
-    );
+    let there = read_words(space, 4);
+    let b = block_of(space, there);
+    let old = tally_for(b.kind, t);
+    let agreed = run_cases(space, b.kind, b.ins, b.outs, b.count);
     Tally {
-        kind,
+        kind: b.kind,
         agreed: plus(old.agreed, agreed),
-        count: plus(old.count, count),
+        count: plus(old.count, b.count),
     }
 }
 
