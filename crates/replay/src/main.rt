@@ -138,34 +138,6 @@ fn load(v: &mut [f64], text: &[u8], from: usize, n: usize) -> usize
     m
 }
 
-// Kind 11, a product: the lengths of two vectors, and the vectors.
-fn dot_agrees(text: &[u8]) -> bool {
-    let mut a = [0.0; 256];
-    let mut b = [0.0; 256];
-    let n = load(&mut a, text, 2, word(text, 0) as usize);
-    let m = load(&mut b, text, plus(2, n), word(text, 1) as usize);
-    let end = plus(plus(2, n), m);
-    is_number(vector::dot(&a[..n], &b[..m]), text, end)
-}
-
-// Kinds 12, 14 and 15: the pattern of the norm, argmax, argmin.
-fn norm_or_place(kind: u64, v: &[f64]) -> u64 {
-    if kind == 12 {
-        return float::bits_of(vector::norm(v));
-    }
-    if kind == 14 {
-        return pick::argmax(v) as u64;
-    }
-    pick::argmin(v) as u64
-}
-
-// The same of a vector of length n.
-fn place_agrees(kind: u64, text: &[u8], n: usize) -> bool {
-    let mut space = [0.0; 256];
-    let m = load(&mut space, text, 0, n);
-    norm_or_place(kind, &space[..m]) == word(text, n)
-}
-
 // ---- what a case says of an output
 
 // The words from word `at` on, or the digest of them at word `at`; and whether all before it agreed.
@@ -257,35 +229,65 @@ fn unit_same(to: &mut [f64], v: &[f64], text: &[u8]) -> bool {
     rows_agree(to, v.len(), text, place_at(v.len())).same
 }
 
-// Kind 13: a vector of length n, divided by its norm.
-fn unit_agrees(text: &[u8], n: usize) -> bool {
-    let mut v = [0.0; 256];
-    let mut to = [0.0; 256];
-    let a = load(&mut v, text, 0, n);
-    let b = load(&mut to, text, 0, n);
-    unit_same(&mut to[..b], &v[..a], text)
+// Whether the pick among the weights v gives the place in word `at` and leaves the state in the next; word 0 is the state.
+fn pick_same(v: &[f64], text: &[u8], at: usize) -> bool {
+    let p = pick::weighted_pick(v, word(text, 0));
+    (p.index as u64 == word(text, at)) & (p.state == word(text, plus(at, 1)))
 }
 
-// Kind 16, a pick: the generator's state and the n weights; the place and the next state.
-fn pick_agrees(text: &[u8], n: usize) -> bool {
-    let mut space = [0.0; 256];
-    let m = load(&mut space, text, 1, n);
-    let p = pick::weighted_pick(&space[..m], word(text, 0));
-    p.index as u64 == word(text, plus(1, m)) && p.state == word(text, plus(2, m))
-}
-
-// Kinds 11 to 16, by the number of words in.
-fn vector_agrees(kind: u64, text: &[u8], ins: usize) -> bool {
+// Kinds 11, 12, 14 and 15: the pattern of a product, the pattern of a norm, argmax, argmin.
+fn vector_value(kind: u64, v: &[f64], w: &[f64]) -> u64 {
     if kind == 11 {
-        return dot_agrees(text);
+        return float::bits_of(vector::dot(v, w));
     }
+    if kind == 12 {
+        return float::bits_of(vector::norm(v));
+    }
+    if kind == 14 {
+        return pick::argmax(v) as u64;
+    }
+    pick::argmin(v) as u64
+}
+
+// Kinds 11 to 16 with these vectors; the answer is at word `at`.
+fn vectors_agree(kind: u64, v: &[f64], w: &mut [f64], text: &[u8], at: usize) -> bool {
     if kind == 13 {
-        return unit_agrees(text, ins);
+        return unit_same(w, v, text);
     }
     if kind == 16 {
-        return ins >= 1 && pick_agrees(text, ins - 1);
+        return pick_same(v, text, at);
     }
-    place_agrees(kind, text, ins)
+    vector_value(kind, v, w) == word(text, at)
+}
+
+// The same with the n words from word `from` on and the m words from word `then` on.
+fn loaded_agree(
+    kind: u64,
+    text: &[u8],
+    from: usize,
+    n: usize,
+    then: usize,
+    m: usize,
+    at: usize,
+) -> bool {
+    let mut v = [0.0; 256];
+    let mut w = [0.0; 256];
+    let a = load(&mut v, text, from, n);
+    let b = load(&mut w, text, then, m);
+    vectors_agree(kind, &v[..a], &mut w[..b], text, at)
+}
+
+// Kinds 11 to 16: a product, two lengths and the vectors; and of one vector norm, unit, argmax, argmin and a pick, before whose
+// weights the generator's state stands.
+fn vector_agrees(kind: u64, text: &[u8], ins: usize) -> bool {
+    if kind == 11 {
+        let n = word(text, 0) as usize;
+        return loaded_agree(kind, text, 2, n, plus(2, n), word(text, 1) as usize, ins);
+    }
+    if kind == 16 {
+        return ins >= 1 && loaded_agree(kind, text, 1, ins - 1, 1, 0, ins);
+    }
+    loaded_agree(kind, text, 0, ins, 0, ins, ins)
 }
 
 // A dimension from 1 to 256, the nearest to n.
@@ -642,13 +644,14 @@ fn auto_agrees(text: &[u8], weights: &[f64], coords: &[f64], h: Head, at: usize)
 
 // Kinds 21 to 24 with these leaves; the answer's words are from word `at` on.
 fn fit_agrees(kind: u64, text: &[u8], weights: &[f64], coords: &[f64], at: usize) -> bool {
+    let h = head_of(text);
     if kind == 21 {
-        return groups_agree(text, weights, coords, head_of(text), at);
+        return groups_agree(text, weights, coords, h, at);
     }
     if kind == 24 {
-        return auto_agrees(text, weights, coords, head_of(text), at);
+        return auto_agrees(text, weights, coords, h, at);
     }
-    mixture_agrees(text, weights, coords, head_of(text), at, kind == 23)
+    mixture_agrees(text, weights, coords, h, at, kind == 23)
 }
 
 // Kinds 21 to 24: word 0 is m and word 1 is d, and m weights and m * d coordinates end the words in.
