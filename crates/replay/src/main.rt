@@ -161,20 +161,39 @@ fn digested(h: u64, w: u64) -> u64 {
     rng::mix(std::num::wrapping_add_u64(h, w))
 }
 
-// The place after an output of n words with the digest h; `same` says whether its words agree, or its rest where it is
-// compared by its digest.
-fn past(p: Place, n: usize, h: u64, same: bool, text: &[u8]) -> Place {
+// What is seen of an output so far: the digest of its words, and whether it agrees.
+struct Seen {
+    h: u64,
+    same: bool,
+}
+
+// With word j of it, which is w: of the first n it is as p says, and of the rest it is `rest`.
+fn see(s: Seen, w: u64, j: usize, n: usize, rest: u64, text: &[u8], p: Place) -> Seen {
+    if j < n {
+        return Seen {
+            h: digested(s.h, w),
+            same: s.same & (p.digest | (w == word(text, plus(p.at, j)))),
+        };
+    }
+    Seen {
+        h: s.h,
+        same: s.same & (w == rest),
+    }
+}
+
+// The place after an output of n words.
+fn past(p: Place, n: usize, s: Seen, text: &[u8]) -> Place {
     if p.digest {
         return Place {
             at: plus(p.at, 1),
             digest: true,
-            same: p.same & same & (h == word(text, p.at)),
+            same: p.same & s.same & (s.h == word(text, p.at)),
         };
     }
     Place {
         at: plus(p.at, n),
         digest: false,
-        same: p.same & same,
+        same: p.same & s.same,
     }
 }
 
@@ -184,38 +203,32 @@ fn mark(x: u32) -> u64 {
 
 // Compares the first n of v with what p says, and the rest with 7: the place after it.
 fn marks_agree(v: &[u32], n: usize, text: &[u8], p: Place) -> Place {
-    let mut h: u64 = 0;
-    let mut same = true;
+    let mut s = Seen { h: 0, same: true };
     let mut j = 0;
     while j < v.len() {
-        if j < n {
-            let w = mark(v[j]);
-            h = digested(h, w);
-            same = same & (p.digest | (w == word(text, plus(p.at, j))));
-        } else {
-            same = same & (v[j] == 7);
-        }
+        s = see(s, mark(v[j]), j, n, 7, text, p);
         j += 1;
     }
-    past(p, n, h, same, text)
+    past(p, n, s, text)
 }
 
 // The same of f64, the rest still 7.5.
 fn rows_agree(v: &[f64], n: usize, text: &[u8], p: Place) -> Place {
-    let mut h: u64 = 0;
-    let mut same = true;
+    let mut s = Seen { h: 0, same: true };
     let mut j = 0;
     while j < v.len() {
-        if j < n {
-            let w = float::bits_of(v[j]);
-            h = digested(h, w);
-            same = same & (p.digest | (w == word(text, plus(p.at, j))));
-        } else {
-            same = same & (v[j] == 7.5);
-        }
+        s = see(
+            s,
+            float::bits_of(v[j]),
+            j,
+            n,
+            0x401E_0000_0000_0000,
+            text,
+            p,
+        );
         j += 1;
     }
-    past(p, n, h, same, text)
+    past(p, n, s, text)
 }
 
 // ---- vectors
@@ -535,6 +548,7 @@ fn mixture_agrees(
         &mut work,
         &mut marks,
     );
+    let p = answer_agrees(fitted(r), h.w2, text, at, digest);
     outputs_agree(
         weights.len(),
         k,
@@ -546,7 +560,7 @@ fn mixture_agrees(
         &concentrations,
         &logw,
         text,
-        answer_agrees(fitted(r), h.w2, text, at, digest),
+        p,
     )
 }
 
@@ -627,8 +641,10 @@ fn auto_agrees(text: &[u8], weights: &[f64], coords: &[f64], h: Head, at: usize)
         &mut work,
         &mut marks,
     );
+    let m = labelled(k, weights.len());
+    let p = choice_agrees(chosen(r), text, at);
     outputs_agree(
-        labelled(k, weights.len()),
+        m,
         k,
         d,
         &labels,
@@ -638,7 +654,7 @@ fn auto_agrees(text: &[u8], weights: &[f64], coords: &[f64], h: Head, at: usize)
         &concentrations,
         &logw,
         text,
-        choice_agrees(chosen(r), text, at),
+        p,
     )
 }
 

@@ -6,10 +6,10 @@ use Rattle.replay.proofs.rows_agree.Statement.{statement}
 use Rattle.replay.proofs.rows_agree.Tie as tie
 
 abbrev Inv-loop : tie.InvT-loop
-Inv-loop v n text p h₀ same₀ j₀ h same j = j ≤ length v
+Inv-loop v n text p s₀ j₀ s j = j ≤ length v
 
 abbrev μ-loop : tie.MeasureT-loop
-μ-loop v n text p h₀ same₀ j₀ h same j = length v - j
+μ-loop v n text p s₀ j₀ s j = length v - j
 
 loop-holds : tie.Need-loop-holds Inv-loop μ-loop
 loop-holds c = search needs
@@ -23,20 +23,8 @@ shared-slice-read-bits-of c = search needs
 bits-of-requires : tie.Need-bits-of-requires Inv-loop μ-loop
 bits-of-requires c κs = search needs
 
-digested-requires : tie.Need-digested-requires Inv-loop μ-loop
-digested-requires c κs = search needs
-
-plus-requires : tie.Need-plus-requires Inv-loop μ-loop
-plus-requires c κs = search needs
-
-word-requires : tie.Need-word-requires Inv-loop μ-loop
-word-requires c κs = search needs
-
-mul-same : tie.Need-mul-same Inv-loop μ-loop
-mul-same c = search needs
-
-shared-slice-read-same : tie.Need-shared-slice-read-same Inv-loop μ-loop
-shared-slice-read-same c = search needs
+see-requires : tie.Need-see-requires Inv-loop μ-loop
+see-requires c κs = search needs
 
 add-j : tie.Need-add-j Inv-loop μ-loop
 add-j c = search needs
@@ -63,11 +51,7 @@ rows-agree-spec =
     mul-bits-of
     shared-slice-read-bits-of
     bits-of-requires
-    digested-requires
-    plus-requires
-    word-requires
-    mul-same
-    shared-slice-read-same
+    see-requires
     add-j
     loop-less
     loop-again
