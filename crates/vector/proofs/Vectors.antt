@@ -63,22 +63,17 @@ dot-comm s [] b = sym (dot-nil s b)
 dot-comm s (x ∷ a) [] = refl
 dot-comm s (x ∷ a) (y ∷ b) = rw (times-comm x y) (dot-comm (add binary64 s (mul binary64 y x)) a b)
 
--- a list divided by n
-module _ (n : Float) (l from : List Float) (j : ℕ) where
-  pub divide-turn : j < length l → j < length from
-      → take (j + 1) (set l j (div binary64 (getD from j nan) n)) ++ dividedBy n (drop (j + 1) from) ≡ take j l ++ dividedBy n (drop j from)
-  divide-turn hl hf = rw (add-one, take-suc-set, drop-cons from j nan, append-assoc)
-
-  pub divide-end : length l ≤ j → length from ≤ j → take j l ++ dividedBy n (drop j from) ≡ l
-  divide-end hl hf = rw (drop-of-length-le from hf, take-all, append-nil)
-
 -- a list divided by n in place
-pub divide-by-turn : (n : Float) (l : List Float) (j : ℕ) → j < length l
-    → take (j + 1) (set l j (div binary64 (getD l j nan) n)) ++ dividedBy n (drop (j + 1) (set l j (div binary64 (getD l j nan) n)))
-    ≡ take j l ++ dividedBy n (drop j l)
-divide-by-turn n l j h =
-    let g : j < suc j = omega arith in
-    rw (add-one, take-suc-set, drop-set-lt, drop-cons l j nan, append-assoc)
+module _ (n : Float) (l : List Float) (j : ℕ) where
+  pub divide-by-turn : j < length l
+      → take (j + 1) (set l j (div binary64 (getD l j nan) n)) ++ dividedBy n (drop (j + 1) (set l j (div binary64 (getD l j nan) n)))
+      ≡ take j l ++ dividedBy n (drop j l)
+  divide-by-turn h =
+      let g : j < suc j = omega arith in
+      rw (add-one, take-suc-set, drop-set-lt, drop-cons l j nan, append-assoc)
+
+  pub divide-by-end : length l ≤ j → take j l ++ dividedBy n (drop j l) ≡ l
+  divide-by-end h = rw (drop-of-length-le l h, take-all, append-nil)
 
 pub divide-length : (n : Float) (l : List Float) → length (dividedBy n l) ≡ length l
 divide-length n [] = refl

@@ -83,18 +83,6 @@ fn accumulate(start: f64, v: &[f64]) -> f64
     s
 }
 
-// to becomes from divided by n.
-fn divide(to: &mut [f64], from: &[f64], n: f64)
-    requires { ⌜ Alike (now to) (now from) ⌝ }
-    ensures { λ _. ⌜ now (to .exit) ≡ dividedBy n (now (from .entry)) ⌝ }
-{
-    let mut j = 0;
-    while j < from.len() {
-        to[j] = from[j] / n;
-        j += 1;
-    }
-}
-
 // Every element is divided by n.
 pub fn divide_by(row: &mut [f64], n: f64)
     ensures { λ _. ⌜ now (row .exit) ≡ dividedBy n (now (row .entry)) ⌝ }
@@ -112,10 +100,9 @@ pub fn unit(to: &mut [f64], from: &[f64])
     ensures { λ _. ⌜ now (to .exit) ≡ unitVector (now (from .entry)) ⌝ }
 {
     let n = norm(from);
+    rows::copy(to, from);
     if 0.0 < n {
-        divide(to, from, n);
-    } else {
-        rows::copy(to, from);
+        divide_by(to, n);
     }
 }
 

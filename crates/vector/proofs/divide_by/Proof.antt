@@ -7,7 +7,7 @@ use native.Mathlib.Omega.{arith}
 use borrow.Author.Needs.{needs}
 use lib.ListN.{length, take, drop, length-set}
 use Rattle.vector.specs.Vectors.{dividedBy}
-use Rattle.vector.proofs.Vectors.{divide-by-turn, divide-end}
+use Rattle.vector.proofs.Vectors.{divide-by-turn, divide-by-end}
 use Rattle.vector.proofs.divide_by.Statement.{statement}
 use Rattle.vector.proofs.divide_by.Tie as tie
 
@@ -50,7 +50,7 @@ same-length c = search needs
 returns : tie.Need-returns Inv-loop μ-loop
 returns c =
     let l = c .before .loop in
-    sym (divide-end (c .before .before .args .n) (l .row) (l .row) (l .j) (omega arith) (omega arith)) ∙ l .inv .2
+    sym (divide-by-end (c .before .before .args .n) (l .row) (l .j) (omega arith)) ∙ l .inv .2
 
 pub divide-by-spec : {M : Type 1} → statement M
 divide-by-spec =

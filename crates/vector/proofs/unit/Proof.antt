@@ -1,6 +1,6 @@
--- `vector::unit` meets its contract: a norm above 0 divides, any other leaves the vector, by what `norm`, `divide` and `copy` ensure. Each return is a law over
--- plain values. Assumes nothing.
-use mathlib.Core.Path.{_≡_}
+-- `vector::unit` meets its contract: the vector is copied, and a norm above 0 divides the copy, by what `norm`, `copy` and `divide_by` ensure. Each return is a law
+-- over plain values. Assumes nothing.
+use mathlib.Core.Path.{_≡_, ap, _∙_}
 use mathlib.Core.List.{List}
 use mathlib.Core.Bool.{true, false}
 use borrow.Author.Needs.{needs}
@@ -10,23 +10,23 @@ use Rattle.vector.specs.Vectors.{normOf, dividedBy, unitVector}
 use Rattle.vector.proofs.unit.Statement.{statement}
 use Rattle.vector.proofs.unit.Tie as tie
 
-module _ (v to : List Float) (n : Float) (norm : n ≡ normOf v) where
-  divided : lt plusZero n ≡ true → to ≡ dividedBy n v → to ≡ unitVector v
+module _ (v w to : List Float) (n : Float) (norm : n ≡ normOf v) (copy : w ≡ v) where
+  divided : lt plusZero n ≡ true → to ≡ dividedBy n w → to ≡ unitVector v
   unfolding unitVector
-  divided t e = rw (← norm, t) e
+  divided t e = rw (← norm, t) (e ∙ ap (dividedBy n) copy)
 
-  kept : lt plusZero n ≡ false → to ≡ v → to ≡ unitVector v
+  kept : lt plusZero n ≡ false → w ≡ unitVector v
   unfolding unitVector
-  kept t e = rw (← norm, t) e
+  kept t = rw (← norm, t) copy
 
 norm-requires : tie.Need-norm-requires
 norm-requires c κs = search needs
 
-divide-requires : tie.Need-divide-requires
-divide-requires c κs = search needs
-
 copy-requires : tie.Need-copy-requires
 copy-requires c κs = search needs
+
+divide-by-requires : tie.Need-divide-by-requires
+divide-by-requires c κs = search needs
 
 same-length : tie.Need-same-length
 same-length c = search needs
@@ -36,8 +36,9 @@ unfolding ofBits
 returns c =
     let d = c .before .before in
     let t = d .before .before in
-    let m = t .before in
-    divided (m .before .before .before .args .from .now) (d .divide .last .0) (m .norm .result) (m .norm .ensures) (t .if1 .taken) (d .divide .ensures)
+    let k = t .before .before .before in
+    let m = k .before .before in
+    divided (m .before .before .before .args .from .now) (k .copy .last .0) (d .divide-by .last .0) (m .norm .result) (m .norm .ensures) (k .copy .ensures) (t .if1 .taken) (d .divide-by .ensures)
 
 same-length-2 : tie.Need-same-length-2
 same-length-2 c = search needs
@@ -45,18 +46,18 @@ same-length-2 c = search needs
 returns-2 : tie.Need-returns-2
 unfolding ofBits
 returns-2 c =
-    let d = c .before .before in
-    let t = d .before .before in
-    let m = t .before in
-    kept (m .before .before .before .args .from .now) (d .copy .last .0) (m .norm .result) (m .norm .ensures) (t .if1 .left) (d .copy .ensures)
+    let k = c .before .before .before in
+    let m = k .before .before in
+    let v = m .before .before .before .args .from .now in
+    kept v (k .copy .last .0) v (m .norm .result) (m .norm .ensures) (k .copy .ensures) (c .if1 .left)
 
 pub unit-spec : {M : Type 1} → statement M
 unit-spec =
     tie.close
     (tie.spec
     norm-requires
-    divide-requires
     copy-requires
+    divide-by-requires
     same-length
     returns
     same-length-2
