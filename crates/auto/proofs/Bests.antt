@@ -12,11 +12,12 @@ use Rattle.mixture.specs.Fits.{Once}
 use Rattle.groups.specs.declared.Settings.{Settings}
 use Rattle.outputs.specs.Outputs.{Outputs, written}
 use Rattle.choice.specs.Choice.{heldScore, chooseBy, choose, chosen, BestOf}
-use Rattle.auto.specs.Outcome.{Auto, tallyBy, outputsBy, answerBy, lone, score, autoUpTo, ended}
+use Rattle.tries.specs.Tries.{Auto, tallyBy, outputsBy, lone, score, autoUpTo}
+use Rattle.auto.specs.Outcome.{answerBy, ended}
 use Rattle.auto.specs.Best.{refusalIn, Keeps, sumOver, products, Best}
 use Rattle.choice.specs.declared.Choice.{Choice}
 use Rattle.choice.specs.declared.Choice.the-variants.{Number, Nothing}
-use Rattle.auto.specs.declared.Tally.{Tally}
+use Rattle.tries.specs.declared.Tally.{Tally}
 use Rattle.auto.specs.declared.Chosen.{Chosen}
 use Rattle.auto.specs.declared.Chosen.the-variants.{Refused, Unscored, Done}
 use Rattle.choice.proofs.Choices.{Means, chosen-means, one-best}

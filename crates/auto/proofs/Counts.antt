@@ -20,9 +20,9 @@ use Rattle.groups.specs.declared.Settings.{Settings}
 use Rattle.runs.specs.Runs.{keepBy, runOf, runsUpTo}
 use Rattle.outputs.specs.Outputs.{Outputs}
 use Rattle.choice.specs.Choice.{heldScore}
-use Rattle.auto.specs.Outcome.{tallyBy, lone, score, autoUpTo}
+use Rattle.tries.specs.Tries.{tallyBy, lone, score, autoUpTo}
 use Rattle.auto.specs.Best.{sumOver, begun, products}
-use Rattle.auto.specs.declared.Tally.{Tally}
+use Rattle.tries.specs.declared.Tally.{Tally}
 
 -- ---- sums
 sums-add : (f g h : ℕ → ℕ) → ((j : ℕ) → f j + g j ≡ h j) → (lo n : ℕ) → sumOver f lo n + sumOver g lo n ≡ sumOver h lo n

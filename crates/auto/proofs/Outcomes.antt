@@ -9,9 +9,10 @@ use Rattle.groups.specs.declared.Settings.{Settings}
 use Rattle.outputs.specs.Outputs.{Outputs, lengthsOf}
 use Rattle.choice.specs.Choice.{highest, lowest}
 use Rattle.auto.specs.Refusals.{refusalOf}
-use Rattle.auto.specs.Outcome.{Auto, Outcome, answerBy, autoUpTo, ended, outcomeIn, outcome}
+use Rattle.tries.specs.Tries.{Auto, autoUpTo}
+use Rattle.auto.specs.Outcome.{Outcome, answerBy, ended, outcomeIn, outcome}
 use Rattle.auto.specs.Best.{Best}
-use Rattle.auto.specs.declared.Tally.{Tally}
+use Rattle.tries.specs.declared.Tally.{Tally}
 use Rattle.auto.specs.declared.Chosen.{Chosen}
 use Rattle.auto.specs.declared.Chosen.the-variants.{Refused}
 

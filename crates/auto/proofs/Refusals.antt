@@ -1,10 +1,8 @@
--- The refusals of the automatic fit: where nothing is refused there is room for the greatest number of groups, and with it for every lesser one. Assumes nothing.
+-- The refusals of the automatic fit: where nothing is refused there is room for the greatest number of groups. Assumes nothing.
 use mathlib.Core.Path.{_≡_, refl}
 use mathlib.Core.List.{List}
 use mathlib.Core.Bool.{Bool}
-use Prim.Native.Nat.{ℕ, _*_, _≤_}
-use native.Mathlib.Nat.{mul-le-mul}
-use native.Mathlib.Omega.{arith}
+use Prim.Native.Nat.{ℕ, _≤_}
 use lib.Dec.{leb}
 use lib.ListN.{length}
 use lib.Ieee.{Float}
@@ -12,11 +10,10 @@ use borrow.Author.Tests.{leb-true}
 use Rattle.limits.specs.Limits.{need, weightOk, coordinateOk, every, sizesOk, roundsOk}
 use Rattle.limits.proofs.Limits.{met, sizes-met}
 use Rattle.outputs.specs.Refusals.{arraysOk}
-use Rattle.runs.specs.Halves.{Roomy}
 use Rattle.outputs.specs.declared.Lengths.{Lengths}
 use Rattle.outputs.proofs.Refusals.{arrays-met, roomy-by, fillable}
 use Rattle.auto.specs.Refusals.{refusalOf}
-use Rattle.auto.specs.Tries.{Ready}
+use Rattle.tries.specs.Ready.{Ready}
 
 module _ (weights coords : List Float) (d hi rounds : ℕ) (l : Lengths) where
   pub ready : refusalOf weights coords d hi rounds l ≡ 0 → 1 ≤ hi → Ready (length weights) (length coords) (length weights) hi d rounds l
@@ -37,58 +34,3 @@ module _ (weights coords : List Float) (d hi rounds : ℕ) (l : Lengths) where
       → refusalOf weights coords d hi rounds l ≡ need sizes 1 (need groups 2 (need within 3 (need arrays 4 (need ws 5 (need xs 6 0)))))
   unfolding refusalOf
   refusal-by sizes groups within arrays ws xs e1 e2 e3 e4 e5 e6 = rw (e1, e2, e3, e4, e5, e6)
-
--- room for a lesser number of groups
-module _ (weights coords m hi k d rounds : ℕ) (l : Lengths) (some : 1 ≤ k) (most : k ≤ hi) (v : Ready weights coords m hi d rounds l) where
-  rows : m * k ≤ m * hi
-  rows = let h : m ≤ m = omega arith in mul-le-mul h most
-
-  groups : k * d ≤ hi * d
-  groups = let h : d ≤ d = omega arith in mul-le-mul most h
-
-  roomy-below : Roomy (l .work) (l .marks) weights coords m k d rounds
-  roomy-below =
-      let r = v .roomy in
-      record {
-        m-some = r .m-some;
-        m-small = r .m-small;
-        k-some = some;
-        k-small = omega (arith, r .k-small);
-        d-some = r .d-some;
-        d-small = r .d-small;
-        mk-small = omega (arith, r .mk-small, rows);
-        kd-small = omega (arith, r .kd-small, groups);
-        md-small = r .md-small;
-        work-long = omega (arith, r .work-long, rows, groups);
-        marks-long = omega (arith, r .marks-long);
-        weights-long = r .weights-long;
-        coords-long = r .coords-long;
-        rounds-small = r .rounds-small;
-      }
-
-  pub ready-below : Ready weights coords m k d rounds l
-  ready-below =
-      let r = roomy-below in
-      let f = v .fillable in
-      record {
-        roomy = r;
-        fillable =
-            record {
-              k-some = some;
-              d-some = r .d-some;
-              d-small = r .d-small;
-              halved = record { m-small = r .m-small; k-small = r .k-small; mk-small = r .mk-small; kd-small = r .kd-small; work-long = r .work-long };
-              leaves = record { labels-long = f .leaves .labels-long; responsibilities-long = omega (arith, f .leaves .responsibilities-long, rows) };
-              groups =
-                  record {
-                    weights-long = omega (arith, f .groups .weights-long);
-                    directions-long = omega (arith, f .groups .directions-long, groups);
-                    concentrations-long = omega (arith, f .groups .concentrations-long);
-                    logw-long = omega (arith, f .groups .logw-long);
-                  };
-            };
-      }
-
--- the same room by other names of the lengths
-pub ready-of : (weights coords m k d rounds : ℕ) (l l' : Lengths) → l' ≡ l → Ready weights coords m k d rounds l → Ready weights coords m k d rounds l'
-ready-of weights coords m k d rounds l l' e v = rw e v

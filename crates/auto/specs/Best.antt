@@ -12,7 +12,7 @@ use Rattle.mixture.specs.Fits.{warmOf}
 use Rattle.groups.specs.declared.Settings.{Settings}
 use Rattle.outputs.specs.Outputs.{Outputs, written}
 use Rattle.choice.specs.Choice.{BestOf}
-use Rattle.auto.specs.Outcome.{lone, score}
+use Rattle.tries.specs.Tries.{lone, score}
 use Rattle.auto.specs.declared.Chosen.{Chosen}
 use Rattle.auto.specs.declared.Chosen.the-variants.{Refused, Unscored, Done}
 

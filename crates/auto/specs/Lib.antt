@@ -1,4 +1,3 @@
-pub mod Refusals
 pub mod Outcome
+pub mod Refusals
 pub mod Best
-pub mod Tries

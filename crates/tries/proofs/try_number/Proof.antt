@@ -1,4 +1,4 @@
--- `auto::try_number` meets its contract: what the four runs keep is the lone fit, by what the calls ensure; the outputs are written where its score beats the one held.
+-- `tries::try_number` meets its contract: what the four runs keep is the lone fit, by what the calls ensure; the outputs are written where its score beats the one held.
 -- Assumes nothing.
 use mathlib.Core.Path.{_≡_, refl}
 use Prim.Native.Nat.{ℕ}
@@ -6,10 +6,10 @@ use lib.ListN.{length}
 use Rattle.outputs.specs.Outputs.{Outputs, arrays}
 use Rattle.outputs.specs.Fillable.{Fillable}
 use Rattle.runs.specs.Runs.{runOf, runsUpTo}
-use Rattle.auto.proofs.Numbers.{runs-small, fillable-of, tried-kept, tried-left}
+use Rattle.tries.proofs.Numbers.{runs-small, fillable-of, tried-kept, tried-left}
 use borrow.Author.Needs.{needs}
-use Rattle.auto.proofs.try_number.Statement.{statement}
-use Rattle.auto.proofs.try_number.Tie as tie
+use Rattle.tries.proofs.try_number.Statement.{statement}
+use Rattle.tries.proofs.try_number.Tie as tie
 
 -- the arrays as found
 abbrev found : tie.Start → Outputs

@@ -7,12 +7,12 @@ use lib.ListN.{length}
 use lib.Ieee.{ofBits, div, neg}
 use Rattle.outputs.specs.Outputs.{Outputs, lengthsOf, arrays}
 use Rattle.outputs.specs.declared.Lengths.{Lengths}
-use Rattle.auto.specs.Outcome.{Auto, autoUpTo}
-use Rattle.auto.specs.Tries.{Tails, TallySmall}
-use Rattle.auto.proofs.Refusals.{ready-below, ready-of}
-use Rattle.auto.proofs.Numbers.{tally-small, lengths-of, tails-start, tails-turn, numbers-start, numbers-turn, numbers-end, small-turn}
-use Rattle.auto.proofs.try_numbers.Statement.{statement}
-use Rattle.auto.proofs.try_numbers.Tie as tie
+use Rattle.tries.specs.Tries.{Auto, autoUpTo}
+use Rattle.tries.specs.Ready.{Tails, TallySmall}
+use Rattle.tries.proofs.Ready.{ready-below, ready-of}
+use Rattle.tries.proofs.Numbers.{tally-small, lengths-of, tails-start, tails-turn, numbers-start, numbers-turn, numbers-end, small-turn}
+use Rattle.tries.proofs.try_numbers.Statement.{statement}
+use Rattle.tries.proofs.try_numbers.Tie as tie
 
 abbrev Inv-loop : tie.InvT-loop
 Inv-loop weights coords d lo hi s ln-total labels₀ responsibilities₀ group-weights₀ directions₀ concentrations₀ logw₀ work₀ marks₀ t₀ k₀ labels responsibilities group-weights directions concentrations logw work marks t k =

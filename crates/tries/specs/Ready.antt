@@ -1,4 +1,4 @@
--- What the functions of the automatic fit ask and promise one another: the arrays' lengths, the rest of each output as found, and one number tried. No definition of
+-- What the functions that try the numbers ask and promise one another: the arrays' lengths, the rest of each output as found, and one number tried. No definition of
 -- document 01 stands on this file.
 use mathlib.Core.Path.{_≡_}
 use mathlib.Core.List.{List}
@@ -13,9 +13,9 @@ use Rattle.outputs.specs.Fillable.{Fillable}
 use Rattle.outputs.specs.declared.Lengths.{Lengths}
 use Rattle.keeper.specs.declared.Runs.{Runs}
 use Rattle.choice.specs.Choice.{heldScore}
-use Rattle.auto.specs.Outcome.{lone, score, tallyBy, outputsBy}
+use Rattle.tries.specs.Tries.{lone, score, tallyBy, outputsBy}
 use Rattle.choice.specs.declared.Choice.the-variants.{Number}
-use Rattle.auto.specs.declared.Tally.{Tally}
+use Rattle.tries.specs.declared.Tally.{Tally}
 
 -- the counts after n numbers are far from the end of a u64
 pub record TallySmall (t : Tally) (n : ℕ) : Type 0 where

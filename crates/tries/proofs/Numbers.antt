@@ -26,9 +26,9 @@ use Rattle.outputs.specs.Fillable.{Fillable}
 use Rattle.keeper.specs.declared.Runs.{Runs}
 use Rattle.outputs.proofs.Kept.{kept-area, fit-em, fit-counts}
 use Rattle.choice.specs.Choice.{totalOf, scoreBy, heldScore}
-use Rattle.auto.specs.Outcome.{Auto, tallyBy, outputsBy, lone, score, tryNumber, autoUpTo}
-use Rattle.auto.specs.Tries.{TallySmall, RunsSmall, keptTally, leftTally, Full, Tails, TriedNumber}
-use Rattle.auto.specs.declared.Tally.{Tally}
+use Rattle.tries.specs.Tries.{Auto, tallyBy, outputsBy, lone, score, tryNumber, autoUpTo}
+use Rattle.tries.specs.Ready.{TallySmall, RunsSmall, keptTally, leftTally, Full, Tails, TriedNumber}
+use Rattle.tries.specs.declared.Tally.{Tally}
 
 -- ---- the counts stay small
 pub runs-small : (held last : Once) (w : List Float) (m k d : ℕ) (r : Runs) → Both held last w m k d r → RunsSmall r
