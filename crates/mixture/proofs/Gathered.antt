@@ -5,7 +5,7 @@ use mathlib.Core.List.{List, _++_}
 use Prim.Native.Nat.{ℕ, _+_, _*_, _-_, _≤_, _<_}
 use native.Mathlib.Numerals.{add-one}
 use native.Mathlib.Omega.{arith}
-use lib.ListN.{length, getD, take, drop, set, replicate, length-set, length-append, length-replicate, take-append-drop}
+use lib.ListN.{length, getD, take, drop, set, replicate, length-set, length-append, take-append-drop}
 use lib.Seq.{getD-take, getD-drop, length-front}
 use lib.Ieee.{Float, nan, binary64, add, mul}
 use Rattle.float.specs.Arithmetic.{plusZero}
@@ -99,26 +99,13 @@ module _ (weights coords : List Float) (k d : ℕ) (p₀ : Parts) where
       rw add-one (f ∙ ap (λ (q : Parts). withGathered (gatherLeaf d (getD weights i nan) (rowOf (q .resp) k i) (rowOf coords d i) (gatheredOf q) k) q) e)
 
 -- where the loop begins, the sums and the whole weights are cleared
-module _ (k d : ℕ) (w r s : List Float) where
-  abbrev totalsAt : ℕ
-  totalsAt = k * d + k * d + k + k + k
-
-  abbrev clearedSums : List Float
-  clearedSums = putPart w (k * d) (k * d + k * d - k * d) r
-
-  abbrev pub clearedBoth : List Float
-  clearedBoth = putPart clearedSums totalsAt (totalsAt + k - totalsAt) s
-
-  pub cleared : (weights coords : List Float) (m : ℕ) → Area (length w) m k d → r ≡ replicate (length (part w (k * d) (k * d + k * d - k * d))) plusZero
-      → s ≡ replicate (length (part clearedSums totalsAt (totalsAt + k - totalsAt))) plusZero
-      → partsIn m k d clearedBoth ≡ leavesDone weights coords k d (partsIn m k d w) 0
-  unfolding gatherUpTo
-  cleared weights coords m area er es =
-      let l : length clearedSums ≡ length w =
-      put-length w r (k * d) (k * d + k * d - k * d) (ap length er ∙ length-replicate (length (part w (k * d) (k * d + k * d - k * d))) plusZero) in
-      let t : total m k d ≤ length clearedSums = omega (arith, area .work-long) in
-      fill-in totalsR m k d clearedSums s totalsAt k plusZero (omega arith) refl t es
-      ∙ ap (withTotals (replicate k plusZero)) (fill-in sumsR m k d w r (k * d) (k * d) plusZero (omega arith) refl (area .work-long) er)
+pub cleared : (weights coords : List Float) (m k d : ℕ) (w w₁ w₂ : List Float) → Area (length w) m k d → length w₁ ≡ length w
+    → w₁ ≡ putPart w (k * d) (k * d) (replicate (k * d) plusZero) → w₂ ≡ putPart w₁ (k * d + k * d + k + k + k) k (replicate k plusZero)
+    → partsIn m k d w₂ ≡ leavesDone weights coords k d (partsIn m k d w) 0
+unfolding gatherUpTo
+cleared weights coords m k d w w₁ w₂ area l e₁ e₂ =
+    fill-in totalsR m k d w₁ w₂ (k * d + k * d + k + k + k) k plusZero (omega arith) refl (omega (arith, area .work-long, l)) e₂
+    ∙ ap (withTotals (replicate k plusZero)) (fill-in sumsR m k d w w₁ (k * d) (k * d) plusZero (omega arith) refl (area .work-long) e₁)
 
 -- the start, and the end from the parts before the clearing
 module _ (weights coords : List Float) (k d : ℕ) (p₀ p₁ : Parts) (e : p₁ ≡ leavesDone weights coords k d p₀ 0) where

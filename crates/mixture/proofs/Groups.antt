@@ -7,7 +7,7 @@ use native.Mathlib.Omega.{arith}
 use lib.ListN.{length, getD, drop, set, replicate, length-replicate}
 use lib.Ieee.{Float, nan}
 use Rattle.rows.specs.Rows.{part, putPart, startOf}
-use Rattle.rows.proofs.Rows.{length-part, part-cut}
+use Rattle.rows.proofs.Rows.{part-cut}
 use Rattle.groups.specs.Kappas.{tabulate}
 use Rattle.mixture.specs.Areas.{Parts, lengths, total, partsIn}
 use Rattle.mixture.proofs.Regions.{Region, get-in, whole-in, put-whole-in, frontIn, front-in-start, front-in-turn, front-in-end, tabulate-length, tabulate-turn}
@@ -44,11 +44,6 @@ pub region-cut : (R : Region) (m k d : ℕ) (w : List Float) (at n : ℕ) → at
     → part w at (at + n - at) ≡ R .get (partsIn m k d w)
 region-cut R m k d w at n e s = part-cut w at n ∙ whole-in R m k d w at n e s
 
-pub fill-in : (R : Region) (m k d : ℕ) (w r : List Float) (at n : ℕ) (x : Float) → at ≡ startOf (lengths m k d) (R .number) → n ≡ getD (lengths m k d) (R .number) 0
-    → total m k d ≤ length w → r ≡ replicate (length (part w at (at + n - at))) x
-    → partsIn m k d (putPart w at (at + n - at) r) ≡ R .put (replicate n x) (partsIn m k d w)
-fill-in R m k d w r at n x e s g is =
-    let f : at + n - at ≡ n = omega arith in
-    let inside : at + n ≤ length w = omega (arith, R .within m k d) in
-    let all : r ≡ replicate n x = is ∙ rw (f, length-part w at n inside) in
-    rw (f, all) (put-whole-in R m k d w at n (replicate n x) e s (length-replicate n x) g)
+pub fill-in : (R : Region) (m k d : ℕ) (w w' : List Float) (at n : ℕ) (x : Float) → at ≡ startOf (lengths m k d) (R .number) → n ≡ getD (lengths m k d) (R .number) 0
+    → total m k d ≤ length w → w' ≡ putPart w at n (replicate n x) → partsIn m k d w' ≡ R .put (replicate n x) (partsIn m k d w)
+fill-in R m k d w w' at n x e s g is = ap (partsIn m k d) is ∙ put-whole-in R m k d w at n (replicate n x) e s (length-replicate n x) g

@@ -58,7 +58,7 @@ fn shared_kappa(work: &mut [f64], whole: f64, m: usize, k: usize, d: usize)
     let norms = kappas + k + k + k;
     let s = &work[..];
     let pooled = vector::fold(&s[norms..norms + k]);
-    rows::fill(&mut work[kappas..kappas + k], kappa_by(pooled, whole, d));
+    areas::fill_at(work, kappas, k, kappa_by(pooled, whole, d));
 }
 
 // The concentrations by the lengths and the weights of the resultants, at the start and after each round.
@@ -265,9 +265,8 @@ fn gather(work: &mut [f64], weights: &[f64], coords: &[f64], m: usize, k: usize,
         ≡ withGathered (gatherUpTo (now (weights .entry)) (now (coords .entry)) (partsIn m k d (now (work .entry)) .resp) k d m) (partsIn m k d (now (work .entry))) ⌝ }
 {
     let kd = k * d;
-    let totals = kd + kd + k + k + k;
-    rows::fill(&mut work[kd..kd + kd], 0.0);
-    rows::fill(&mut work[totals..totals + k], 0.0);
+    areas::fill_at(work, kd, kd, 0.0);
+    areas::fill_at(work, kd + kd + k + k + k, k, 0.0);
     let mut i = 0;
     while i < m {
         gather_leaf(work, weights, coords, i, m, k, d);
@@ -454,7 +453,7 @@ fn label_totals(work: &mut [f64], marks: &[u32], weights: &[f64], m: usize, k: u
 {
     let kd = k * d;
     let totals = kd + kd + k + k + k;
-    rows::fill(&mut work[totals..totals + k], 0.0);
+    areas::fill_at(work, totals, k, 0.0);
     let mut i = 0;
     while i < m {
         let at = totals + marks[i] as usize;
@@ -494,9 +493,8 @@ fn clear(work: &mut [f64], m: usize, k: usize, d: usize)
 {
     let kd = k * d;
     let weights = kd + kd;
-    let resp = weights + k + k + k + k + k;
-    rows::fill(&mut work[weights..weights + k], even_weight(k));
-    rows::fill(&mut work[resp..resp + m * k], 0.0);
+    areas::fill_at(work, weights, k, even_weight(k));
+    areas::fill_at(work, weights + k + k + k + k + k, m * k, 0.0);
 }
 
 // What a run answers: its log-likelihood, and the counts of its warm start.

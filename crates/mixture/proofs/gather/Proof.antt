@@ -8,85 +8,59 @@ use lib.ListN.{length}
 use lib.Ieee.{Float, ofBits}
 use Rattle.mixture.specs.Areas.{partsIn}
 use Rattle.mixture.proofs.Sizes.{area-of, leaf-of}
-use Rattle.mixture.proofs.Gathered.{leavesDone, clearedBoth, cleared, leaves-start, leaves-turn, leaves-end}
+use Rattle.mixture.proofs.Gathered.{leavesDone, cleared, leaves-start, leaves-turn, leaves-end}
 use borrow.Author.Needs.{needs}
 use Rattle.mixture.proofs.gather.Statement.{statement}
 use Rattle.mixture.proofs.gather.Tie as tie
 
 abbrev Inv-loop : tie.InvT-loop
-Inv-loop work₀ weights coords m k d kd totals i₀ work i =
+Inv-loop work₀ weights coords m k d kd i₀ work i =
     (i ≤ m) × (length work ≡ length work₀) × (partsIn m k d work ≡ leavesDone weights coords k d (partsIn m k d work₀) i)
 
 abbrev μ-loop : tie.MeasureT-loop
-μ-loop work₀ weights coords m k d kd totals i₀ work i = m - i
+μ-loop work₀ weights coords m k d kd i₀ work i = m - i
 
 -- the start, and the area where the loop begins
-abbrev start : tie.After-fill2 Inv-loop μ-loop → tie.Start Inv-loop μ-loop
+abbrev start : tie.After-fill-at2 Inv-loop μ-loop → tie.Start Inv-loop μ-loop
 start f = f .before .before .before .before .before .before .before .before .before
 
-abbrev begun : tie.After-fill2 Inv-loop μ-loop → List Float
-begun f = let a = start f .args in clearedBoth (a .k) (a .d) (a .work .now) (f .before .before .before .before .fill .last .0) (f .fill2 .last .0)
+abbrev begun : tie.After-fill-at2 Inv-loop μ-loop → List Float
+begun f = f .fill-at2 .last .0
+
+same-at : (f : tie.After-fill-at2 Inv-loop μ-loop) → length (begun f) ≡ length (start f .args .work .now)
+same-at f = f .fill-at2 .kept .0 ∙ f .before .before .before .before .fill-at .kept .0
 
 -- there the sums and the whole weights are cleared
-cleared-at : (f : tie.After-fill2 Inv-loop μ-loop) → let a = start f .args in
+cleared-at : (f : tie.After-fill-at2 Inv-loop μ-loop) → let a = start f .args in
     partsIn (a .m) (a .k) (a .d) (begun f) ≡ leavesDone (a .weights .now) (a .coords .now) (a .k) (a .d) (partsIn (a .m) (a .k) (a .d) (a .work .now)) 0
 unfolding ofBits
 cleared-at f =
     let g = f .before .before .before .before in
     let s = start f in
     let a = s .args in
-    cleared (a .k) (a .d) (a .work .now) (g .fill .last .0) (f .fill2 .last .0) (a .weights .now) (a .coords .now) (a .m) (s .pre .0) (g .fill .ensures) (f .fill2 .ensures)
+    cleared (a .weights .now) (a .coords .now) (a .m) (a .k) (a .d) (a .work .now) (g .fill-at .last .0) (begun f) (s .pre .0) (g .fill-at .kept .0) (g .fill-at .ensures)
+    (f .fill-at2 .ensures)
 
 mul-kd : tie.Need-mul-kd Inv-loop μ-loop
 mul-kd c = search needs
 
-add-totals : tie.Need-add-totals Inv-loop μ-loop
-add-totals c = search needs
+fill-at-requires : tie.Need-fill-at-requires Inv-loop μ-loop
+fill-at-requires c κs = search needs
 
-add-totals-2 : tie.Need-add-totals-2 Inv-loop μ-loop
-add-totals-2 c = search needs
+add-fill-at : tie.Need-add-fill-at Inv-loop μ-loop
+add-fill-at c = search needs
 
-add-totals-3 : tie.Need-add-totals-3 Inv-loop μ-loop
-add-totals-3 c = search needs
+add-fill-at-2 : tie.Need-add-fill-at-2 Inv-loop μ-loop
+add-fill-at-2 c = search needs
 
-add-totals-4 : tie.Need-add-totals-4 Inv-loop μ-loop
-add-totals-4 c = search needs
+add-fill-at-3 : tie.Need-add-fill-at-3 Inv-loop μ-loop
+add-fill-at-3 c = search needs
 
-add-fill : tie.Need-add-fill Inv-loop μ-loop
-add-fill c = search needs
+add-fill-at-4 : tie.Need-add-fill-at-4 Inv-loop μ-loop
+add-fill-at-4 c = search needs
 
-mul-fill : tie.Need-mul-fill Inv-loop μ-loop
-mul-fill c = search needs
-
-sub-fill : tie.Need-sub-fill Inv-loop μ-loop
-sub-fill c = search needs
-
-part-fill-start : tie.Need-part-fill-start Inv-loop μ-loop
-part-fill-start c = search needs
-
-part-fill-end : tie.Need-part-fill-end Inv-loop μ-loop
-part-fill-end c = search needs
-
-fill-requires : tie.Need-fill-requires Inv-loop μ-loop
-fill-requires c κs = search needs
-
-add-fill-2 : tie.Need-add-fill-2 Inv-loop μ-loop
-add-fill-2 c = search needs
-
-mul-fill-2 : tie.Need-mul-fill-2 Inv-loop μ-loop
-mul-fill-2 c = search needs
-
-sub-fill-2 : tie.Need-sub-fill-2 Inv-loop μ-loop
-sub-fill-2 c = search needs
-
-part-fill-start-2 : tie.Need-part-fill-start-2 Inv-loop μ-loop
-part-fill-start-2 c = search needs
-
-part-fill-end-2 : tie.Need-part-fill-end-2 Inv-loop μ-loop
-part-fill-end-2 c = search needs
-
-fill-requires-2 : tie.Need-fill-requires-2 Inv-loop μ-loop
-fill-requires-2 c κs = search needs
+fill-at-requires-2 : tie.Need-fill-at-requires-2 Inv-loop μ-loop
+fill-at-requires-2 c κs = search needs
 
 loop-holds : tie.Need-loop-holds Inv-loop μ-loop
 loop-holds c =
@@ -98,9 +72,10 @@ loop-holds c =
 gather-leaf-requires : tie.Need-gather-leaf-requires Inv-loop μ-loop
 gather-leaf-requires c κs =
     let l = c .before .before .loop in
-    let s = start (c .before .before .before .before .before) in
+    let f = c .before .before .before .before .before in
+    let s = start f in
     let a = s .args in (
-      area-of _ _ (a .m) (a .k) (a .d) (search needs) (s .pre .0),
+      area-of _ _ (a .m) (a .k) (a .d) (l .inv .1 ∙ same-at f) (s .pre .0),
       (s .pre .1, leaf-of (l .i) (a .m) (a .k) (a .d) (c .before .loop-test .taken)),
     )
 
@@ -123,7 +98,7 @@ loop-again c =
     )
 
 same-length : tie.Need-same-length Inv-loop μ-loop
-same-length c = search needs
+same-length c = c .before .loop .inv .1 ∙ same-at (c .before .before .before .before)
 
 returns : tie.Need-returns Inv-loop μ-loop
 returns c =
@@ -140,22 +115,12 @@ gather-spec =
     Inv-loop
     μ-loop
     mul-kd
-    add-totals
-    add-totals-2
-    add-totals-3
-    add-totals-4
-    add-fill
-    mul-fill
-    sub-fill
-    part-fill-start
-    part-fill-end
-    fill-requires
-    add-fill-2
-    mul-fill-2
-    sub-fill-2
-    part-fill-start-2
-    part-fill-end-2
-    fill-requires-2
+    fill-at-requires
+    add-fill-at
+    add-fill-at-2
+    add-fill-at-3
+    add-fill-at-4
+    fill-at-requires-2
     loop-holds
     gather-leaf-requires
     add-i

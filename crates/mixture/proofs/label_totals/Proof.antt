@@ -5,7 +5,6 @@ use native.Mathlib.Omega.{arith}
 use lib.ListN.{length, getD, replicate}
 use lib.Ieee.{ofBits}
 use Rattle.float.specs.Arithmetic.{plusZero}
-use Rattle.rows.specs.Rows.{putPart}
 use Rattle.mixture.specs.Areas.{partsIn, withTotals}
 use Rattle.mixture.proofs.Regions.{totalsR}
 use Rattle.mixture.proofs.Groups.{fill-in}
@@ -21,15 +20,14 @@ abbrev μ-loop : tie.MeasureT-loop
 μ-loop work₀ marks weights m k d kd totals i₀ work i = m - i
 
 -- where the loop begins the totals are cleared
-cleared : (f : tie.After-fill Inv-loop μ-loop) → let a = f .before .before .before .before .before .args in
-    let at = a .k * a .d + a .k * a .d + a .k + a .k + a .k in
-    partsIn (a .m) (a .k) (a .d) (putPart (a .work .now) at (at + a .k - at) (f .fill .last .0)) ≡ withTotals (replicate (a .k) plusZero) (partsIn (a .m) (a .k) (a .d) (a .work .now))
+cleared : (f : tie.After-fill-at Inv-loop μ-loop) → let a = f .before .before .before .before .before .args in
+    partsIn (a .m) (a .k) (a .d) (f .fill-at .last .0) ≡ withTotals (replicate (a .k) plusZero) (partsIn (a .m) (a .k) (a .d) (a .work .now))
 unfolding ofBits
 cleared f =
     let b = f .before .before .before .before .before in
     let a = b .args in
     let at = a .k * a .d + a .k * a .d + a .k + a .k + a .k in
-    fill-in totalsR (a .m) (a .k) (a .d) (a .work .now) (f .fill .last .0) at (a .k) plusZero (omega arith) refl (b .pre .0 .0 .work-long) (f .fill .ensures)
+    fill-in totalsR (a .m) (a .k) (a .d) (a .work .now) (f .fill-at .last .0) at (a .k) plusZero (omega arith) refl (b .pre .0 .0 .work-long) (f .fill-at .ensures)
 
 -- the label of leaf i, in a turn
 label-of : (c : tie.In-loop Inv-loop μ-loop) → let a = c .before .before .before .before .before .before .before .before .before .args in
@@ -51,23 +49,8 @@ add-totals-3 c = search needs
 add-totals-4 : tie.Need-add-totals-4 Inv-loop μ-loop
 add-totals-4 c = search needs
 
-add-fill : tie.Need-add-fill Inv-loop μ-loop
-add-fill c = search needs
-
-mul-fill : tie.Need-mul-fill Inv-loop μ-loop
-mul-fill c = search needs
-
-sub-fill : tie.Need-sub-fill Inv-loop μ-loop
-sub-fill c = search needs
-
-part-fill-start : tie.Need-part-fill-start Inv-loop μ-loop
-part-fill-start c = search needs
-
-part-fill-end : tie.Need-part-fill-end Inv-loop μ-loop
-part-fill-end c = search needs
-
-fill-requires : tie.Need-fill-requires Inv-loop μ-loop
-fill-requires c κs = search needs
+fill-at-requires : tie.Need-fill-at-requires Inv-loop μ-loop
+fill-at-requires c κs = search needs
 
 loop-holds : tie.Need-loop-holds Inv-loop μ-loop
 loop-holds c =
@@ -140,12 +123,7 @@ label-totals-spec =
     add-totals-2
     add-totals-3
     add-totals-4
-    add-fill
-    mul-fill
-    sub-fill
-    part-fill-start
-    part-fill-end
-    fill-requires
+    fill-at-requires
     loop-holds
     mul-at
     shared-slice-read-at

@@ -49,26 +49,11 @@ part-fold-end c = search needs
 fold-requires : tie.Need-fold-requires
 fold-requires c κs = search needs
 
-add-fill : tie.Need-add-fill
-add-fill c = search needs
-
-mul-fill : tie.Need-mul-fill
-mul-fill c = search needs
-
-sub-fill : tie.Need-sub-fill
-sub-fill c = search needs
-
-part-fill-start : tie.Need-part-fill-start
-part-fill-start c = search needs
-
-part-fill-end : tie.Need-part-fill-end
-part-fill-end c = search needs
-
 kappa-by-requires : tie.Need-kappa-by-requires
 kappa-by-requires c κs = search needs
 
-fill-requires : tie.Need-fill-requires
-fill-requires c κs = search needs
+fill-at-requires : tie.Need-fill-at-requires
+fill-at-requires c κs = search needs
 
 same-length : tie.Need-same-length
 same-length c = search needs
@@ -86,8 +71,8 @@ returns c =
     s .fold .ensures ∙ ap (sumFrom plusZero) (region-cut normsR (a .m) (a .k) (a .d) (a .work .now) norms (a .k) (omega arith) refl) in
     let one : q .kappa-by .result ≡ sharedKappa (a .d) (sumFrom plusZero (p .norms)) (a .whole) =
     q .kappa-by .ensures ∙ ap (λ (x : Float). sharedKappa (a .d) x (a .whole)) pooled in
-    fill-in kappasR (a .m) (a .k) (a .d) (a .work .now) (c .before .before .fill .last .0) kappas (a .k) (q .kappa-by .result) (omega arith) refl (b .pre .work-long)
-    (c .before .before .fill .ensures)
+    fill-in kappasR (a .m) (a .k) (a .d) (a .work .now) (c .before .before .fill-at .last .0) kappas (a .k) (q .kappa-by .result) (omega arith) refl (b .pre .work-long)
+    (c .before .before .fill-at .ensures)
     ∙ ap (λ (x : Float). withKappas (replicate (a .k) x) p) one
 
 pub shared-kappa-spec : {M : Type 1} → statement M
@@ -106,12 +91,7 @@ shared-kappa-spec =
     part-fold-start
     part-fold-end
     fold-requires
-    add-fill
-    mul-fill
-    sub-fill
-    part-fill-start
-    part-fill-end
     kappa-by-requires
-    fill-requires
+    fill-at-requires
     same-length
     returns)
