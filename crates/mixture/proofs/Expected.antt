@@ -79,19 +79,21 @@ module _ (m k d : ℕ) (w₀ coords : List Float) (i : ℕ) where
         (e ∙ ap (λ (p : Parts). likenessAt d (p .bases) (modelOf p) (rowOf coords d i) c) f) f
 
     -- four stored
-    pub liked-four : (w : List Float) (at c : ℕ) (v : Four) → at ≡ k * d + k * d + k + k + k + k + k + i * k + c → c + 4 ≤ k
-        → v ≡ fourLikenesses d (partsIn m k d w .bases) (modelOf (partsIn m k d w)) (rowOf coords d i) c → partsIn m k d w ≡ liked c
-        → partsIn m k d (set (set (set (set w at (v .a)) (at + 1) (v .b)) (at + 2) (v .c)) (at + 3) (v .e)) ≡ liked (c + 4)
-    liked-four w at c v a h e f =
+    pub liked-four : (w w' : List Float) (c : ℕ) (v : Four) → c + 4 ≤ k
+        → v ≡ fourLikenesses d (partsIn m k d w .bases) (modelOf (partsIn m k d w)) (rowOf coords d i) c
+        → let at = k * d + k * d + k + k + k + k + k + i * k + c in
+        w' ≡ set (set (set (set w at (v .a)) (at + 1) (v .b)) (at + 2) (v .c)) (at + 3) (v .e) → partsIn m k d w ≡ liked c → partsIn m k d w' ≡ liked (c + 4)
+    liked-four w w' c v h e s f =
+        let at = k * d + k * d + k + k + k + k + k + i * k + c in
         let is : v ≡ fourLikenesses d (partsIn m k d w₀ .bases) (modelOf (partsIn m k d w₀)) (rowOf coords d i) c =
         e ∙ ap (λ (p : Parts). fourLikenesses d (p .bases) (modelOf p) (rowOf coords d i) c) f in
         let w₁ = set w at (v .a) in
         let w₂ = set w₁ (at + 1) (v .b) in
         let w₃ = set w₂ (at + 2) (v .c) in
-        let f₁ = liked-store w at c (c + 1) (v .a) a refl (omega arith) (ap (λ (g : Four). g .a) is) f in
+        let f₁ = liked-store w at c (c + 1) (v .a) refl refl (omega arith) (ap (λ (g : Four). g .a) is) f in
         let f₂ = liked-store w₁ (at + 1) (c + 1) (c + 2) (v .b) (omega arith) (omega arith) (omega arith) (ap (λ (g : Four). g .b) is) f₁ in
         let f₃ = liked-store w₂ (at + 2) (c + 2) (c + 3) (v .c) (omega arith) (omega arith) (omega arith) (ap (λ (g : Four). g .c) is) f₂ in
-        liked-store w₃ (at + 3) (c + 3) (c + 4) (v .e) (omega arith) (omega arith) (omega arith) (ap (λ (g : Four). g .e) is) f₃
+        ap (partsIn m k d) s ∙ liked-store w₃ (at + 3) (c + 3) (c + 4) (v .e) (omega arith) (omega arith) (omega arith) (ap (λ (g : Four). g .e) is) f₃
 
 -- where the first c₀ of an area as long stand in u, the first n of it stand in w
 abbrev pub LikedFrom : (m k d : ℕ) (u coords : List Float) (i c₀ : ℕ) (w : List Float) (n : ℕ) → Type 0

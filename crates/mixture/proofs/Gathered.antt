@@ -1,12 +1,12 @@
 -- Laws of what the groups gather from the leaves, over plain lists and the parts of an area: what one group gains is two stores, and each definition grows by one
 -- group or one leaf a turn. By the laws of the regions. Assumes nothing.
 use mathlib.Core.Path.{_≡_, refl, ap, sym, _∙_}
-use mathlib.Core.List.{List, _++_}
+use mathlib.Core.List.{List}
 use Prim.Native.Nat.{ℕ, _+_, _*_, _-_, _≤_, _<_}
 use native.Mathlib.Numerals.{add-one}
 use native.Mathlib.Omega.{arith}
-use lib.ListN.{length, getD, take, drop, set, replicate, length-set, length-append, take-append-drop}
-use lib.Seq.{getD-take, getD-drop, length-front}
+use lib.ListN.{length, getD, drop, set, replicate, length-set}
+use lib.Seq.{getD-take, getD-drop}
 use lib.Ieee.{Float, nan, binary64, add, mul}
 use Rattle.float.specs.Arithmetic.{plusZero}
 use Rattle.rows.specs.Rows.{part, putPart, rowOf}
@@ -18,15 +18,17 @@ use Rattle.mixture.specs.Areas.{Parts, partsIn, gatheredOf, withSums, wi
 use Rattle.mixture.proofs.Regions.{sumsR, totalsR, respR, set-in, get-in, part-in, put-in, length-in}
 use Rattle.mixture.proofs.Groups.{fill-in}
 
--- a part replaced by one as long
-put-length : (l v : List Float) (at n : ℕ) → length v ≡ length (part l at n) → length (putPart l at n v) ≡ length l
-put-length l v at n e =
-    length-append (take at l) (v ++ drop n (drop at l))
-    ∙ ap (λ (x : ℕ). length (take at l) + x) (length-front (drop at l) v n e) ∙ sym (length-append (take at l) (drop at l)) ∙ ap length (take-append-drop at l)
-
 -- an element of a row
 row-get : (l : List Float) (d i c : ℕ) (z : Float) → c < d → getD (rowOf l d i) c z ≡ getD l (i * d + c) z
 row-get l d i c z h = getD-take d (drop (i * d) l) c z h ∙ getD-drop (i * d) l c z
+
+-- a row added to another, as the code cuts them
+pub row-added : (w x r : List Float) (v : Float) (to from d : ℕ) → r ≡ addScaled v (part w to (to + d - to)) (part x from (from + d - from))
+    → putPart w to (to + d - to) r ≡ putPart w to d (addScaled v (part w to d) (part x from d))
+row-added w x r v to from d e =
+    let f : to + d - to ≡ d = omega arith in
+    let g : from + d - from ≡ d = omega arith in
+    rw (e, f, g)
 
 -- ---- group c gains leaf i: its whole weight is stored, then its row of the sums
 module _ (m k d : ℕ) (w coords : List Float) (weight : Float) (i c : ℕ) (area : Area (length w) m k d) (leaf : LeafOf i m k d) (group : GroupOf c k d) where
@@ -34,27 +36,24 @@ module _ (m k d : ℕ) (w coords : List Float) (weight : Float) (i c : ℕ) (are
   totalAt = k * d + k * d + k + k + k + c
 
   abbrev gained : Float
-  gained = mul binary64 weight (getD w (k * d + k * d + k + k + k + k + k + i * k + c) nan)
+  gained = mul binary64 weight (getD w (totalAt + k + k + i * k) nan)
 
   abbrev stored : List Float
   stored = set w totalAt (add binary64 (getD w totalAt nan) gained)
 
-  pub group-length : (r : List Float) → length r ≡ length (part stored (k * d + c * d) (k * d + c * d + d - (k * d + c * d)))
-      → length (putPart stored (k * d + c * d) (k * d + c * d + d - (k * d + c * d)) r) ≡ length w
-  group-length r e = put-length stored r (k * d + c * d) (k * d + c * d + d - (k * d + c * d)) e ∙ length-set w totalAt (add binary64 (getD w totalAt nan) gained)
+  pub group-length : (w' : List Float) → length w' ≡ length stored → length w' ≡ length w
+  group-length w' e = e ∙ length-set w totalAt (add binary64 (getD w totalAt nan) gained)
 
-  pub group-done : (r : List Float)
-      → r ≡ addScaled gained (part stored (k * d + c * d) (k * d + c * d + d - (k * d + c * d))) (part coords (i * d) (i * d + d - i * d))
-      → partsIn m k d (putPart stored (k * d + c * d) (k * d + c * d + d - (k * d + c * d)) r)
+  pub group-done : (w' : List Float) → w' ≡ putPart stored (k * d + c * d) d (addScaled gained (part stored (k * d + c * d) d) (rowOf coords d i))
+      → partsIn m k d w'
       ≡ withGathered (gatherGroup d (mul binary64 weight (getD (rowOf (partsIn m k d w .resp) k i) c nan)) (rowOf coords d i) c (gatheredOf (partsIn m k d w))) (partsIn m k d w)
-  group-done r e =
+  group-done w' e =
       let p = partsIn m k d w in
       let at = k * d + c * d in
-      let f : at + d - at ≡ d = omega arith in
-      let g : i * d + d - i * d ≡ d = omega arith in
       let t : total m k d ≤ length stored = rw length-set (area .work-long) in
-      let share : getD w (k * d + k * d + k + k + k + k + k + i * k + c) nan ≡ getD (rowOf (p .resp) k i) c nan =
-      get-in respR m k d w _ (i * k + c) nan (omega arith) (omega (arith, leaf .shares, group .below)) ∙ sym (row-get (p .resp) k i c nan (group .below)) in
+      let share : getD w (totalAt + k + k + i * k) nan ≡ getD (rowOf (p .resp) k i) c nan =
+      get-in respR m k d w (totalAt + k + k + i * k) (i * k + c) nan (omega arith) (omega (arith, leaf .shares, group .below))
+      ∙ sym (row-get (p .resp) k i c nan (group .below)) in
       let g₁ = mul binary64 weight (getD (rowOf (p .resp) k i) c nan) in
       let eg : gained ≡ g₁ = ap (λ (x : Float). mul binary64 weight x) share in
       let et : getD w totalAt nan ≡ getD (p .totals) c nan = get-in totalsR m k d w totalAt c nan (omega arith) (group .below) in
@@ -64,12 +63,12 @@ module _ (m k d : ℕ) (w coords : List Float) (weight : Float) (i c : ℕ) (are
       let v = addScaled g₁ (rowOf (p .sums) d c) (rowOf coords d i) in
       let row : part stored at d ≡ rowOf (p .sums) d c =
       part-in sumsR m k d stored at (c * d) d (omega arith) (omega (arith, group .row)) ∙ ap (λ (q : Parts). rowOf (q .sums) d c) e₁ in
-      let er : r ≡ v = e ∙ rw (f, g, row, eg) in
+      let er : w' ≡ putPart stored at d v = e ∙ rw (row, eg) in
       let lv : length v ≡ d =
       add-scaled-length g₁ (rowOf (p .sums) d c) (rowOf coords d i)
       ∙ length-part (p .sums) (c * d) d (omega (arith, length-in sumsR m k d w (area .work-long), group .row)) in
-      rw (f, er)
-      (put-in sumsR m k d stored at (c * d) d v lv (omega arith) (omega (arith, group .row)) t ∙ ap (λ (q : Parts). withSums (putPart (q .sums) (c * d) d v) q) e₁)
+      ap (partsIn m k d) er
+      ∙ put-in sumsR m k d stored at (c * d) d v lv (omega arith) (omega (arith, group .row)) t ∙ ap (λ (q : Parts). withSums (putPart (q .sums) (c * d) d v) q) e₁
 
 -- ---- every group gains leaf i
 module _ (k d i : ℕ) (weight : Float) (x : List Float) (p₀ : Parts) where

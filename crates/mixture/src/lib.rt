@@ -4,11 +4,11 @@
 ghost use mathlib.Core.Path.{_≡_};
 ghost use mathlib.Core.Bool.{true};
 ghost use Prim.Native.Nat.{_+_, _*_, _<_, _≤_};
-ghost use lib.ListN.{length, getD, replicate, take};
+ghost use lib.ListN.{length, getD, set, replicate, take};
 ghost use lib.Ieee.{nan, inf, binary64, mul};
 ghost use Rattle.float.specs.Arithmetic.{plusZero, sumFrom};
 ghost use Rattle.rows.specs.Rows.{Apart, part, putPart, rowOf};
-ghost use Rattle.vector.specs.Vectors.{dividedBy};
+ghost use Rattle.vector.specs.Vectors.{addScaled, dividedBy};
 ghost use Rattle.bessel.specs.Concentration.{Dimension, estimateOf};
 ghost use Rattle.sums.specs.Sums.{normsUpTo};
 ghost use Rattle.groups.specs.Kappas.{tabulate, meanLength, sharedKappa, kappaAt, kappasOf};
@@ -158,6 +158,17 @@ fn four_likenesses(
     based(work, base, kappa, f)
 }
 
+// Four numbers stand from place `at` on.
+fn put_four(work: &mut [f64], at: usize, f: float::Four)
+    requires { ⌜ at + 4 ≤ length (now work) ⌝ }
+    ensures { λ _. ⌜ now (work .exit) ≡ set (set (set (set (now (work .entry)) at (f .a)) (at + 1) (f .b)) (at + 2) (f .c)) (at + 3) (f .e) ⌝ }
+{
+    work[at] = f.a;
+    work[at + 1] = f.b;
+    work[at + 2] = f.c;
+    work[at + 3] = f.e;
+}
+
 // The likenesses of leaf i stand where its responsibilities will: by fours, then singly.
 fn put_likenesses(work: &mut [f64], coords: &[f64], i: usize, m: usize, k: usize, d: usize)
     requires { ⌜ Area (length (now work)) m k d ⌝ }
@@ -171,11 +182,7 @@ fn put_likenesses(work: &mut [f64], coords: &[f64], i: usize, m: usize, k: usize
     let mut c = 0;
     while 4 <= k - c {
         let f = four_likenesses(work, coords, i, c, m, k, d);
-        let at = resp + c;
-        work[at] = f.a;
-        work[at + 1] = f.b;
-        work[at + 2] = f.c;
-        work[at + 3] = f.e;
+        put_four(work, resp + c, f);
         c += 4;
     }
     while c < k {
@@ -206,6 +213,14 @@ fn expect(work: &mut [f64], weights: &[f64], coords: &[f64], m: usize, k: usize,
 
 // ---- the M-step
 
+// The row at `to` gains w times the row of coordinates at `from`.
+fn add_row(work: &mut [f64], coords: &[f64], w: f64, to: usize, from: usize, d: usize)
+    requires { ⌜ (to + d ≤ length (now work)) × (from + d ≤ length (now coords)) ⌝ }
+    ensures { λ _. ⌜ now (work .exit) ≡ putPart (now (work .entry)) to d (addScaled w (part (now (work .entry)) to d) (part (now (coords .entry)) from d)) ⌝ }
+{
+    vector::add_scaled(&mut work[to..to + d], w, &coords[from..from + d]);
+}
+
 // Group c gains leaf i, of this weight, times its responsibility.
 fn gather_group(
     work: &mut [f64],
@@ -224,13 +239,10 @@ fn gather_group(
         (partsIn m k d (now (work .entry))) ⌝ }
 {
     let kd = k * d;
-    let totals = kd + kd + k + k + k;
-    let resp = totals + k + k + i * k;
-    let w = weight * work[resp + c];
-    work[totals + c] = work[totals + c] + w;
-    let to = kd + c * d;
-    let from = i * d;
-    vector::add_scaled(&mut work[to..to + d], w, &coords[from..from + d]);
+    let at = kd + kd + k + k + k + c;
+    let w = weight * work[at + k + k + i * k];
+    work[at] = work[at] + w;
+    add_row(work, coords, w, kd + c * d, i * d, d);
 }
 
 // Every group gains leaf i.

@@ -4,7 +4,7 @@ use mathlib.Core.Path.{_≡_, refl, ap, _∙_}
 use Prim.Native.Nat.{ℕ, _+_, _*_, _≤_, _-_}
 use native.Mathlib.Nat.{mul-le-mul-right}
 use native.Mathlib.Omega.{arith}
-use lib.ListN.{length, length-set}
+use lib.ListN.{length}
 use Rattle.mixture.specs.Areas.{partsIn}
 use Rattle.mixture.proofs.Sizes.{area-of, group-of}
 use Rattle.mixture.proofs.Expected.{liked, liked-start, liked-turn, liked-four, LikedFrom}
@@ -69,50 +69,14 @@ four-likenesses-requires c κs =
       (b .pre .1 .0, b .pre .1 .1, b .pre .1 .2, h, mul-le-mul-right (a .d) h),
     )
 
-add-at : tie.Need-add-at Inv-loop μ-loop Inv-loop2 μ-loop2
-add-at c = search needs
+add-put-four : tie.Need-add-put-four Inv-loop μ-loop Inv-loop2 μ-loop2
+add-put-four c = search needs
 
-mul-work : tie.Need-mul-work Inv-loop μ-loop Inv-loop2 μ-loop2
-mul-work c = search needs
-
-slice-write-work : tie.Need-slice-write-work Inv-loop μ-loop Inv-loop2 μ-loop2
-slice-write-work c = search needs
-
-add-work : tie.Need-add-work Inv-loop μ-loop Inv-loop2 μ-loop2
-add-work c = search needs
-
-mul-work-2 : tie.Need-mul-work-2 Inv-loop μ-loop Inv-loop2 μ-loop2
-mul-work-2 c = search needs
-
-slice-write-work-2 : tie.Need-slice-write-work-2 Inv-loop μ-loop Inv-loop2 μ-loop2
-slice-write-work-2 c =
-    let l = c .before .before .before .loop in
-    let b = c .before .before .before .before .before .before in
-    simp length-set (omega (arith, c .before .before .loop-test .taken, l .inv .0, l .inv .1, b .pre .1 .2 .shares, b .pre .0 .work-long))
-
-add-work-2 : tie.Need-add-work-2 Inv-loop μ-loop Inv-loop2 μ-loop2
-add-work-2 c = search needs
-
-mul-work-3 : tie.Need-mul-work-3 Inv-loop μ-loop Inv-loop2 μ-loop2
-mul-work-3 c = search needs
-
-slice-write-work-3 : tie.Need-slice-write-work-3 Inv-loop μ-loop Inv-loop2 μ-loop2
-slice-write-work-3 c =
-    let l = c .before .before .before .loop in
-    let b = c .before .before .before .before .before .before in
-    simp length-set (omega (arith, c .before .before .loop-test .taken, l .inv .0, l .inv .1, b .pre .1 .2 .shares, b .pre .0 .work-long))
-
-add-work-3 : tie.Need-add-work-3 Inv-loop μ-loop Inv-loop2 μ-loop2
-add-work-3 c = search needs
-
-mul-work-4 : tie.Need-mul-work-4 Inv-loop μ-loop Inv-loop2 μ-loop2
-mul-work-4 c = search needs
-
-slice-write-work-4 : tie.Need-slice-write-work-4 Inv-loop μ-loop Inv-loop2 μ-loop2
-slice-write-work-4 c =
-    let l = c .before .before .before .loop in
-    let b = c .before .before .before .before .before .before in
-    simp length-set (omega (arith, c .before .before .loop-test .taken, l .inv .0, l .inv .1, b .pre .1 .2 .shares, b .pre .0 .work-long))
+put-four-requires : tie.Need-put-four-requires Inv-loop μ-loop Inv-loop2 μ-loop2
+put-four-requires c κs =
+    let l = c .before .before .before .before .loop in
+    let b = c .before .before .before .before .before .before .before in
+    omega (arith, c .before .before .before .loop-test .taken, l .inv .0, l .inv .1, b .pre .1 .2 .shares, b .pre .0 .work-long)
 
 add-c : tie.Need-add-c Inv-loop μ-loop Inv-loop2 μ-loop2
 add-c c = search needs
@@ -122,15 +86,16 @@ loop-less c = search needs
 
 loop-again : tie.Need-loop-again Inv-loop μ-loop Inv-loop2 μ-loop2
 loop-again c =
-    let l = c .before .before .before .loop in
-    let b = c .before .before .before .before .before .before in
+    let p = c .before .before in
+    let f = p .before .before in
+    let l = f .before .before .before .loop in
+    let b = f .before .before .before .before .before .before in
     let a = b .args in
-    let h : l .c + 4 ≤ a .k = omega (arith, c .before .before .loop-test .taken, l .inv .0) in
-    let at = a .k * a .d + a .k * a .d + a .k + a .k + a .k + a .k + a .k + a .i * a .k + l .c in (
+    let h : l .c + 4 ≤ a .k = omega (arith, f .before .before .loop-test .taken, l .inv .0) in (
       h,
-      simp length-set (l .inv .1),
-      liked-four (a .m) (a .k) (a .d) (a .work .now) (a .coords .now) (a .i) (b .pre .1 .2 .shares) (b .pre .0 .work-long) (l .work) at (l .c) (c .four-likenesses .result) refl h
-          (c .four-likenesses .ensures) (l .inv .2),
+      p .put-four .kept .0 ∙ l .inv .1,
+      liked-four (a .m) (a .k) (a .d) (a .work .now) (a .coords .now) (a .i) (b .pre .1 .2 .shares) (b .pre .0 .work-long) (l .work) (p .put-four .last .0) (l .c)
+          (f .four-likenesses .result) h (f .four-likenesses .ensures) (p .put-four .ensures) (l .inv .2),
     )
 
 loop2-holds : tie.Need-loop2-holds Inv-loop μ-loop Inv-loop2 μ-loop2
@@ -146,14 +111,14 @@ likeness-requires c κs =
       (b .pre .1 .0, b .pre .1 .1, b .pre .1 .2, group-of (l .c) (a .k) (a .d) (c .before .loop2-test .taken)),
     )
 
-add-work-4 : tie.Need-add-work-4 Inv-loop μ-loop Inv-loop2 μ-loop2
-add-work-4 c = search needs
+add-work : tie.Need-add-work Inv-loop μ-loop Inv-loop2 μ-loop2
+add-work c = search needs
 
-mul-work-5 : tie.Need-mul-work-5 Inv-loop μ-loop Inv-loop2 μ-loop2
-mul-work-5 c = search needs
+mul-work : tie.Need-mul-work Inv-loop μ-loop Inv-loop2 μ-loop2
+mul-work c = search needs
 
-slice-write-work-5 : tie.Need-slice-write-work-5 Inv-loop μ-loop Inv-loop2 μ-loop2
-slice-write-work-5 c = search needs
+slice-write-work : tie.Need-slice-write-work Inv-loop μ-loop Inv-loop2 μ-loop2
+slice-write-work c = search needs
 
 add-c-2 : tie.Need-add-c-2 Inv-loop μ-loop Inv-loop2 μ-loop2
 add-c-2 c = search needs
@@ -204,26 +169,16 @@ put-likenesses-spec =
     loop-holds
     sub-loop
     four-likenesses-requires
-    add-at
-    mul-work
-    slice-write-work
-    add-work
-    mul-work-2
-    slice-write-work-2
-    add-work-2
-    mul-work-3
-    slice-write-work-3
-    add-work-3
-    mul-work-4
-    slice-write-work-4
+    add-put-four
+    put-four-requires
     add-c
     loop-less
     loop-again
     loop2-holds
     likeness-requires
-    add-work-4
-    mul-work-5
-    slice-write-work-5
+    add-work
+    mul-work
+    slice-write-work
     add-c-2
     loop2-less
     loop2-again
