@@ -44,7 +44,7 @@ module _ (m k d : ℕ) (w₀ : List Float) where
 
   pub norms-turn : (w : List Float) (c : ℕ) (v : Float) → c < k → total m k d ≤ length w₀
       → v ≡ normOf (part w (k * d + c * d) (k * d + c * d + d - (k * d + c * d))) → partsIn m k d w ≡ normsDone c
-      → partsIn m k d (set w (k * d + k * d + k + k + k + k + c) v) ≡ normsDone (c + 1)
+      → partsIn m k d (set w (k * d + k * d + 4 * k + c) v) ≡ normsDone (c + 1)
   unfolding normsUpTo
   norms-turn w c v h t e f =
       let sums = partsIn m k d w₀ .sums in
@@ -106,7 +106,7 @@ module _ (d : ℕ) (p₀ : Parts) where
 module _ (m k d : ℕ) (p₀ : Parts) (w : List Float) (c : ℕ) (h : c < k) (long : total m k d ≤ length w) (norms : p₀ .norms ≡ normsUpTo (p₀ .sums) d k)
     (f : partsIn m k d w ≡ directionsDone d p₀ c) where
   abbrev normAt : ℕ
-  normAt = k * d + k * d + k + k + k + k + c
+  normAt = k * d + k * d + 4 * k + c
 
   -- the norm that a turn reads, and the row it divides
   norm-is : getD w normAt nan ≡ normOf (rowOf (p₀ .sums) d c)

@@ -60,7 +60,7 @@ module _ (m k d : ℕ) (w₀ coords : List Float) (i : ℕ) where
 
   module _ (r : i * k + k ≤ m * k) (g : total m k d ≤ length w₀) where
     -- one stored
-    liked-store : (w : List Float) (at c n : ℕ) (v : Float) → at ≡ k * d + k * d + k + k + k + k + k + i * k + c → n ≡ c + 1 → c < k
+    liked-store : (w : List Float) (at c n : ℕ) (v : Float) → at ≡ k * d + k * d + 5 * k + i * k + c → n ≡ c + 1 → c < k
         → v ≡ likenessAt d (partsIn m k d w₀ .bases) (modelOf (partsIn m k d w₀)) (rowOf coords d i) c → partsIn m k d w ≡ liked c → partsIn m k d (set w at v) ≡ liked n
     liked-store w at c n v a s h e f =
         let p₀ = partsIn m k d w₀ in
@@ -73,18 +73,18 @@ module _ (m k d : ℕ) (w₀ coords : List Float) (i : ℕ) where
         ∙ ap (λ (l : List Float). withResp (putPart (p₀ .resp) (i * k) (c + 1) l) p₀) (tabulate-turn like c v e))
 
     pub liked-turn : (w : List Float) (c : ℕ) (v : Float) → c < k → v ≡ likenessAt d (partsIn m k d w .bases) (modelOf (partsIn m k d w)) (rowOf coords d i) c
-        → partsIn m k d w ≡ liked c → partsIn m k d (set w (k * d + k * d + k + k + k + k + k + i * k + c) v) ≡ liked (c + 1)
+        → partsIn m k d w ≡ liked c → partsIn m k d (set w (k * d + k * d + 5 * k + i * k + c) v) ≡ liked (c + 1)
     liked-turn w c v h e f =
-        liked-store w (k * d + k * d + k + k + k + k + k + i * k + c) c (c + 1) v refl refl h
+        liked-store w (k * d + k * d + 5 * k + i * k + c) c (c + 1) v refl refl h
         (e ∙ ap (λ (p : Parts). likenessAt d (p .bases) (modelOf p) (rowOf coords d i) c) f) f
 
     -- four stored
     pub liked-four : (w w' : List Float) (c : ℕ) (v : Four) → c + 4 ≤ k
         → v ≡ fourLikenesses d (partsIn m k d w .bases) (modelOf (partsIn m k d w)) (rowOf coords d i) c
-        → let at = k * d + k * d + k + k + k + k + k + i * k + c in
+        → let at = k * d + k * d + 5 * k + i * k + c in
         w' ≡ set (set (set (set w at (v .a)) (at + 1) (v .b)) (at + 2) (v .c)) (at + 3) (v .e) → partsIn m k d w ≡ liked c → partsIn m k d w' ≡ liked (c + 4)
     liked-four w w' c v h e s f =
-        let at = k * d + k * d + k + k + k + k + k + i * k + c in
+        let at = k * d + k * d + 5 * k + i * k + c in
         let is : v ≡ fourLikenesses d (partsIn m k d w₀ .bases) (modelOf (partsIn m k d w₀)) (rowOf coords d i) c =
         e ∙ ap (λ (p : Parts). fourLikenesses d (p .bases) (modelOf p) (rowOf coords d i) c) f in
         let w₁ = set w at (v .a) in
@@ -162,7 +162,7 @@ module _ (m k d : ℕ) (w₀ coords : List Float) where
 
   -- all of them, softened in their places
   module _ (weights w : List Float) (i at n : ℕ) (long : length weights ≡ m) (room : total m k d ≤ length w₀) (same : length w ≡ length w₀) (all : i ≡ m)
-      (f : partsIn m k d w ≡ likesIn i) (start : at ≡ k * d + k * d + k + k + k + k + k) (size : n ≡ m * k) where
+      (f : partsIn m k d w ≡ likesIn i) (start : at ≡ k * d + k * d + 5 * k) (size : n ≡ m * k) where
     liked-all : partsIn m k d w ≡ withResp (joined likes m) (partsIn m k d w₀)
     liked-all =
         let p₀ = partsIn m k d w₀ in

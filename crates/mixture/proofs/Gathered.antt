@@ -33,7 +33,7 @@ row-added w x r v to from d e =
 -- ---- group c gains leaf i: its whole weight is stored, then its row of the sums
 module _ (m k d : ℕ) (w coords : List Float) (weight : Float) (i c : ℕ) (area : Area (length w) m k d) (leaf : LeafOf i m k d) (group : GroupOf c k d) where
   abbrev totalAt : ℕ
-  totalAt = k * d + k * d + k + k + k + c
+  totalAt = k * d + k * d + 3 * k + c
 
   abbrev gained : Float
   gained = mul binary64 weight (getD w (totalAt + k + k + i * k) nan)
@@ -99,11 +99,11 @@ module _ (weights coords : List Float) (k d : ℕ) (p₀ : Parts) where
 
 -- where the loop begins, the sums and the whole weights are cleared
 pub cleared : (weights coords : List Float) (m k d : ℕ) (w w₁ w₂ : List Float) → Area (length w) m k d → length w₁ ≡ length w
-    → w₁ ≡ putPart w (k * d) (k * d) (replicate (k * d) plusZero) → w₂ ≡ putPart w₁ (k * d + k * d + k + k + k) k (replicate k plusZero)
+    → w₁ ≡ putPart w (k * d) (k * d) (replicate (k * d) plusZero) → w₂ ≡ putPart w₁ (k * d + k * d + 3 * k) k (replicate k plusZero)
     → partsIn m k d w₂ ≡ leavesDone weights coords k d (partsIn m k d w) 0
 unfolding gatherUpTo
 cleared weights coords m k d w w₁ w₂ area l e₁ e₂ =
-    fill-in totalsR m k d w₁ w₂ (k * d + k * d + k + k + k) k plusZero (omega arith) refl (omega (arith, area .work-long, l)) e₂
+    fill-in totalsR m k d w₁ w₂ (k * d + k * d + 3 * k) k plusZero (omega arith) refl (omega (arith, area .work-long, l)) e₂
     ∙ ap (withTotals (replicate k plusZero)) (fill-in sumsR m k d w w₁ (k * d) (k * d) plusZero (omega arith) refl (area .work-long) e₁)
 
 -- the start, and the end from the parts before the clearing

@@ -23,11 +23,11 @@ module _ (m k d : ℕ) (w₀ weights : List Float) (marks : List ℕ) where
   totals-start w e = e ∙ ap (withTotals (replicate k plusZero)) (sym e)
 
   pub totals-turn : (w : List Float) (i : ℕ) → i < m → getD marks i 0 < k → partsIn m k d w ≡ totalled i
-      → let at = k * d + k * d + k + k + k + getD marks i 0 in partsIn m k d (set w at (add binary64 (getD w at nan) (getD weights i nan))) ≡ totalled (i + 1)
+      → let at = k * d + k * d + 3 * k + getD marks i 0 in partsIn m k d (set w at (add binary64 (getD w at nan) (getD weights i nan))) ≡ totalled (i + 1)
   unfolding labelTotalsUpTo
   totals-turn w i h b f =
       let c = getD marks i 0 in
-      let at = k * d + k * d + k + k + k + c in
+      let at = k * d + k * d + 3 * k + c in
       let t = labelTotalsUpTo weights (take m marks) k i in
       let v = add binary64 (getD w at nan) (getD weights i nan) in
       let e : v ≡ add binary64 (getD t c nan) (getD weights i nan) =

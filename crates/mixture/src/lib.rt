@@ -5,7 +5,7 @@ ghost use mathlib.Core.Path.{_≡_};
 ghost use mathlib.Core.Bool.{true};
 ghost use Prim.Native.Nat.{_+_, _*_, _<_, _≤_};
 ghost use lib.ListN.{length, getD, set, replicate, take};
-ghost use lib.Ieee.{nan, inf, binary64, mul};
+ghost use lib.Ieee.{nan, inf, binary64, add, mul};
 ghost use Rattle.float.specs.Arithmetic.{plusZero, sumFrom};
 ghost use Rattle.rows.specs.Rows.{Apart, part, putPart, rowOf};
 ghost use Rattle.vector.specs.Vectors.{addScaled, dividedBy};
@@ -55,7 +55,7 @@ fn shared_kappa(work: &mut [f64], whole: f64, m: usize, k: usize, d: usize)
 {
     let kd = k * d;
     let kappas = kd + kd + k;
-    let norms = kappas + k + k + k;
+    let norms = kappas + 3 * k;
     let s = &work[..];
     let pooled = vector::fold(&s[norms..norms + k]);
     areas::fill_at(work, kappas, k, kappa_by(pooled, whole, d));
@@ -108,6 +108,14 @@ fn put_bases(work: &mut [f64], m: usize, k: usize, d: usize)
     }
 }
 
+// The likeness that a dot gives, by the base at place `base` and the concentration at `kappa`.
+fn based_at(work: &[f64], base: usize, kappa: usize, v: f64) -> f64
+    requires { ⌜ (base < length (now work)) × (kappa < length (now work)) ⌝ }
+    ensures { λ r. ⌜ r ≡ add binary64 (getD (now (work .entry)) base nan) (mul binary64 (getD (now (work .entry)) kappa nan) v) ⌝ }
+{
+    work[base] + work[kappa] * v
+}
+
 // The likeness of leaf i to group c.
 fn likeness(work: &[f64], coords: &[f64], i: usize, c: usize, m: usize, k: usize, d: usize) -> f64
     requires { ⌜ Area (length (now work)) m k d ⌝ }
@@ -115,12 +123,11 @@ fn likeness(work: &[f64], coords: &[f64], i: usize, c: usize, m: usize, k: usize
     ensures { λ r. ⌜ r ≡ likenessAt d (partsIn m k d (now (work .entry)) .bases) (modelOf (partsIn m k d (now (work .entry)))) (rowOf (now (coords .entry)) d i) c ⌝ }
 {
     let kd = k * d;
-    let kappas = kd + kd + k;
-    let bases = kappas + k;
+    let kappa = kd + kd + k + c;
     let at = i * d;
     let row = c * d;
     let v = vector::dot(&coords[at..at + d], &work[row..row + d]);
-    work[bases + c] + work[kappas + c] * v
+    based_at(work, kappa + k, kappa, v)
 }
 
 // The likenesses that four dots give, by the four bases from `base` on and the four concentrations from `kappa` on.
@@ -129,10 +136,10 @@ fn based(work: &[f64], base: usize, kappa: usize, f: float::Four) -> float::Four
     ensures { λ r. ⌜ r ≡ basedFour (now (work .entry)) base kappa f ⌝ }
 {
     float::Four {
-        a: work[base] + work[kappa] * f.a,
-        b: work[base + 1] + work[kappa + 1] * f.b,
-        c: work[base + 2] + work[kappa + 2] * f.c,
-        e: work[base + 3] + work[kappa + 3] * f.e,
+        a: based_at(work, base, kappa, f.a),
+        b: based_at(work, base + 1, kappa + 1, f.b),
+        c: based_at(work, base + 2, kappa + 2, f.c),
+        e: based_at(work, base + 3, kappa + 3, f.e),
     }
 }
 
@@ -178,7 +185,7 @@ fn put_likenesses(work: &mut [f64], coords: &[f64], i: usize, m: usize, k: usize
         (partsIn m k d (now (work .entry))) ⌝ }
 {
     let kd = k * d;
-    let resp = kd + kd + k + k + k + k + k + i * k;
+    let resp = kd + kd + 5 * k + i * k;
     let mut c = 0;
     while 4 <= k - c {
         let f = four_likenesses(work, coords, i, c, m, k, d);
@@ -207,7 +214,7 @@ fn expect(work: &mut [f64], weights: &[f64], coords: &[f64], m: usize, k: usize,
         i += 1;
     }
     let kd = k * d;
-    let resp = kd + kd + k + k + k + k + k;
+    let resp = kd + kd + 5 * k;
     softmax::soften(&mut work[resp..resp + m * k], weights, k)
 }
 
@@ -239,7 +246,7 @@ fn gather_group(
         (partsIn m k d (now (work .entry))) ⌝ }
 {
     let kd = k * d;
-    let at = kd + kd + k + k + k + c;
+    let at = kd + kd + 3 * k + c;
     let w = weight * work[at + k + k + i * k];
     work[at] = work[at] + w;
     add_row(work, coords, w, kd + c * d, i * d, d);
@@ -278,7 +285,7 @@ fn gather(work: &mut [f64], weights: &[f64], coords: &[f64], m: usize, k: usize,
 {
     let kd = k * d;
     areas::fill_at(work, kd, kd, 0.0);
-    areas::fill_at(work, kd + kd + k + k + k, k, 0.0);
+    areas::fill_at(work, kd + kd + 3 * k, k, 0.0);
     let mut i = 0;
     while i < m {
         gather_leaf(work, weights, coords, i, m, k, d);
@@ -292,7 +299,7 @@ fn put_norms(work: &mut [f64], m: usize, k: usize, d: usize)
     ensures { λ _. ⌜ partsIn m k d (now (work .exit)) ≡ withNorms (normsUpTo (partsIn m k d (now (work .entry)) .sums) d k) (partsIn m k d (now (work .entry))) ⌝ }
 {
     let kd = k * d;
-    let norms = kd + kd + k + k + k + k;
+    let norms = kd + kd + 4 * k;
     let mut c = 0;
     while c < k {
         let at = kd + c * d;
@@ -330,7 +337,7 @@ fn put_weights(work: &mut [f64], whole: f64, m: usize, k: usize, d: usize)
 {
     let kd = k * d;
     let weights = kd + kd;
-    let totals = weights + k + k + k;
+    let totals = weights + 3 * k;
     let mut c = 0;
     while c < k {
         work[weights + c] = weight_by(work[totals + c], whole, k);
@@ -358,7 +365,7 @@ fn redirect(work: &mut [f64], m: usize, k: usize, d: usize)
         ≡ withDirections (directionsUpTo d (partsIn m k d (now (work .entry)) .sums) (partsIn m k d (now (work .entry)) .directions) k) (partsIn m k d (now (work .entry))) ⌝ }
 {
     let kd = k * d;
-    let norms = kd + kd + k + k + k + k;
+    let norms = kd + kd + 4 * k;
     let mut c = 0;
     while c < k {
         let n = work[norms + c];
@@ -389,7 +396,7 @@ fn maximize_model(
     gather(work, weights, coords, m, k, d);
     put_norms(work, m, k, d);
     let kd = k * d;
-    let totals = kd + kd + k + k + k;
+    let totals = kd + kd + 3 * k;
     let s = &work[..];
     let whole = vector::sum(&s[totals..totals + k]);
     put_weights(work, whole, m, k, d);
@@ -464,7 +471,7 @@ fn label_totals(work: &mut [f64], marks: &[u32], weights: &[f64], m: usize, k: u
     ensures { λ _. ⌜ partsIn m k d (now (work .exit)) ≡ withTotals (labelTotalsUpTo (now (weights .entry)) (take m (now (marks .entry))) k m) (partsIn m k d (now (work .entry))) ⌝ }
 {
     let kd = k * d;
-    let totals = kd + kd + k + k + k;
+    let totals = kd + kd + 3 * k;
     areas::fill_at(work, totals, k, 0.0);
     let mut i = 0;
     while i < m {
@@ -492,7 +499,7 @@ fn init_kappas(
     label_totals(work, marks, weights, m, k, d);
     put_norms(work, m, k, d);
     let kd = k * d;
-    let totals = kd + kd + k + k + k;
+    let totals = kd + kd + 3 * k;
     let s = &work[..];
     let whole = vector::fold(&s[totals..totals + k]);
     concentrate(work, kappa, whole, m, k, d);
@@ -506,7 +513,7 @@ fn clear(work: &mut [f64], m: usize, k: usize, d: usize)
     let kd = k * d;
     let weights = kd + kd;
     areas::fill_at(work, weights, k, even_weight(k));
-    areas::fill_at(work, weights + k + k + k + k + k, m * k, 0.0);
+    areas::fill_at(work, weights + 5 * k, m * k, 0.0);
 }
 
 // What a run answers: its log-likelihood, and the counts of its warm start.

@@ -24,23 +24,14 @@ even-weight-requires c κs = search needs
 fill-at-requires : tie.Need-fill-at-requires
 fill-at-requires c κs = search needs
 
+mul-fill-at : tie.Need-mul-fill-at
+mul-fill-at c = search needs
+
 add-fill-at : tie.Need-add-fill-at
 add-fill-at c = search needs
 
-add-fill-at-2 : tie.Need-add-fill-at-2
-add-fill-at-2 c = search needs
-
-add-fill-at-3 : tie.Need-add-fill-at-3
-add-fill-at-3 c = search needs
-
-add-fill-at-4 : tie.Need-add-fill-at-4
-add-fill-at-4 c = search needs
-
-add-fill-at-5 : tie.Need-add-fill-at-5
-add-fill-at-5 c = search needs
-
-mul-fill-at : tie.Need-mul-fill-at
-mul-fill-at c = search needs
+mul-fill-at-2 : tie.Need-mul-fill-at-2
+mul-fill-at-2 c = search needs
 
 fill-at-requires-2 : tie.Need-fill-at-requires-2
 fill-at-requires-2 c κs = search needs
@@ -60,7 +51,7 @@ returns c =
     let weights = a .k * a .d + a .k * a .d in
     let n = a .m * a .k in
     let long : total (a .m) (a .k) (a .d) ≤ length (v .fill-at .last .0) = omega (arith, v .fill-at .kept .0, b .pre .work-long) in
-    fill-in respR (a .m) (a .k) (a .d) (v .fill-at .last .0) (u .fill-at2 .last .0) (weights + a .k + a .k + a .k + a .k + a .k) n plusZero (omega arith) refl long
+    fill-in respR (a .m) (a .k) (a .d) (v .fill-at .last .0) (u .fill-at2 .last .0) (weights + 5 * a .k) n plusZero (omega arith) refl long
     (u .fill-at2 .ensures)
     ∙ ap (withResp (replicate n plusZero))
     (fill-in weightsR (a .m) (a .k) (a .d) (a .work .now) (v .fill-at .last .0) weights (a .k) (q .even-weight .result) (omega arith) refl (b .pre .work-long) (v .fill-at .ensures)
@@ -74,12 +65,9 @@ clear-spec =
     add-weights
     even-weight-requires
     fill-at-requires
-    add-fill-at
-    add-fill-at-2
-    add-fill-at-3
-    add-fill-at-4
-    add-fill-at-5
     mul-fill-at
+    add-fill-at
+    mul-fill-at-2
     fill-at-requires-2
     same-length
     returns)

@@ -53,20 +53,11 @@ mul-kd c = search needs
 add-resp : tie.Need-add-resp Inv-loop μ-loop
 add-resp c = search needs
 
+mul-resp : tie.Need-mul-resp Inv-loop μ-loop
+mul-resp c = search needs
+
 add-resp-2 : tie.Need-add-resp-2 Inv-loop μ-loop
 add-resp-2 c = search needs
-
-add-resp-3 : tie.Need-add-resp-3 Inv-loop μ-loop
-add-resp-3 c = search needs
-
-add-resp-4 : tie.Need-add-resp-4 Inv-loop μ-loop
-add-resp-4 c = search needs
-
-add-resp-5 : tie.Need-add-resp-5 Inv-loop μ-loop
-add-resp-5 c = search needs
-
-add-resp-6 : tie.Need-add-resp-6 Inv-loop μ-loop
-add-resp-6 c = search needs
 
 mul-soften : tie.Need-mul-soften Inv-loop μ-loop
 mul-soften c = search needs
@@ -102,7 +93,7 @@ returns c =
     let l = c .before .before .before .before .before .loop in
     let s = c .before .before .before .before .before .before .before .before .before in
     let a = s .args in
-    let at = a .k * a .d + a .k * a .d + a .k + a .k + a .k + a .k + a .k in
+    let at = a .k * a .d + a .k * a .d + 5 * a .k in
     let n = at + a .m * a .k - at in
     let size : n ≡ a .m * a .k = omega arith in
     let all : l .i ≡ a .m = omega (arith, c .before .before .before .before .loop-test .left, l .inv .0) in (
@@ -125,11 +116,8 @@ expect-spec =
     loop-again
     mul-kd
     add-resp
+    mul-resp
     add-resp-2
-    add-resp-3
-    add-resp-4
-    add-resp-5
-    add-resp-6
     mul-soften
     add-soften
     mul-soften-2

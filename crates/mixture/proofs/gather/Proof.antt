@@ -50,14 +50,11 @@ fill-at-requires c κs = search needs
 add-fill-at : tie.Need-add-fill-at Inv-loop μ-loop
 add-fill-at c = search needs
 
+mul-fill-at : tie.Need-mul-fill-at Inv-loop μ-loop
+mul-fill-at c = search needs
+
 add-fill-at-2 : tie.Need-add-fill-at-2 Inv-loop μ-loop
 add-fill-at-2 c = search needs
-
-add-fill-at-3 : tie.Need-add-fill-at-3 Inv-loop μ-loop
-add-fill-at-3 c = search needs
-
-add-fill-at-4 : tie.Need-add-fill-at-4 Inv-loop μ-loop
-add-fill-at-4 c = search needs
 
 fill-at-requires-2 : tie.Need-fill-at-requires-2 Inv-loop μ-loop
 fill-at-requires-2 c κs = search needs
@@ -117,9 +114,8 @@ gather-spec =
     mul-kd
     fill-at-requires
     add-fill-at
+    mul-fill-at
     add-fill-at-2
-    add-fill-at-3
-    add-fill-at-4
     fill-at-requires-2
     loop-holds
     gather-leaf-requires

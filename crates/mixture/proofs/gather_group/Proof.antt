@@ -13,17 +13,14 @@ mul-kd c = search needs
 add-at : tie.Need-add-at
 add-at c = search needs
 
+mul-at : tie.Need-mul-at
+mul-at c = search needs
+
 add-at-2 : tie.Need-add-at-2
 add-at-2 c = search needs
 
 add-at-3 : tie.Need-add-at-3
 add-at-3 c = search needs
-
-add-at-4 : tie.Need-add-at-4
-add-at-4 c = search needs
-
-add-at-5 : tie.Need-add-at-5
-add-at-5 c = search needs
 
 add-w : tie.Need-add-w
 add-w c = search needs
@@ -89,10 +86,9 @@ gather-group-spec =
     (tie.spec
     mul-kd
     add-at
+    mul-at
     add-at-2
     add-at-3
-    add-at-4
-    add-at-5
     add-w
     add-w-2
     mul-w

@@ -28,14 +28,11 @@ mul-kd c = search needs
 add-totals : tie.Need-add-totals
 add-totals c = search needs
 
+mul-totals : tie.Need-mul-totals
+mul-totals c = search needs
+
 add-totals-2 : tie.Need-add-totals-2
 add-totals-2 c = search needs
-
-add-totals-3 : tie.Need-add-totals-3
-add-totals-3 c = search needs
-
-add-totals-4 : tie.Need-add-totals-4
-add-totals-4 c = search needs
 
 add-fold : tie.Need-add-fold
 add-fold c = search needs
@@ -75,7 +72,7 @@ returns c =
     let t = n .before .before .before .before in
     let a = t .before .before .before .before .before .args in
     let p = partsIn (a .m) (a .k) (a .d) (a .work .now) in
-    let totals = a .k * a .d + a .k * a .d + a .k + a .k + a .k in
+    let totals = a .k * a .d + a .k * a .d + 3 * a .k in
     let cut = region-cut totalsR (a .m) (a .k) (a .d) (n .put-norms .last .0) totals (a .k) (omega arith) refl in
     kappas-started (a .kappa) (a .k) (a .d) (labelTotalsUpTo (a .weights .now) (take (a .m) (a .marks .now)) (a .k) (a .m)) (f .fold .result) p _ _ _ (t .label-totals .ensures)
     (n .put-norms .ensures) (f .fold .ensures ∙ ap (sumFrom plusZero) cut) (c .before .before .concentrate .ensures)
@@ -88,9 +85,8 @@ init-kappas-spec =
     put-norms-requires
     mul-kd
     add-totals
+    mul-totals
     add-totals-2
-    add-totals-3
-    add-totals-4
     add-fold
     mul-fold
     sub-fold

@@ -26,7 +26,7 @@ unfolding ofBits
 cleared f =
     let b = f .before .before .before .before .before in
     let a = b .args in
-    let at = a .k * a .d + a .k * a .d + a .k + a .k + a .k in
+    let at = a .k * a .d + a .k * a .d + 3 * a .k in
     fill-in totalsR (a .m) (a .k) (a .d) (a .work .now) (f .fill-at .last .0) at (a .k) plusZero (omega arith) refl (b .pre .0 .0 .work-long) (f .fill-at .ensures)
 
 -- the label of leaf i, in a turn
@@ -40,14 +40,11 @@ mul-kd c = search needs
 add-totals : tie.Need-add-totals Inv-loop μ-loop
 add-totals c = search needs
 
+mul-totals : tie.Need-mul-totals Inv-loop μ-loop
+mul-totals c = search needs
+
 add-totals-2 : tie.Need-add-totals-2 Inv-loop μ-loop
 add-totals-2 c = search needs
-
-add-totals-3 : tie.Need-add-totals-3 Inv-loop μ-loop
-add-totals-3 c = search needs
-
-add-totals-4 : tie.Need-add-totals-4 Inv-loop μ-loop
-add-totals-4 c = search needs
 
 fill-at-requires : tie.Need-fill-at-requires Inv-loop μ-loop
 fill-at-requires c κs = search needs
@@ -120,9 +117,8 @@ label-totals-spec =
     μ-loop
     mul-kd
     add-totals
+    mul-totals
     add-totals-2
-    add-totals-3
-    add-totals-4
     fill-at-requires
     loop-holds
     mul-at

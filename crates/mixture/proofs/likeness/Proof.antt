@@ -1,5 +1,5 @@
 -- `mixture::likeness` meets its contract, by what `dot` ensures of the two rows. Assumes nothing.
-use mathlib.Core.Path.{refl}
+use mathlib.Core.Path.{refl, _∙_}
 use Prim.Native.Nat.{_+_, _*_, _-_}
 use native.Mathlib.Omega.{arith}
 use Rattle.mixture.proofs.Expected.{likeness-done}
@@ -10,14 +10,14 @@ use Rattle.mixture.proofs.likeness.Tie as tie
 mul-kd : tie.Need-mul-kd
 mul-kd c = search needs
 
-add-kappas : tie.Need-add-kappas
-add-kappas c = search needs
+add-kappa : tie.Need-add-kappa
+add-kappa c = search needs
 
-add-kappas-2 : tie.Need-add-kappas-2
-add-kappas-2 c = search needs
+add-kappa-2 : tie.Need-add-kappa-2
+add-kappa-2 c = search needs
 
-add-bases : tie.Need-add-bases
-add-bases c = search needs
+add-kappa-3 : tie.Need-add-kappa-3
+add-kappa-3 c = search needs
 
 mul-at : tie.Need-mul-at
 mul-at c = search needs
@@ -58,41 +58,31 @@ part-dot-end-2 c = search needs
 dot-requires : tie.Need-dot-requires
 dot-requires c κs = search needs
 
-add-result : tie.Need-add-result
-add-result c = search needs
+add-based-at : tie.Need-add-based-at
+add-based-at c = search needs
 
-mul-result : tie.Need-mul-result
-mul-result c = search needs
-
-shared-slice-read-result : tie.Need-shared-slice-read-result
-shared-slice-read-result c = search needs
-
-add-result-2 : tie.Need-add-result-2
-add-result-2 c = search needs
-
-mul-result-2 : tie.Need-mul-result-2
-mul-result-2 c = search needs
-
-shared-slice-read-result-2 : tie.Need-shared-slice-read-result-2
-shared-slice-read-result-2 c = search needs
+based-at-requires : tie.Need-based-at-requires
+based-at-requires c κs = search needs
 
 returns : tie.Need-returns
 returns c =
-    let b = c .before .before .before .before .before .before .before in
+    let o = c .before .dot in
+    let b = c .before .before .before .before .before .before in
     let a = b .args in
-    let kappas = a .k * a .d + a .k * a .d + a .k in
+    let kappa = a .k * a .d + a .k * a .d + a .k + a .c in
     let row = a .c * a .d in
-    likeness-done (a .m) (a .k) (a .d) (a .work .now) (a .coords .now) (a .i) (a .c) (c .before .before .dot .result) (kappas + a .k + a .c) (kappas + a .c) row (row + a .d - row)
-    refl refl refl (omega arith) (b .pre .1 .3 .below) (c .before .before .dot .ensures)
+    c .based-at .ensures
+    ∙ likeness-done (a .m) (a .k) (a .d) (a .work .now) (a .coords .now) (a .i) (a .c) (o .result) (kappa + a .k) kappa row (row + a .d - row) (omega arith) refl refl
+    (omega arith) (b .pre .1 .3 .below) (o .ensures)
 
 pub likeness-spec : {M : Type 1} → statement M
 likeness-spec =
     tie.close
     (tie.spec
     mul-kd
-    add-kappas
-    add-kappas-2
-    add-bases
+    add-kappa
+    add-kappa-2
+    add-kappa-3
     mul-at
     mul-row
     add-dot
@@ -106,10 +96,6 @@ likeness-spec =
     part-dot-start-2
     part-dot-end-2
     dot-requires
-    add-result
-    mul-result
-    shared-slice-read-result
-    add-result-2
-    mul-result-2
-    shared-slice-read-result-2
+    add-based-at
+    based-at-requires
     returns)

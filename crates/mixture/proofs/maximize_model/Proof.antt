@@ -27,14 +27,11 @@ mul-kd c = search needs
 add-totals : tie.Need-add-totals
 add-totals c = search needs
 
+mul-totals : tie.Need-mul-totals
+mul-totals c = search needs
+
 add-totals-2 : tie.Need-add-totals-2
 add-totals-2 c = search needs
-
-add-totals-3 : tie.Need-add-totals-3
-add-totals-3 c = search needs
-
-add-totals-4 : tie.Need-add-totals-4
-add-totals-4 c = search needs
 
 add-sum : tie.Need-add-sum
 add-sum c = search needs
@@ -103,7 +100,7 @@ returns c =
     let g = n .before .before .before .before in
     let a = g .before .before .before .before .before .args in
     let p = partsIn (a .m) (a .k) (a .d) (a .work .now) in
-    let totals = a .k * a .d + a .k * a .d + a .k + a .k + a .k in
+    let totals = a .k * a .d + a .k * a .d + 3 * a .k in
     let cut = region-cut totalsR (a .m) (a .k) (a .d) (n .put-norms .last .0) totals (a .k) (omega arith) refl in
     maximized (a .kappa) (a .k) (a .d) p _ _ _ (gatherUpTo (a .weights .now) (a .coords .now) (p .resp) (a .k) (a .d) (a .m)) (u .sum .result) (g .gather .ensures)
     (n .put-norms .ensures) (w .put-weights .ensures) _ _ (u .sum .ensures ∙ ap (sumFrom minusZero) cut) (r .redirect .ensures) (t .concentrate .ensures)
@@ -116,9 +113,8 @@ maximize-model-spec =
     put-norms-requires
     mul-kd
     add-totals
+    mul-totals
     add-totals-2
-    add-totals-3
-    add-totals-4
     add-sum
     mul-sum
     sub-sum

@@ -30,26 +30,17 @@ mul-kd c = search needs
 add-resp : tie.Need-add-resp Inv-loop μ-loop Inv-loop2 μ-loop2
 add-resp c = search needs
 
-add-resp-2 : tie.Need-add-resp-2 Inv-loop μ-loop Inv-loop2 μ-loop2
-add-resp-2 c = search needs
-
-add-resp-3 : tie.Need-add-resp-3 Inv-loop μ-loop Inv-loop2 μ-loop2
-add-resp-3 c = search needs
-
-add-resp-4 : tie.Need-add-resp-4 Inv-loop μ-loop Inv-loop2 μ-loop2
-add-resp-4 c = search needs
-
-add-resp-5 : tie.Need-add-resp-5 Inv-loop μ-loop Inv-loop2 μ-loop2
-add-resp-5 c = search needs
-
-add-resp-6 : tie.Need-add-resp-6 Inv-loop μ-loop Inv-loop2 μ-loop2
-add-resp-6 c = search needs
-
 mul-resp : tie.Need-mul-resp Inv-loop μ-loop Inv-loop2 μ-loop2
 mul-resp c = search needs
 
-add-resp-7 : tie.Need-add-resp-7 Inv-loop μ-loop Inv-loop2 μ-loop2
-add-resp-7 c = search needs
+add-resp-2 : tie.Need-add-resp-2 Inv-loop μ-loop Inv-loop2 μ-loop2
+add-resp-2 c = search needs
+
+mul-resp-2 : tie.Need-mul-resp-2 Inv-loop μ-loop Inv-loop2 μ-loop2
+mul-resp-2 c = search needs
+
+add-resp-3 : tie.Need-add-resp-3 Inv-loop μ-loop Inv-loop2 μ-loop2
+add-resp-3 c = search needs
 
 loop-holds : tie.Need-loop-holds Inv-loop μ-loop Inv-loop2 μ-loop2
 loop-holds c =
@@ -159,13 +150,10 @@ put-likenesses-spec =
     μ-loop2
     mul-kd
     add-resp
-    add-resp-2
-    add-resp-3
-    add-resp-4
-    add-resp-5
-    add-resp-6
     mul-resp
-    add-resp-7
+    add-resp-2
+    mul-resp-2
+    add-resp-3
     loop-holds
     sub-loop
     four-likenesses-requires

@@ -24,14 +24,11 @@ mul-kd c = search needs
 add-weights : tie.Need-add-weights Inv-loop μ-loop
 add-weights c = search needs
 
+mul-totals : tie.Need-mul-totals Inv-loop μ-loop
+mul-totals c = search needs
+
 add-totals : tie.Need-add-totals Inv-loop μ-loop
 add-totals c = search needs
-
-add-totals-2 : tie.Need-add-totals-2 Inv-loop μ-loop
-add-totals-2 c = search needs
-
-add-totals-3 : tie.Need-add-totals-3 Inv-loop μ-loop
-add-totals-3 c = search needs
 
 loop-holds : tie.Need-loop-holds Inv-loop μ-loop
 loop-holds c =
@@ -76,7 +73,7 @@ loop-again c =
     let f = weightAt (a .k) (a .whole) (p .totals) in
     let h : l .c < a .k = omega arith in
     let o = l .inv .2 in
-    let r₁ = written-read weightsR f (a .m) (a .k) (a .d) (a .work .now) totalsR (λ x p. refl) (l .work) (at + a .k + a .k + a .k + l .c) (l .c) (omega arith) h o in
+    let r₁ = written-read weightsR f (a .m) (a .k) (a .d) (a .work .now) totalsR (λ x p. refl) (l .work) (at + 3 * a .k + l .c) (l .c) (omega arith) h o in
     let e : c .weight-by .result ≡ f (l .c) = c .weight-by .ensures ∙ ap (weightBy (a .k) (a .whole)) r₁ in
     let more = written-turn weightsR f (a .m) (a .k) (a .d) (a .work .now) (l .work) (at + l .c) (l .c) (c .weight-by .result) (omega arith) h (b .pre .work-long) e o in
     (omega arith, search needs, more)
@@ -100,9 +97,8 @@ put-weights-spec =
     μ-loop
     mul-kd
     add-weights
+    mul-totals
     add-totals
-    add-totals-2
-    add-totals-3
     loop-holds
     add-weight-by
     mul-weight-by

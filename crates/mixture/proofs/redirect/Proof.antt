@@ -30,17 +30,11 @@ mul-kd c = search needs
 add-norms : tie.Need-add-norms Inv-loop μ-loop
 add-norms c = search needs
 
+mul-norms : tie.Need-mul-norms Inv-loop μ-loop
+mul-norms c = search needs
+
 add-norms-2 : tie.Need-add-norms-2 Inv-loop μ-loop
 add-norms-2 c = search needs
-
-add-norms-3 : tie.Need-add-norms-3 Inv-loop μ-loop
-add-norms-3 c = search needs
-
-add-norms-4 : tie.Need-add-norms-4 Inv-loop μ-loop
-add-norms-4 c = search needs
-
-add-norms-5 : tie.Need-add-norms-5 Inv-loop μ-loop
-add-norms-5 c = search needs
 
 loop-holds : tie.Need-loop-holds Inv-loop μ-loop
 loop-holds c =
@@ -110,10 +104,8 @@ redirect-spec =
     μ-loop
     mul-kd
     add-norms
+    mul-norms
     add-norms-2
-    add-norms-3
-    add-norms-4
-    add-norms-5
     loop-holds
     add-n
     mul-n

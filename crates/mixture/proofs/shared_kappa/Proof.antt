@@ -22,14 +22,11 @@ add-kappas c = search needs
 add-kappas-2 : tie.Need-add-kappas-2
 add-kappas-2 c = search needs
 
+mul-norms : tie.Need-mul-norms
+mul-norms c = search needs
+
 add-norms : tie.Need-add-norms
 add-norms c = search needs
-
-add-norms-2 : tie.Need-add-norms-2
-add-norms-2 c = search needs
-
-add-norms-3 : tie.Need-add-norms-3
-add-norms-3 c = search needs
 
 add-fold : tie.Need-add-fold
 add-fold c = search needs
@@ -66,7 +63,7 @@ returns c =
     let a = b .args in
     let p = partsIn (a .m) (a .k) (a .d) (a .work .now) in
     let kappas = a .k * a .d + a .k * a .d + a .k in
-    let norms = kappas + a .k + a .k + a .k in
+    let norms = kappas + 3 * a .k in
     let pooled : s .fold .result ≡ sumFrom plusZero (p .norms) =
     s .fold .ensures ∙ ap (sumFrom plusZero) (region-cut normsR (a .m) (a .k) (a .d) (a .work .now) norms (a .k) (omega arith) refl) in
     let one : q .kappa-by .result ≡ sharedKappa (a .d) (sumFrom plusZero (p .norms)) (a .whole) =
@@ -82,9 +79,8 @@ shared-kappa-spec =
     mul-kd
     add-kappas
     add-kappas-2
+    mul-norms
     add-norms
-    add-norms-2
-    add-norms-3
     add-fold
     mul-fold
     sub-fold
