@@ -246,6 +246,7 @@ fn gather_group(
         (partsIn m k d (now (work .entry))) ⌝ }
 {
     let kd = k * d;
+    // the group's whole weight; its responsibility for leaf i stands 2 * k + i * k places on
     let at = kd + kd + 3 * k + c;
     let w = weight * work[at + k + k + i * k];
     work[at] = work[at] + w;
