@@ -32,6 +32,8 @@ startedFrom coords m k d seeds =
       labels = replicate m 0;
     }
 
+-- ---- the rounds
+
 -- the round's pass counted, and the round begun; then its update
 abbrev pub afterPass : Run → Pass → Run
 afterPass r p = record { state = p .state; made = r .made + p .made; saved = r .saved + p .saved; doubled = r .doubled; begun = r .begun + 1 }

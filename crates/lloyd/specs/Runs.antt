@@ -28,6 +28,8 @@ fourNorms coords d i =
       e = normOf (rowOf coords d (i + 3));
     }
 
+-- ---- the rounds
+
 -- a round by its pass p: the end, or the update
 pub record RoundBy (weights coords : List Float) (m k d it : ℕ) (p : Pass) (s' : State) (r : Round) : Type 0 where
   pub ended : r .ended ≡ endsAt it p
@@ -56,7 +58,7 @@ pub record Lloyded (run : Run) (s : State) (c : Counts) : Type 0 where
   pub saved-small : c .saved ≤ 2621440000
   pub doubled-small : c .doubled ≤ 640000
 
--- ---- the start and the seeds
+-- ---- the start
 unfoldable pub putScale : List Float → State → State
 putScale v s = record { centers = s .centers; scale = v; low = s .low; high = s .high; served = s .served; drift = s .drift; labels = s .labels }
 

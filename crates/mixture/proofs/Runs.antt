@@ -21,7 +21,6 @@ use Rattle.mixture.specs.Fits.{labelTotalsUpTo, startKappasBy, startFrom
 use Rattle.mixture.specs.Areas.{Parts, partsIn, emOf, withTotals, withNorms, withKappas, withResp, withWeights, Labels, Runnable, RunDone}
 use Rattle.groups.specs.declared.Kappa.{Kappa}
 use Rattle.groups.specs.declared.Settings.{Settings}
-use Rattle.mixture.specs.declared.Ran.{Ran}
 use Rattle.mixture.proofs.Regions.{directionsR, sumsR, whole-in}
 
 -- ---- the concentrations at the start

@@ -1,5 +1,5 @@
--- The rounds over plain lists: what the calls of an update ensure is the definition's update, what those of a round ensure is its round, a round that is made is
--- one round of the definition's run, and labels stay below k. By the way each test went, and by recursion on the rounds. Assumes nothing.
+-- What the calls of a leaf's turn in a shift and in a pass ensure is the definition's step, over plain lists; a shift leaves labels, a pass keeps labels below k, and
+-- its counts are small. By the laws of the regions, and by recursion on the leaves done. Assumes nothing.
 use mathlib.Core.Path.{_≡_, refl, ap, sym, _∙_}
 use mathlib.Core.List.{List, [], _∷_}
 use mathlib.Core.Bool.{Bool, true, false, not, _&&_, _||_, cond}

@@ -14,6 +14,7 @@ use Rattle.bounds.specs.declared.Slowest.{Slowest}
 use Rattle.nearest.specs.declared.Best.{Best}
 use Rattle.areas.specs.State.{State}
 
+-- ---- a leaf's bounds and label in the state
 abbrev pub boundsAt : State → ℕ → Bounds
 boundsAt s i = record { scale = getD (s .scale) i nan; low = getD (s .low) i nan; high = getD (s .high) i nan }
 
@@ -63,6 +64,8 @@ shiftUpTo k t s (suc i) = shiftLeaf k t i (shiftUpTo k t s i)
 abbrev pub shiftedFor : ℕ → ℕ → ℕ → State → State
 shiftedFor m k it s = cond (ltb 0 it) (shiftUpTo k (slowestUpTo (s .drift) k) s m) s
 
+-- ---- the assignment pass
+
 -- a leaf's bounds from its best and its second best dot; they stay where its scale is not above 0
 abbrev pub boundsBy : ℕ → Best → Bounds → Bounds
 boundsBy k b o =
@@ -92,6 +95,6 @@ unfoldable pub passUpTo : List Float → ℕ → ℕ → ℕ → State → ℕ �
 passUpTo coords k d it s zero = record { state = s; changed = false; made = 0; saved = 0 }
 passUpTo coords k d it s (suc i) = passLeaf coords k d it i (passUpTo coords k d it s i)
 
--- ---- the rounds
+-- the whole pass of round `it`, after the shift
 abbrev pub passOf : List Float → ℕ → ℕ → ℕ → ℕ → State → Pass
 passOf coords m k d it s = passUpTo coords k d it (shiftedFor m k it s) m

@@ -31,6 +31,7 @@ lowerAt w at v = set w at (cond (lt v (getD w at nan)) v (getD w at nan))
 abbrev pub lowerFour : List Float → ℕ → Four → List Float
 lowerFour w at f = lowerAt (lowerAt (lowerAt (lowerAt w at (f .a)) (at + 1) (f .b)) (at + 2) (f .c)) (at + 3) (f .e)
 
+-- ---- the state with other distances, with other chances, and with one centre more
 unfoldable pub putLow : List Float → State → State
 putLow v s = record { centers = s .centers; scale = s .scale; low = v; high = s .high; served = s .served; drift = s .drift; labels = s .labels }
 
@@ -41,6 +42,7 @@ unfoldable pub putCenter : ℕ → ℕ → List Float → State → State
 putCenter d c row s =
     record { centers = putPart (s .centers) (c * d) d row; scale = s .scale; low = s .low; high = s .high; served = s .served; drift = s .drift; labels = s .labels }
 
+-- what the seeding asks
 pub record Seeding (work weights coords m k d : ℕ) : Type 0 where
   pub m-some : 0 < m
   pub m-small : m ≤ 4096

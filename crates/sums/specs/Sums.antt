@@ -29,6 +29,6 @@ unfoldable pub countsUpTo : List ℕ → ℕ → ℕ → List ℕ
 countsUpTo labels k zero = replicate k 0
 countsUpTo labels k (suc i) = countOne (countsUpTo labels k i) (getD labels i 0)
 
--- any other becomes its sum over the sum's norm, where that is above 0
+-- a group's centre: its sum over the sum's norm, where that is above 0; else the old one
 abbrev pub centerBy : List Float → List Float → List Float
 centerBy sum old = cond (lt plusZero (normOf sum)) (dividedBy (normOf sum) sum) old

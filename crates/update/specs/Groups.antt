@@ -65,7 +65,7 @@ pub record Updated (coords : List Float) (m k d : ℕ) (w w' : List Float) (u u'
   pub doubled : r ≡ updatedBy coords m k d w u .doubled
   pub small : r ≤ 64
 
--- ---- the rounds
+-- ---- the whole update
 pub record Settled (weights coords : List Float) (m k d : ℕ) (s s' : State) (r : ℕ) : Type 0 where
   pub state : s' ≡ updateOf weights coords m k d s .state
   pub doubled : r ≡ updateOf weights coords m k d s .doubled

@@ -12,6 +12,7 @@ use Rattle.bounds.specs.Shifts.{cosine}
 use Rattle.areas.specs.State.{State}
 use Rattle.sums.specs.Sums.{sumsUpTo, countsUpTo, centerBy}
 
+-- how well the leaves are served
 unfoldable pub putServed : List Float → State → State
 putServed v s =
     record {
@@ -71,6 +72,7 @@ reseedFrom coords d c worst u =
       doubled = u .doubled + cond (among worst (u .picked)) 1 0;
     }
 
+-- any other group gets the centre of its sum
 abbrev pub recenter : ℕ → List Float → ℕ → Update → Update
 recenter d sums c u =
     record {

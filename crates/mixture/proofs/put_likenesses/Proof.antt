@@ -1,7 +1,7 @@
 -- `mixture::put_likenesses` meets its contract. The loops' invariant: the first c likenesses of leaf i stand at the front of its row of the responsibilities; of the
 -- second loop, where the first ones stood there when it began. Assumes nothing.
 use mathlib.Core.Path.{_≡_, refl, ap, _∙_}
-use Prim.Native.Nat.{ℕ, _+_, _*_, _≤_, _-_}
+use Prim.Native.Nat.{ℕ, _+_, _≤_, _-_}
 use native.Mathlib.Nat.{mul-le-mul-right}
 use native.Mathlib.Omega.{arith}
 use lib.ListN.{length}

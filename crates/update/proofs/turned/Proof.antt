@@ -1,6 +1,5 @@
 -- `update::turned` meets its contract, by what `dot` and `clamp` ensure. Assumes nothing.
 use mathlib.Core.Path.{ap, ap₂, _∙_}
-use Prim.Native.Nat.{_-_}
 use borrow.Author.Needs.{needs}
 use lib.Ieee.{ofBits, ofInt}
 use Rattle.vector.specs.Vectors.{dotOf}
