@@ -1,8 +1,10 @@
--- The root of a positive float from its 53 leading digits, and the cases of the root: from x in units of 2^−1074, a whole number with e + 1 binary digits,
--- the definition's radicand is m·2^(e % 2)·2^52, and of that the nearest root is the one. Assumes nothing.
+-- The root of a positive float from its 53 leading digits, and the cases of the root: from x in units of 2^−1074, a whole number with e + 1
+-- binary digits, the definition's radicand is m·2^(e % 2)·2^52, and of that the nearest root is the one. Assumes nothing.
 use mathlib.Core.Path.{_≡_, refl, sym, ap, ap₂, _∙_, subst}
 use Prim.Native.Nat.{ℕ, zero, suc, _+_, _-_, _*_, _/_, _%_, _^_, _≤_, _<_}
-use native.Mathlib.Nat.{mul-assoc, mul-comm, mul-left-comm, mul-right-comm, mul-le-mul-right, mul-lt-mul-of-pos-right, mul-pos, le-trans, le-of-eq, lt-of-lt-of-le, lt-of-le-of-lt, lt-of-not-le, not-le-of-lt, lt-of-mul-lt-mul-right, pow-suc, mul-div-cancel}
+use native.Mathlib.Nat.{mul-assoc, mul-comm, mul-left-comm, mul-right-comm, mul-le-mul-right, mul-lt-mul-of-pos-right, mul-pos}
+use native.Mathlib.Nat.{le-trans, le-of-eq, lt-of-lt-of-le, lt-of-le-of-lt, lt-of-not-le, not-le-of-lt, lt-of-mul-lt-mul-right}
+use native.Mathlib.Nat.{pow-suc, mul-div-cancel}
 use native.Mathlib.Omega.{arith}
 use mathlib.Core.Bool.{true, false, true≢false}
 use lib.IntN.{ℤ, pos, negsuc}
@@ -16,16 +18,19 @@ use lib.Ieee.Scale.{round-same}
 use Rattle.float.specs.Arithmetic.{plusZero}
 use Rattle.float.specs.Parts.{unitsOf, SplitOf, valueOf}
 use Rattle.root.specs.Root.{nearRoot, placesOf, radicandOf, positiveRoot, rootOf}
-use Rattle.root.specs.Steps.{Nearest}
+use Rattle.root.specs.Steps.{Scaled, Open, Nearest}
 use Rattle.float.proofs.Tests.{zero-digits, not-below}
 use Rattle.float.proofs.Parts.{InUnits, units-split, units-size}
-use Rattle.root.proofs.Roots.{Paired, paired, paired-near, nearest-one}
+use Rattle.root.proofs.Roots.{Paired, paired, paired-near, nearest-one, near-root-is}
 use Rattle.float.proofs.Units.{parts-of, reached, places, in-units}
 
 -- ---- powers
 fours : (h : ℕ) → 4 ^ h ≡ 2 ^ h * 2 ^ h
 fours zero = refl
-fours (suc h) = pow-suc 4 h ∙ ap (λ (z : ℕ). z * 4) (fours h) ∙ twice (2 ^ h) ∙ ap₂ (λ (a b : ℕ). a * b) (sym (pow-suc 2 h)) (sym (pow-suc 2 h))
+fours (suc h) =
+    pow-suc 4 h ∙ ap (λ (z : ℕ). z * 4) (fours h)
+    ∙ twice (2 ^ h)
+    ∙ ap₂ (λ (a b : ℕ). a * b) (sym (pow-suc 2 h)) (sym (pow-suc 2 h))
   where
     twice : (p : ℕ) → p * p * 4 ≡ p * 2 * (p * 2)
     twice p = simp (mul-assoc, mul-comm, mul-left-comm) (omega arith)
@@ -34,7 +39,9 @@ fours (suc h) = pow-suc 4 h ∙ ap (λ (z : ℕ). z * 4) (fours h) ∙ twice (2 
 halves : (e : ℕ) → 2 ^ e ≡ 2 ^ (e % 2) * 4 ^ (e / 2)
 halves e =
     let a : e ≡ e % 2 + (e / 2 + e / 2) = omega arith in
-    ap (λ (z : ℕ). 2 ^ z) a ∙ pow-add 2 (e % 2) (e / 2 + e / 2) ∙ ap (λ (z : ℕ). 2 ^ (e % 2) * z) (pow-add 2 (e / 2) (e / 2) ∙ sym (fours (e / 2)))
+    ap (λ (z : ℕ). 2 ^ z) a
+    ∙ pow-add 2 (e % 2) (e / 2 + e / 2)
+    ∙ ap (λ (z : ℕ). 2 ^ (e % 2) * z) (pow-add 2 (e / 2) (e / 2) ∙ sym (fours (e / 2)))
 
 pub more-places : (h : ℕ) → 2 ^ (h + 485) ≡ 2 ^ (h + 1) * 2 ^ 484
 more-places h =
@@ -62,7 +69,8 @@ module _ (x : Float) (m e : ℕ) (s : SplitOf x m e) (w : InUnits x) where
   unfolding radicandOf
   radicand-is =
       ap (λ (b : ℕ). unitsOf x * 2 ^ 106 / 4 ^ b) places-are
-      ∙ ap (λ (z : ℕ). z / 4 ^ (e / 2 + 1)) (sym (mul-assoc (unitsOf x) (2 ^ 52) (2 ^ 54)) ∙ ap (λ (z : ℕ). z * 2 ^ 54) (units-split x w m e s) ∙ at-radicand)
+      ∙ ap (λ (z : ℕ). z / 4 ^ (e / 2 + 1))
+      (sym (mul-assoc (unitsOf x) (2 ^ 52) (2 ^ 54)) ∙ ap (λ (z : ℕ). z * 2 ^ 54) (units-split x w m e s) ∙ at-radicand)
       ∙ mul-div-cancel (m * 2 ^ (e % 2) * 2 ^ 52) (rw (fours (e / 2 + 1)) (mul-pos (pow-pos (e / 2 + 1)) (pow-pos (e / 2 + 1))))
 
   -- x as a fraction: the radicand's 4^(e / 2 + 1), in units of 2^−1180
@@ -79,24 +87,31 @@ module _ (x : Float) (m e : ℕ) (s : SplitOf x m e) (w : InUnits x) where
   pub near-digits : Nearest (m * 2 ^ (e % 2) * 2 ^ 52) (nearRoot (m * 2 ^ (e % 2) * 2 ^ 52))
   near-digits = paired-near paired-digits
 
-  -- the nearest root, in the units of 2^−1074
-  pub positive-root-is : (r : ℕ) → Nearest (m * 2 ^ (e % 2) * 2 ^ 52) r → valueOf r (e / 2 + 485) ≡ positiveRoot x
-  unfolding positiveRoot
-  positive-root-is r near =
-      round-same binary64 false (r * 2 ^ (e / 2 + 485)) (2 ^ 1074) (r * 2 ^ (e / 2 + 1)) (2 ^ 590) (pow-pos 1074) (pow-pos 590) (around r (e / 2))
-      ∙ ap₂ (λ (a b : ℕ). round binary64 false (a * 2 ^ b) (2 ^ 590))
-      (nearest-one (m * 2 ^ (e % 2) * 2 ^ 52) r (nearRoot (m * 2 ^ (e % 2) * 2 ^ 52)) near near-digits ∙ ap nearRoot (sym radicand-is))
-      (sym places-are)
-    where
-      around : (r h : ℕ) → r * 2 ^ (h + 485) * 2 ^ 590 ≡ r * 2 ^ (h + 1) * 2 ^ 1074
-      around r h =
-          ap (λ (z : ℕ). r * z * 2 ^ 590) (more-places h)
-          ∙ ap (λ (z : ℕ). z * 2 ^ 590) (sym (mul-assoc r (2 ^ (h + 1)) (2 ^ 484)))
-          ∙ mul-assoc (r * 2 ^ (h + 1)) (2 ^ 484) (2 ^ 590)
+  pub scaled : T (positive x) → Scaled x (e / 2 + 485)
+  scaled h =
+      let p = paired-digits in
+      record {
+        above = h;
+        first = rw radicand-is (mul-le-mul-right (2 ^ 52) (p .first));
+        last = rw radicand-is (mul-le-mul-right (2 ^ 52) (p .last));
+        places = omega (arith, places-are);
+        high = omega (arith, s .high);
+      }
 
-  -- of the digits as they stand in a word
-  pub root-by-word : (r : ℕ) → Nearest (m * 2 ^ (e % 2) % 2 ^ 64 * 2 ^ 52) r → valueOf r (e / 2 + 485) ≡ positiveRoot x
-  root-by-word r near = positive-root-is r (subst (λ (z : ℕ). Nearest (z * 2 ^ 52) r) (paired-digits .word) near)
+  -- of the digits as they stand in a word all places are open
+  pub begun : T (positive x) → Open x (2 ^ 52) (record { rest = m * 2 ^ (e % 2 + 1) % 2 ^ 64; step = 2 ^ 53; power = e / 2 + 485 })
+  begun h =
+      let p = paired-digits in
+      record {
+        n = 53;
+        y = 0;
+        highest = refl;
+        reach = refl;
+        under = omega (arith, p .word, p .last);
+        most = lit≤ tt;
+        fourfold = rw (p .word, radicand-is) (omega arith);
+        scaled = scaled h;
+      }
 
 -- ---- every positive float has its leading 53 digits
 pub apart : (a b : ℕ) → 2 ^ a < 2 ^ b → a < b
@@ -124,19 +139,26 @@ split-exists (fin false (suc m) e) p h =
     let u : n * up e * 2 ^ 1126 ≡ n * 2 ^ P * down e = in-units n e 1126 (le-trans (q .fine) (pow-mono {i = 1074} {j = 1126} (lit≤ tt))) in
     let P-low : 52 ≤ P = deep e (q .fine) in
     let k = 53 - z in
-    let w : n * 2 ^ P ≡ n * 2 ^ k * 2 ^ (P - k) = ap (λ (y : ℕ). n * y) (ap (λ (y : ℕ). 2 ^ y) (the-eq P (k + (P - k)) (omega arith)) ∙ pow-add 2 k (P - k)) ∙ sym (mul-assoc n (2 ^ k) (2 ^ (P - k))) in
-    let first : 2 ^ 52 ≤ n * 2 ^ k = le-trans (le-of-eq (ap (λ (y : ℕ). 2 ^ y) (the-eq 52 (z - 1 + k) (omega arith)) ∙ pow-add 2 (z - 1) k)) (mul-le-mul-right (2 ^ k) lo) in
-    let last : n * 2 ^ k < 2 ^ 53 = lt-of-lt-of-le (mul-lt-mul-of-pos-right hi (pow-pos k)) (le-of-eq (sym (ap (λ (y : ℕ). 2 ^ y) (the-eq 53 (z + k) (omega arith)) ∙ pow-add 2 z k))) in
+    let w : n * 2 ^ P ≡ n * 2 ^ k * 2 ^ (P - k) =
+    ap (λ (y : ℕ). n * y) (power k (P - k) P (omega arith)) ∙ sym (mul-assoc n (2 ^ k) (2 ^ (P - k))) in
+    let first : 2 ^ 52 ≤ n * 2 ^ k = le-trans (le-of-eq (power (z - 1) k 52 (omega arith))) (mul-le-mul-right (2 ^ k) lo) in
+    let last : n * 2 ^ k < 2 ^ 53 = lt-of-lt-of-le (mul-lt-mul-of-pos-right hi (pow-pos k)) (le-of-eq (sym (power z k 53 (omega arith)))) in
     let value : n * up e * 2 ^ 1126 ≡ n * 2 ^ k * 2 ^ (P - k) * down e = u ∙ ap (λ (y : ℕ). y * down e) w in
-    let under : n * 2 ^ k * 2 ^ (P - k) < 2 ^ 1024 * 2 ^ 1126 = lt-of-mul-lt-mul-right (down e) (lt-of-le-of-lt (le-of-eq (sym value)) (lt-of-lt-of-le (mul-lt-mul-of-pos-right (q .small) (pow-pos 1126)) (le-of-eq (mul-right-comm (2 ^ 1024) (down e) (2 ^ 1126))))) in
-    let far : 52 + (P - k) < 2150 = apart (52 + (P - k)) 2150 (lt-of-le-of-lt (le-trans (le-of-eq (pow-add 2 52 (P - k))) (mul-le-mul-right (2 ^ (P - k)) first)) (lt-of-lt-of-le under (le-of-eq (sym (pow-add 2 1024 1126))))) in
+    let under : n * 2 ^ k * 2 ^ (P - k) < 2 ^ 1024 * 2 ^ 1126 =
+    lt-of-mul-lt-mul-right (down e)
+    (lt-of-le-of-lt (le-of-eq (sym value))
+    (lt-of-lt-of-le (mul-lt-mul-of-pos-right (q .small) (pow-pos 1126)) (le-of-eq (mul-right-comm (2 ^ 1024) (down e) (2 ^ 1126))))) in
+    let far : 52 + (P - k) < 2150 =
+    apart (52 + (P - k)) 2150
+    (lt-of-le-of-lt (le-trans (le-of-eq (pow-add 2 52 (P - k))) (mul-le-mul-right (2 ^ (P - k)) first))
+    (lt-of-lt-of-le under (le-of-eq (sym (pow-add 2 1024 1126))))) in
     record { m = n * 2 ^ k; e = P - k; split = record { value = value; first = first; last = last; high = omega arith } }
   where
     the : (a b : ℕ) → a ≤ b → a ≤ b
     the a b e = e
 
-    the-eq : (a b : ℕ) → a ≡ b → a ≡ b
-    the-eq a b e = e
+    power : (a b c : ℕ) → c ≡ a + b → 2 ^ c ≡ 2 ^ a * 2 ^ b
+    power a b c h = ap (λ (y : ℕ). 2 ^ y) h ∙ pow-add 2 a b
 
     deep : (e : ℤ) → down e ≤ 2 ^ 1074 → 52 ≤ places e 1126
     deep (pos k) h = omega arith
@@ -182,5 +204,25 @@ of-endless (inf false) q r = refl
 of-endless (fin s m e) q r = absurd (true≢false r)
 
 -- ---- the root in its digits
-pub root-digits : (x : Float) (m e : ℕ) → T (positive x) → (s : SplitOf x m e) → (w : InUnits x) → valueOf (nearRoot (m * 2 ^ (e % 2) * 2 ^ 52)) (e / 2 + 485) ≡ rootOf x
-root-digits x m e p s w = positive-root-is x m e s w (nearRoot (m * 2 ^ (e % 2) * 2 ^ 52)) (near-digits x m e s w) ∙ of-positive x p
+-- the nearest root, in the units of 2^−1074
+pub root-is : (x : Float) {k r : ℕ} → Scaled x k → Nearest (radicandOf x) r → valueOf r k ≡ rootOf x
+unfolding positiveRoot
+root-is x {k} {r} s near =
+    let b = placesOf x in
+    let n = radicandOf x in
+    ap (λ (z : ℕ). valueOf r z) (s .places)
+    ∙ round-same binary64 false (r * 2 ^ (b + 484)) (2 ^ 1074) (r * 2 ^ b) (2 ^ 590) (pow-pos 1074) (pow-pos 590) (around r b)
+    ∙ ap (λ (z : ℕ). round binary64 false (z * 2 ^ b) (2 ^ 590)) (nearest-one n r (nearRoot n) near (near-root-is n (s .first) (s .last)))
+    ∙ of-positive x (s .above)
+  where
+    around : (r h : ℕ) → r * 2 ^ (h + 484) * 2 ^ 590 ≡ r * 2 ^ h * 2 ^ 1074
+    around r h =
+        ap (λ (z : ℕ). r * z * 2 ^ 590) (pow-add 2 h 484)
+        ∙ ap (λ (z : ℕ). z * 2 ^ 590) (sym (mul-assoc r (2 ^ h) (2 ^ 484)))
+        ∙ mul-assoc (r * 2 ^ h) (2 ^ 484) (2 ^ 590)
+
+pub root-digits : (x : Float) (m e : ℕ) → T (positive x) → SplitOf x m e → InUnits x
+    → valueOf (nearRoot (m * 2 ^ (e % 2) * 2 ^ 52)) (e / 2 + 485) ≡ rootOf x
+root-digits x m e p s w =
+    let n = m * 2 ^ (e % 2) * 2 ^ 52 in
+    root-is x (scaled x m e s w p) (subst (λ (z : ℕ). Nearest z (nearRoot n)) (sym (radicand-is x m e s w)) (near-digits x m e s w))

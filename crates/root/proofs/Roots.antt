@@ -1,18 +1,20 @@
--- Whole square roots on numbers alone: one place more of a root, the nearest whole number once no place is open, the whole part that the definition takes,
+-- Whole square roots: one place more of a root, the nearest whole number once no place is open, the whole part that the definition takes,
 -- and the nearest whole number, by squares that lie on both sides of the number. Assumes nothing.
-use mathlib.Core.Path.{_≡_, sym, ap, _∙_, subst}
-use mathlib.Core.Bool.{Bool, cond}
+use mathlib.Core.Path.{_≡_, sym, ap, ap₂, _∙_, subst}
+use mathlib.Core.Bool.{cond}
 use Prim.Native.Nat.{ℕ, zero, suc, _+_, _-_, _*_, _/_, _%_, _^_, _≤_, _<_}
 use Prim.{yes, no}
-use native.Mathlib.Nat.{mul-add, add-mul, mul-assoc, mul-comm, mul-left-comm, mul-le-mul-right, mul-le-mul, pow-suc, lt-of-not-le, lt-of-le-of-lt, not-le-of-lt, mul-div-cancel}
+use native.Mathlib.Nat.{mul-add, add-mul, mul-assoc, mul-comm, mul-left-comm, mul-le-mul-right, mul-le-mul, pow-suc}
+use native.Mathlib.Nat.{lt-of-not-le, lt-of-le-of-lt, not-le-of-lt}
 use native.Mathlib.Decide.{decLe}
-use native.Mathlib.Numerals.{sub-one}
 use native.Mathlib.Omega.{arith}
-use borrow.Author.Tests.{le-leb, lt-leb, le-ltb, lt-ltb}
+use borrow.Author.Tests.{le-leb, lt-leb}
 use lib.Dec.{leb, lit<}
 use lib.Pow.{pow-pos}
-use Rattle.root.specs.Root.{wholeRoot, nearRoot}
-use Rattle.root.specs.Steps.{Placed, roundedOf, Open, doubleOf, NearHalf, Nearest}
+use lib.Ieee.{Float}
+use Rattle.root.specs.Root.{wholeRoot, nearRoot, radicandOf}
+use Rattle.root.specs.Steps.{Open, Words, Found, Nearest}
+use Rattle.root.specs.declared.Square.{Square}
 
 -- ---- squares
 -- they are in the order of their roots
@@ -29,115 +31,116 @@ pub sq-up : (y : ℕ) → (2 * y + 1) * (2 * y + 1) ≡ 4 * (y * y) + 4 * y + 1
 sq-up y = omega (arith, sq-next (2 * y), sq-two y)
 
 -- ---- one place more
--- the square grows by what is taken off
-taken : (b y k : ℕ) → k * 2 * b + 2 * ((y + b) * (y + b)) ≡ (2 * y + b + k) * (2 * b) + 2 * (y * y)
-taken b y k = simp (mul-add, add-mul, mul-assoc, mul-comm, mul-left-comm) (omega arith)
+-- a place that is open is worth half of what is open
+record Halved (n top : ℕ) : Type 0 where
+  pub k : ℕ
+  pub is : 2 ^ n ≡ top * 2
+  pub worth : top ≡ 2 ^ k
 
-pub record Stepped (b y rest y' rest' : ℕ) : Type 0 where
-  pub double : rest' * b + 2 * (y' * y') ≡ rest * (2 * b) + 2 * (y * y)
-  pub under : rest' < 4 * y' + 2 * b
-  pub most : y' ≤ y + b
-
-stepped : {y rest step half y' rest' step' : ℕ} (b : ℕ) → step ≡ 2 * y + b → rest < 4 * y + 2 * (2 * b) → Placed y rest step half y' rest' step' → Stepped b y rest y' rest'
-stepped {y} {rest} {step} {half} {y'} {rest'} {step'} b e u p =
-    elim (decLe step rest) [
-      | yes h ↦
-          let f = le-ltb rest step h in
-          let k = rest - step in
-          let r : y' ≡ y + b = p .root ∙ ap (λ (t : Bool). cond t y (step - y)) f ∙ the (step - y) (y + b) (omega arith) in
-          let l : rest' ≡ k * 2 = p .left ∙ ap (λ (t : Bool). cond t (rest * 2) (k * 2)) f in
-          let w : rest ≡ 2 * y + b + k = omega arith in
-          rw (r, l) (record { double = taken b y k ∙ ap (λ (z : ℕ). z * (2 * b) + 2 * (y * y)) (sym w); under = omega arith; most = omega arith })
-      | no h ↦
-          let f = lt-ltb rest step (lt-of-not-le h) in
-          let r : y' ≡ y = p .root ∙ ap (λ (t : Bool). cond t y (step - y)) f in
-          let l : rest' ≡ rest * 2 = p .left ∙ ap (λ (t : Bool). cond t (rest * 2) ((rest - step) * 2)) f in
-          rw (r, l) (record { double = ap (λ (z : ℕ). z + 2 * (y * y)) (mul-assoc rest 2 b); under = omega (arith, lt-of-not-le h); most = omega arith })
-    ]
-  where
-    the : (a b : ℕ) → a ≡ b → a ≡ b
-    the a b e = e
-
--- what one place more keeps
-pub record Moved (n top rest y y' rest' step' : ℕ) : Type 0 where
-  pub still : Open (n - 1) (top / 2) step' rest' y'
-  pub double : doubleOf (n - 1) rest' y' ≡ doubleOf n rest y
-
-pub moved : (n : ℕ) {top step rest y y' rest' step' : ℕ} → 0 < n → Open n top step rest y → Placed y rest step (top / 2) y' rest' step' → Moved n top rest y y' rest' step'
-moved (suc k) {top} {step} {rest} {y} {y'} {rest'} {step'} h o p =
-    let w : 2 ^ suc k ≡ 2 * 2 ^ k = pow-suc 2 k ∙ mul-comm (2 ^ k) 2 in
-    let t : top ≡ 2 ^ k = o .highest ∙ ap (λ (z : ℕ). z / 2) (pow-suc 2 k) ∙ mul-div-cancel (2 ^ k) (lit< tt) in
-    let s = stepped (2 ^ k) (omega (arith, o .reach)) (omega (arith, o .under)) p in
-    let d : rest' * 2 ^ k + 2 * (y' * y') ≡ rest * 2 ^ suc k + 2 * (y * y) = s .double ∙ ap (λ (z : ℕ). rest * z + 2 * (y * y)) (sym w) in
-    record {
-      still = rw sub-one (record {
-        highest = ap (λ (z : ℕ). z / 2) t;
-        reach = omega (arith, p .next);
-        under = s .under;
-        most = omega (arith, s .most, o .most);
-        some = omega (arith, o .some);
-      });
-      double = rw sub-one d;
-    }
-
-pub carried : {n top rest y y' rest' step' r : ℕ} → Moved n top rest y y' rest' step' → NearHalf (doubleOf (n - 1) rest' y') r → NearHalf (doubleOf n rest y) r
-carried {r = r} m h = subst (λ (x : ℕ). NearHalf x r) (m .double) h
+halved : (n : ℕ) {top : ℕ} → top ≡ 2 ^ n / 2 → 0 < top → Halved n top
+halved zero e h = record { k = 0; is = omega arith; worth = omega arith }
+halved (suc k) e h = record { k = k; is = omega (arith, pow-suc 2 k); worth = omega (arith, pow-suc 2 k) }
 
 -- what the words need
-pub words : {n top step rest y : ℕ} → Open n top step rest y → (y ≤ step) × (step < 2 ^ 62) × (rest < 2 ^ 62) × (top / 2 < 2 ^ 62)
-words {n} {top} {step} {rest} {y} o =
-    let p : 0 < 2 ^ n = pow-pos n in
-    (omega (arith, o .reach), omega (arith, o .reach, o .highest, o .most), omega (arith, o .under, o .most), omega (arith, o .highest, o .most))
+pub words : {x : Float} {top less : ℕ} {s : Square} → 0 < top → (less + top) % 2 ^ 64 ≡ 0 → Open x top s → Words top less s
+words {x} {top} {less} {s} h l o =
+    let q = halved (o .n) (o .highest) h in
+    let b : s .step < 2 ^ 62 = omega (arith, o .reach, o .most) in
+    record { some = h; minus = l; low = omega (arith, q .is, o .reach); step = b; rest = omega (arith, o .under, o .most) }
 
-pub short : {n top step rest y : ℕ} → Open n top step rest y → y < 2 ^ 62
-short {n} {top} {step} {rest} {y} o = omega (arith, pow-pos n, o .most)
-
--- ---- the nearest root
-rounds-down : (t y : ℕ) → 0 < t → 2 * (y * y) ≤ t → t ≤ 2 * (y * y) + 2 * y → NearHalf t y
-rounds-down t zero p l h = record { above = omega arith; below = omega arith }
-rounds-down t (suc k) p l h =
-    let q : 2 * suc k - 1 ≡ 2 * k + 1 = omega arith in
-    record { above = omega (arith, ap (λ (v : ℕ). v * v) q, sq-up k, sq-next k); below = omega (arith, sq-up (suc k)) }
-
-rounds-up : (t y : ℕ) → 2 * (y * y) + 2 * y < t → t < 2 * ((y + 1) * (y + 1)) → NearHalf t (y + 1)
-rounds-up t y l h =
-    let q : 2 * (y + 1) - 1 ≡ 2 * y + 1 = omega arith in
-    record { above = omega (arith, ap (λ (v : ℕ). v * v) q, sq-up y); below = omega (arith, sq-up (y + 1)) }
-
--- once no place is open
-pub ended : {n top step rest y r : ℕ} → n ≡ 0 → Open n top step rest y → r ≡ roundedOf rest y → NearHalf (doubleOf n rest y) r
-ended {n} {top} {step} {rest} {y} {r} e o q =
-    let d : doubleOf n rest y ≡ rest + 2 * (y * y) = rw e (omega arith) in
-    let u : rest < 4 * y + 2 = subst (λ (k : ℕ). rest < 4 * y + 2 * 2 ^ k) e (o .under) in
-    rw (d, q) (round (omega (arith, o .some)) u)
-  where
-    round : 0 < rest + 2 * (y * y) → rest < 4 * y + 2 → NearHalf (rest + 2 * (y * y)) (roundedOf rest y)
-    round p u =
-        elim (decLe rest (y * 2)) [
-          | yes h ↦ rw (le-ltb (y * 2) rest h) (rounds-down (rest + 2 * (y * y)) y p (omega arith) (omega arith))
-          | no h ↦ rw (lt-ltb (y * 2) rest (lt-of-not-le h)) (rounds-up (rest + 2 * (y * y)) y (omega (arith, lt-of-not-le h)) (omega (arith, sq-next y)))
-        ]
-
--- the sizes of a nearest root: 2 ^ 52 to 2 ^ 53
-pub nearest : (x y : ℕ) → NearHalf (2 * x) y → 2 ^ 104 ≤ x → x ≤ 2 ^ 106 - 2 ^ 53 → Nearest x y
-nearest x y n lo hi =
-    let a : (2 * y - 1) * (2 * y - 1) < (2 ^ 54 - 1) * (2 ^ 54 - 1) = omega (arith, n .above) in
-    let b : 2 ^ 53 * 2 ^ 53 < (2 * y + 1) * (2 * y + 1) = omega (arith, n .below) in
+-- the place belongs to the root: the square grows by what is taken off
+pub reached : {x : Float} {top : ℕ} {s : Square} (d : ℕ) → 0 < top → d + s .step ≡ s .rest → Open x top s
+    → Open x (top / 2) (record { rest = d * 2; step = s .step + top * 3; power = s .power })
+reached {x} {top} {s} d h e o =
+    let q = halved (o .n) (o .highest) h in
+    let y = o .y in
+    let w : 4 * y + top * 2 + d ≡ s .rest = omega (arith, q .is, o .reach) in
     record {
-      above = omega (arith, n .above);
-      below = omega (arith, n .below);
-      first = omega (arith, sq-lt (2 ^ 53) (2 * y + 1) b);
-      last = omega (arith, sq-lt (2 * y - 1) (2 ^ 54 - 1) a);
+      n = q .k;
+      y = y + top;
+      highest = ap (λ (z : ℕ). z / 2) (q .worth);
+      reach = omega (arith, q .is, q .worth, o .reach);
+      under = omega (arith, q .is, q .worth, o .under);
+      most = omega (arith, q .is, q .worth, o .most);
+      fourfold =
+          ap (λ (z : ℕ). d * 2 * z + 4 * ((y + top) * (y + top))) (sym (q .worth))
+          ∙ grown top y d ∙ ap₂ (λ (z v : ℕ). z * v + 4 * (y * y)) w (sym (q .is)) ∙ o .fourfold;
+      scaled = o .scaled;
+    }
+  where
+    grown : (b y d : ℕ) → d * 2 * b + 4 * ((y + b) * (y + b)) ≡ (4 * y + b * 2 + d) * (b * 2) + 4 * (y * y)
+    grown b y d = simp (mul-add, add-mul, mul-assoc, mul-comm, mul-left-comm) (omega arith)
+
+-- the place does not belong to it
+pub missed : {x : Float} {top : ℕ} {s : Square} (t : ℕ) → 0 < top → s .rest < s .step → t + top ≡ s .step → Open x top s
+    → Open x (top / 2) (record { rest = s .rest * 2; step = t; power = s .power })
+missed {x} {top} {s} t h l e o =
+    let q = halved (o .n) (o .highest) h in
+    let around : s .rest * 2 * top ≡ s .rest * (top * 2) = simp (mul-assoc, mul-comm, mul-left-comm) in
+    record {
+      n = q .k;
+      y = o .y;
+      highest = ap (λ (z : ℕ). z / 2) (q .worth);
+      reach = omega (arith, q .is, q .worth, o .reach);
+      under = omega (arith, q .is, q .worth, o .reach);
+      most = omega (arith, q .is, q .worth, o .most);
+      fourfold = rw (← q .worth, around, ← q .is) (o .fourfold);
+      scaled = o .scaled;
     }
 
--- once all places are found, from the first
-pub all-places : (m r : ℕ) → NearHalf (doubleOf 53 m 0) r → 2 ^ 52 ≤ m → m ≤ 2 ^ 54 - 2 → Nearest (m * 2 ^ 52) r
-all-places m r n lo hi =
-    let e : doubleOf 53 m 0 ≡ 2 * (m * 2 ^ 52) = omega arith in
-    nearest (m * 2 ^ 52) r (subst (λ (t : ℕ). NearHalf t r) e n) (mul-le-mul-right (2 ^ 52) lo) (mul-le-mul-right (2 ^ 52) hi)
+-- ---- the nearest root
+abbrev Whole : ℕ → ℕ → Type 0
+Whole x y = (y * y ≤ x) × (x < (y + 1) * (y + 1))
+
+-- its sizes: 2 ^ 52 to 2 ^ 53
+nearest : (x y : ℕ) → (2 * y - 1) * (2 * y - 1) < 4 * x → 4 * x < (2 * y + 1) * (2 * y + 1) → 2 ^ 104 ≤ x → x ≤ 2 ^ 106 - 2 ^ 53
+    → Nearest x y
+nearest x y a b lo hi =
+    let p : (2 * y - 1) * (2 * y - 1) < (2 ^ 54 - 1) * (2 ^ 54 - 1) = omega arith in
+    let q : 2 ^ 53 * 2 ^ 53 < (2 * y + 1) * (2 * y + 1) = omega arith in
+    let f : 2 ^ 53 < 2 * y + 1 = sq-lt (2 ^ 53) (2 * y + 1) q in
+    record { above = a; below = b; first = omega arith; last = omega (arith, sq-lt (2 * y - 1) (2 ^ 54 - 1) p) }
+
+rounds-down : (x y : ℕ) → Whole x y → x ≤ y * y + y → 2 ^ 104 ≤ x → x ≤ 2 ^ 106 - 2 ^ 53 → Nearest x y
+rounds-down x zero w h lo hi = nearest x zero (omega arith) (omega arith) lo hi
+rounds-down x (suc k) w h lo hi =
+    let q : 2 * suc k - 1 ≡ 2 * k + 1 = omega arith in
+    nearest x (suc k) (omega (arith, ap (λ (v : ℕ). v * v) q, sq-up k, sq-next k, w .0)) (omega (arith, sq-up (suc k))) lo hi
+
+rounds-up : (x y : ℕ) → Whole x y → y * y + y < x → 2 ^ 104 ≤ x → x ≤ 2 ^ 106 - 2 ^ 53 → Nearest x (y + 1)
+rounds-up x y w h lo hi =
+    let q : 2 * (y + 1) - 1 ≡ 2 * y + 1 = omega arith in
+    nearest x (y + 1) (omega (arith, ap (λ (v : ℕ). v * v) q, sq-up y)) (omega (arith, w .1, sq-up (y + 1))) lo hi
+
+-- once no place is open
+pub none-open : {x : Float} {top : ℕ} {s : Square} → top ≤ 0 → Open x top s → Open x 0 s
+none-open {x} {top} {s} h o = let e : top ≡ 0 = omega arith in subst (λ (t : ℕ). Open x t s) e o
+
+pub found : {x : Float} {top : ℕ} {s : Square} → top ≤ 0 → Open x top s → Found s
+found {x} h o = record { x = x; none = none-open h o }
+
+module _ {x : Float} {s : Square} (o : Open x 0 s) where
+  closed : (s .step ≡ 4 * o .y + 1) × (s .rest < 8 * o .y + 4) × (s .rest + 4 * (o .y * o .y) ≡ 4 * radicandOf x)
+  closed =
+      let e : 2 ^ o .n ≡ 1 = omega (arith, pow-pos (o .n), o .highest) in
+      (rw e at (o .reach), rw e at (o .under), omega (arith, rw e at (o .fourfold)))
+
+  whole : (s .step / 4 ≡ o .y) × Whole (radicandOf x) (o .y)
+  whole = let c = closed in (omega (arith, c .0), (omega (arith, c .2), omega (arith, c .1, c .2, sq-next (o .y))))
+
+  pub ended-up : s .step / 4 * 4 < s .rest → Nearest (radicandOf x) (s .step / 4 + 1)
+  ended-up h =
+      let c = closed in
+      rw (whole .0) (rounds-up (radicandOf x) (o .y) (whole .1) (omega (arith, c .0, c .2)) (o .scaled .first) (o .scaled .last))
+
+  pub ended-down : s .rest ≤ s .step / 4 * 4 → Nearest (radicandOf x) (s .step / 4)
+  ended-down h =
+      let c = closed in
+      rw (whole .0) (rounds-down (radicandOf x) (o .y) (whole .1) (omega (arith, c .0, c .2)) (o .scaled .first) (o .scaled .last))
 
 -- there is but one
-pub one-between : (y z : ℕ) → (2 * y - 1) * (2 * y - 1) < (2 * z + 1) * (2 * z + 1) → (2 * z - 1) * (2 * z - 1) < (2 * y + 1) * (2 * y + 1) → y ≡ z
+pub one-between : (y z : ℕ) → (2 * y - 1) * (2 * y - 1) < (2 * z + 1) * (2 * z + 1) → (2 * z - 1) * (2 * z - 1) < (2 * y + 1) * (2 * y + 1)
+    → y ≡ z
 one-between y z p q =
     let a : 2 * y - 1 < 2 * z + 1 = sq-lt (2 * y - 1) (2 * z + 1) p in
     let b : 2 * z - 1 < 2 * y + 1 = sq-lt (2 * z - 1) (2 * y + 1) q in
@@ -147,9 +150,6 @@ pub nearest-one : (x y z : ℕ) → Nearest x y → Nearest x z → y ≡ z
 nearest-one x y z p q = one-between y z (omega (arith, p .above, q .below)) (omega (arith, q .above, p .below))
 
 -- ---- the root of the definition
-abbrev Whole : ℕ → ℕ → Type 0
-Whole x y = (y * y ≤ x) × (x < (y + 1) * (y + 1))
-
 grow : (x z : ℕ) → Whole (x / 4) z → Whole x (cond (leb ((2 * z + 1) * (2 * z + 1)) x) (2 * z + 1) (2 * z))
 grow x z h =
     elim (decLe ((2 * z + 1) * (2 * z + 1)) x) [
@@ -165,20 +165,20 @@ unfolding wholeRoot
 whole-root-is zero x h = (omega arith, omega arith)
 whole-root-is (suc k) x h = grow x (wholeRoot k (x / 4)) (whole-root-is k (x / 4) (omega (arith, pow-suc 4 k)))
 
-near-by : (x y : ℕ) → Whole x y → 0 < x → NearHalf (2 * x) (cond (leb x (y * y + y)) y (y + 1))
-near-by x y w p =
-    elim (decLe x (y * y + y)) [
-      | yes h ↦ rw (le-leb x (y * y + y) h) (rounds-down (2 * x) y (omega arith) (omega (arith, w .0)) (omega arith))
-      | no n ↦ rw (lt-leb x (y * y + y) (lt-of-not-le n)) (rounds-up (2 * x) y (omega (arith, lt-of-not-le n)) (omega (arith, w .1)))
-    ]
-
 pub near-root-is : (x : ℕ) → 2 ^ 104 ≤ x → x ≤ 2 ^ 106 - 2 ^ 53 → Nearest x (nearRoot x)
 unfolding nearRoot
-near-root-is x lo hi = nearest x (nearRoot x) (near-by x (wholeRoot 53 x) (whole-root-is 53 x (lt-of-le-of-lt hi (lit< tt))) (omega arith)) lo hi
+near-root-is x lo hi = near (wholeRoot 53 x) (whole-root-is 53 x (lt-of-le-of-lt hi (lit< tt)))
+  where
+    near : (y : ℕ) → Whole x y → Nearest x (cond (leb x (y * y + y)) y (y + 1))
+    near y w =
+        elim (decLe x (y * y + y)) [
+          | yes h ↦ rw (le-leb x (y * y + y) h) (rounds-down x y w h lo hi)
+          | no n ↦ rw (lt-leb x (y * y + y) (lt-of-not-le n)) (rounds-up x y w (lt-of-not-le n) lo hi)
+        ]
 
 -- ---- a number of 53 digits, or one place up: 53 or 54 digits
 pub record Paired (m b : ℕ) : Type 0 where
-  pub word : m * 2 ^ b % 2 ^ 64 ≡ m * 2 ^ b
+  pub word : m * 2 ^ (b + 1) % 2 ^ 64 ≡ m * 2 ^ b * 2
   pub first : 2 ^ 52 ≤ m * 2 ^ b
   pub last : m * 2 ^ b ≤ 2 ^ 54 - 2
 
@@ -189,9 +189,6 @@ paired m (suc (suc b)) lo hi h = absurd (none h)
   where
     none : suc (suc b) < 2 → ⊥
     none h = omega arith
-
-pub paired-word : {m b : ℕ} → Paired m b → (2 ^ 52 ≤ m * 2 ^ b % 2 ^ 64) × (m * 2 ^ b % 2 ^ 64 ≤ 2 ^ 54 - 2)
-paired-word {m} {b} p = subst (λ (z : ℕ). (2 ^ 52 ≤ z) × (z ≤ 2 ^ 54 - 2)) (sym (p .word)) (p .first, p .last)
 
 -- with 52 places more it has 105 or 106 digits, and so a nearest root
 pub paired-near : {m b : ℕ} → Paired m b → Nearest (m * 2 ^ b * 2 ^ 52) (nearRoot (m * 2 ^ b * 2 ^ 52))

@@ -1,8 +1,7 @@
 -- `root::root` meets its contract: a case of `rootOf` for each answer. Assumes nothing.
-use mathlib.Core.Path.{_∙_}
 use lib.Ieee.{ofBits, div}
 use Rattle.float.proofs.Tests.{is-positive}
-use Rattle.root.proofs.RootOf.{of-zero, of-negative, of-positive, of-endless}
+use Rattle.root.proofs.RootOf.{of-zero, of-negative, of-endless}
 use Rattle.root.proofs.root.Statement.{statement}
 use Rattle.root.proofs.root.Tie as tie
 
@@ -16,11 +15,12 @@ returns-2 c = of-negative (c .before .before .args .x) (c .if2 .taken)
 
 positive-root-requires : tie.Need-positive-root-requires
 unfolding ofBits div
-positive-root-requires c κs = is-positive (c .before .before .before .args .x) (c .before .before .if1 .left) (c .before .if2 .left) (c .if3 .taken)
+positive-root-requires c κs =
+    is-positive (c .before .before .before .args .x) (c .before .before .if1 .left) (c .before .if2 .left) (c .if3 .taken)
 
 returns-3 : tie.Need-returns-3
 unfolding ofBits div
-returns-3 c = c .positive-root .ensures ∙ of-positive (c .before .before .before .before .args .x) (positive-root-requires (c .before) tt)
+returns-3 c = c .positive-root .ensures
 
 returns-4 : tie.Need-returns-4
 unfolding ofBits div
