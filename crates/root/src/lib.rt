@@ -19,7 +19,7 @@ struct Square {
     power: u64,
 }
 
-// All places of the root of x are open, and the highest needs 2^53.
+// All places of the root of x are open, and the highest needs twice its worth.
 fn begin(x: f64) -> Square
     requires { ⌜ T (positive x) ⌝ }
     ensures { λ r. ⌜ Open x (2 ^ 52) r ⌝ }
@@ -27,7 +27,7 @@ fn begin(x: f64) -> Square
     let s = float::split(x);
     Square {
         rest: s.m << (s.e % 2 + 1),
-        step: 9007199254740992,
+        step: TOP * 2,
         power: s.e / 2 + 485,
     }
 }
