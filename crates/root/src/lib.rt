@@ -11,15 +11,16 @@ ghost use Rattle.root.specs.Steps.{Words, Placed, Open, Found, Finished}
 // What the highest of the 53 places of a root is worth: 2^52.
 const TOP: u64 = 4503599627370496;
 
-// A root on its way: what is left of the number, how much of it the next place needs, and the exponent of the root in
-// units of 2^-1074.
+// A root on its way, of which y is found and n places are open. What is left of the number is `rest`: four times what
+// document 01's x * 2^(-2q) is above y^2, in units of 2^n. The next place needs `step` of it, 4 * y + 2^n. Once all is
+// found the root is y * 2^power, rounded, in units of 2^-1074.
 struct Square {
     rest: u64,
     step: u64,
     power: u64,
 }
 
-// All places of the root of x are open, and the highest needs twice its worth.
+// All 53 places of the root of x are open, and y is 0.
 fn begin(x: f64) -> Square
     requires { ⌜ T (positive x) ⌝ }
     ensures { λ r. ⌜ Open x (2 ^ 52) r ⌝ }
@@ -55,7 +56,7 @@ fn place(s: Square, top: u64, less: u64) -> Square
     }
 }
 
-// The root, once no place is open: y, a quarter of the step, and one more where what is left is above 4 * y.
+// The root, once no place is open: y, which is a quarter of the step, and one more where what is left is above 4 * y.
 fn finish(s: Square) -> f64
     requires { ⌜ Found s ⌝ }
     ensures { λ r. ⌜ Finished s r ⌝ }
