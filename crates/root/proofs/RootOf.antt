@@ -35,18 +35,17 @@ fours (suc h) =
     twice : (p : ℕ) → p * p * 4 ≡ p * 2 * (p * 2)
     twice p = simp (mul-assoc, mul-comm, mul-left-comm) (omega arith)
 
+pub pow-split : (a b c : ℕ) → c ≡ a + b → 2 ^ c ≡ 2 ^ a * 2 ^ b
+pow-split a b c h = ap (λ (z : ℕ). 2 ^ z) h ∙ pow-add 2 a b
+
 -- e is twice its half and its last digit
 halves : (e : ℕ) → 2 ^ e ≡ 2 ^ (e % 2) * 4 ^ (e / 2)
 halves e =
-    let a : e ≡ e % 2 + (e / 2 + e / 2) = omega arith in
-    ap (λ (z : ℕ). 2 ^ z) a
-    ∙ pow-add 2 (e % 2) (e / 2 + e / 2)
+    pow-split (e % 2) (e / 2 + e / 2) e (omega arith)
     ∙ ap (λ (z : ℕ). 2 ^ (e % 2) * z) (pow-add 2 (e / 2) (e / 2) ∙ sym (fours (e / 2)))
 
 pub more-places : (h : ℕ) → 2 ^ (h + 485) ≡ 2 ^ (h + 1) * 2 ^ 484
-more-places h =
-    let k : h + 485 ≡ h + 1 + 484 = omega arith in
-    ap (λ (z : ℕ). 2 ^ z) k ∙ pow-add 2 (h + 1) 484
+more-places h = pow-split (h + 1) 484 (h + 485) (omega arith)
 
 -- ---- the definition's parts, of a float that is taken apart
 module _ (x : Float) (m e : ℕ) (s : SplitOf x m e) (w : InUnits x) where
@@ -140,9 +139,10 @@ split-exists (fin false (suc m) e) p h =
     let P-low : 52 ≤ P = deep e (q .fine) in
     let k = 53 - z in
     let w : n * 2 ^ P ≡ n * 2 ^ k * 2 ^ (P - k) =
-    ap (λ (y : ℕ). n * y) (power k (P - k) P (omega arith)) ∙ sym (mul-assoc n (2 ^ k) (2 ^ (P - k))) in
-    let first : 2 ^ 52 ≤ n * 2 ^ k = le-trans (le-of-eq (power (z - 1) k 52 (omega arith))) (mul-le-mul-right (2 ^ k) lo) in
-    let last : n * 2 ^ k < 2 ^ 53 = lt-of-lt-of-le (mul-lt-mul-of-pos-right hi (pow-pos k)) (le-of-eq (sym (power z k 53 (omega arith)))) in
+    ap (λ (y : ℕ). n * y) (pow-split k (P - k) P (omega arith)) ∙ sym (mul-assoc n (2 ^ k) (2 ^ (P - k))) in
+    let first : 2 ^ 52 ≤ n * 2 ^ k = le-trans (le-of-eq (pow-split (z - 1) k 52 (omega arith))) (mul-le-mul-right (2 ^ k) lo) in
+    let last : n * 2 ^ k < 2 ^ 53 =
+    lt-of-lt-of-le (mul-lt-mul-of-pos-right hi (pow-pos k)) (le-of-eq (sym (pow-split z k 53 (omega arith)))) in
     let value : n * up e * 2 ^ 1126 ≡ n * 2 ^ k * 2 ^ (P - k) * down e = u ∙ ap (λ (y : ℕ). y * down e) w in
     let under : n * 2 ^ k * 2 ^ (P - k) < 2 ^ 1024 * 2 ^ 1126 =
     lt-of-mul-lt-mul-right (down e)
@@ -156,9 +156,6 @@ split-exists (fin false (suc m) e) p h =
   where
     the : (a b : ℕ) → a ≤ b → a ≤ b
     the a b e = e
-
-    power : (a b c : ℕ) → c ≡ a + b → 2 ^ c ≡ 2 ^ a * 2 ^ b
-    power a b c h = ap (λ (y : ℕ). 2 ^ y) h ∙ pow-add 2 a b
 
     deep : (e : ℤ) → down e ≤ 2 ^ 1074 → 52 ≤ places e 1126
     deep (pos k) h = omega arith
