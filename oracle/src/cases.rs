@@ -104,16 +104,20 @@ pub fn arithmetic<W: Write>(list: &mut List<W>) {
 
 fn exp_patterns() -> Vec<u64> {
     let mut exp = patterns(2);
-    for x in [709.0, -708.0, 0.5, -0.5, 1.0, -1.0, 88.0, -745.2] {
+    for x in [709.0, -708.0, 0.5, -0.5, 1.0, -1.0, 88.0, -745.0, -745.2] {
         exp.extend(around(x, 4));
     }
     // where x·1.4426950408889634 + 0.5 passes a whole number
-    for n in -1022..=1023 {
+    for n in -1075..=1023 {
         exp.extend(around((n as f64 - 0.5) / 1.4426950408889634, 1));
     }
     let mut g = SplitMix64::new(3);
     for _ in 0..2048 {
-        exp.push((g.next_f64() * 1420.0 - 710.0).to_bits());
+        exp.push((g.next_f64() * 1460.0 - 750.0).to_bits());
+    }
+    // where the answer is subnormal, and around it
+    for _ in 0..1024 {
+        exp.push((g.next_f64() * 39.0 - 746.0).to_bits());
     }
     exp
 }

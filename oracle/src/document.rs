@@ -1,4 +1,4 @@
-// Document 01's exponential and logarithm, as the comparison's Rust uses them.
+// Document 01's exponential, with #106 of document 02, and logarithm, as the comparison's Rust uses them.
 
 const H: u64 = 0x3FE6_2E42_FEE0_0000;
 const T: u64 = 0x3DEA_39EF_3579_3C76;
@@ -10,7 +10,7 @@ pub fn exp(x: f64) -> f64 {
     if x > 709.0 {
         return f64::INFINITY;
     }
-    if x < -708.0 {
+    if x < -745.0 {
         return 0.0;
     }
     let n = (x * 1.4426950408889634 + 0.5).floor();
@@ -19,8 +19,15 @@ pub fn exp(x: f64) -> f64 {
     for j in (1..=13).rev() {
         p = 1.0 + (r * p) / j as f64;
     }
-    // 2^n, n from -1021 to 1023, by its exponent's field
-    p * f64::from_bits(((n as i64 + 1023) as u64) << 52)
+    if n < -1021.0 {
+        return p * power(n + 200.0) * power(-200.0);
+    }
+    p * power(n)
+}
+
+// 2^n, n from -1022 to 1023, by its exponent's field
+fn power(n: f64) -> f64 {
+    f64::from_bits(((n as i64 + 1023) as u64) << 52)
 }
 
 pub fn ln(x: f64) -> f64 {

@@ -81,8 +81,30 @@ fn special() -> Vec<(u64, Case)> {
     all
 }
 
+// Five leaves along five axes in five groups. Their length says by how much a leaf is less like another group than its
+// own: 708.02, 720, 744.88 and 745.1. So its share there is the exponential of a number just below -708, of one between
+// the borders, and of numbers just above and just below -745, where it is 0.
+fn small_shares() -> Vec<(u64, Case)> {
+    let mut all = Vec::new();
+    for (length, small) in [(0.9971832, 0), (0.99723, 20), (0.9973222, 20), (0.997323, 0)] {
+        let leaf = |i: usize| Leaf { mean: (0..5).map(|j| if j == i { length } else { 0.0 }).collect(), weight: 1.0 };
+        let leaves: Vec<Leaf> = (0..5).map(leaf).collect();
+        for kappa in [Kappa::Free, Kappa::Shared] {
+            for rounds in [1, 100] {
+                let c = case(&leaves, &Settings { k: 5, rounds, seed: 7, kappa });
+                // behind four numbers and five labels, five shares a leaf
+                let shares = &c.1 .1[9..34];
+                assert_eq!(shares.iter().filter(|&&w| f64::from_bits(w).is_subnormal()).count(), small);
+                all.push(c);
+            }
+        }
+    }
+    all
+}
+
 pub fn mixture<W: Write>(list: &mut List<W>) {
     let mut all = special();
+    all.extend(small_shares());
     for (m, d) in [(1, 1), (1, 3), (2, 2), (3, 1), (5, 2), (6, 3), (8, 4), (12, 5), (20, 2), (33, 16), (64, 3), (100, 8), (7, 64), (3, 256)] {
         for k in (1..=m.min(64)).filter(|&k| k <= 3 || k == 5 || k == m.min(64)) {
             all.extend(sorts(m, d, k));

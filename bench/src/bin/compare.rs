@@ -7,10 +7,12 @@ use bench::port::Lent;
 use oracle::cases::bits;
 use oracle::rng::SplitMix64;
 
-// How many calls of each sort and of each answer were compared, and how many numbers.
+// How many calls of each sort and of each answer were compared, how many have a responsibility above 0 and below
+// 2^-1022, and how many numbers were compared.
 struct Seen {
     sorts: [u64; NAMES.len()],
     answers: [u64; 8],
+    small_shares: u64,
     numbers: u64,
 }
 
@@ -72,10 +74,13 @@ fn compare(c: &Call, at: u64, seen: &mut Seen) {
     }
     seen.sorts[c.sort] += 1;
     seen.answers[code as usize] += 1;
+    if code == 0 && got.responsibilities.iter().any(|r| r.is_subnormal()) {
+        seen.small_shares += 1;
+    }
 }
 
 fn kind(name: &str, make: fn(Fit, &mut SplitMix64) -> Call, fit: Fit, count: u64, seed: u64) {
-    let mut seen = Seen { sorts: [0; NAMES.len()], answers: [0; 8], numbers: 0 };
+    let mut seen = Seen { sorts: [0; NAMES.len()], answers: [0; 8], small_shares: 0, numbers: 0 };
     let mut g = SplitMix64::new(seed);
     for at in 0..count {
         compare(&make(fit, &mut g), at, &mut seen);
@@ -85,6 +90,9 @@ fn kind(name: &str, make: fn(Fit, &mut SplitMix64) -> Call, fit: Fit, count: u64
     println!("  leaves: {}", sorts.join("; "));
     let answers: Vec<String> = (0..8).map(|i| format!("{i}: {}", seen.answers[i])).collect();
     println!("  refusals (0 for none): {}", answers.join(", "));
+    if fit != Fit::Spherical {
+        println!("  with a responsibility above 0 and below 2^-1022: {}", seen.small_shares);
+    }
 }
 
 fn example() {

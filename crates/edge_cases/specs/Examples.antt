@@ -62,9 +62,9 @@ table =
     row (one (float (rootOf (number 4)))) (one (float (number 2)))
     ∷ row (one (float (rootOf minusZero))) (one (float minusZero))
     ∷ row (one (float (rootOf (fin false 1 (negsuc 1073))))) (one (float (fin false 1 (negsuc 536))))
-    -- exp 0 = 1; exp −709 = +0; ln 1 = +0; ln −0 = −infinity
+    -- exp 0 = 1; exp −746 = +0; ln 1 = +0; ln −0 = −infinity
     ∷ row (one (float (expOf plusZero))) (one (float (number 1)))
-    ∷ row (one (float (expOf (neg (number 709))))) (one (float plusZero))
+    ∷ row (one (float (expOf (neg (number 746))))) (one (float plusZero))
     ∷ row (one (float (lnOf (number 1)))) (one (float plusZero))
     ∷ row (one (float (lnOf minusZero))) (one (float (inf true)))
     -- estimate 0.5 at d = 4 is 2.5, at d = 1 is 0.5

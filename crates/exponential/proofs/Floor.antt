@@ -1,22 +1,26 @@
--- The floor of a float between −1022 and 2047/2, by adding 2^52 + 1023 to it and a comparison: y + 1023 is kept as an exact fraction, the rounded sum is its whole
--- part or one more, past 2^52, and the comparison says which. With the theorem that `floorOf` is the floor of every finite float. Assumes nothing.
+-- The floor of a float between −1022 and 2047/2, by adding 2^52 + 1023 to it and a comparison: y + 1023 is kept as an exact fraction, the
+-- rounded sum is its whole part or one more, past 2^52, and the comparison says which. With the theorem that `floorOf` is the floor of
+-- every finite float. Assumes nothing.
 use mathlib.Core.Path.{_≡_, refl, sym, ap, ap₂, _∙_, subst}
 use mathlib.Core.Logic.{_⊎_, inl, inr}
 use Prim.Native.Nat.{ℕ, zero, suc, _+_, _-_, _*_, _/_, _%_, _^_, _≤_, _<_}
-use native.Mathlib.Nat.{le-trans, lt-of-lt-of-le, mul-one, mul-comm, mul-assoc, mul-right-comm, mul-le-mul-right, mul-pos, le-div-iff-mul-le, div-lt-iff-lt-mul, div-mul-le-self, add-mul, lt-of-mul-lt-mul-right, mul-lt-mul-of-pos-right, pow-suc}
+use native.Mathlib.Nat.{le-trans, lt-of-lt-of-le, mul-one, mul-comm, mul-assoc, mul-right-comm, mul-le-mul-right, mul-pos}
+use native.Mathlib.Nat.{le-div-iff-mul-le, div-lt-iff-lt-mul, div-mul-le-self, add-mul, pow-suc}
+use native.Mathlib.Nat.{lt-of-mul-lt-mul-right, mul-lt-mul-of-pos-right}
 use native.Mathlib.Omega.{arith}
 use mathlib.Core.Bool.{Bool, true, false, not, _&&_, cond, true≢false}
 use lib.IntN.{ℤ, pos, negsuc, negℤ}
 use lib.Pow.{pow-pos}
 use lib.Dec.{T, ltb, ltb→lt, nltb→le, lit≤, lit<, not-T}
 use borrow.Author.Tests.{lt-ltb, le-ltb, le-leb, lt-leb}
-use lib.Ieee.{Float, nan, inf, fin, binary64, up, down, minus, round, sum, add, sub, neg, mul, lt, le, eq, isNan, ofInt, ofBits, toBits, fits}
+use lib.Ieee.{Float, nan, inf, fin, binary64, up, down, minus, round, sum, add}
+use lib.Ieee.{sub, neg, mul, lt, le, eq, isNan, ofInt, ofBits, toBits, fits}
 use lib.Ieee.Fits.{and-l, and-r, down-pos, round-fits, ofInt-fits}
 use lib.Ieee.Exact.{HasValue}
 use lib.Ieee.Back.{round-whole, whole-unique}
 use Rattle.float.specs.Arithmetic.{f64, number}
 use Rattle.exponential.specs.Exponential.{floorOf, turnsOf}
-use Rattle.exponential.specs.Steps.{inside, FieldOf, Lifted}
+use Rattle.exponential.specs.Steps.{inside, Span, FieldOf, digitsOf, Lifted}
 use Rattle.float.proofs.Order.{lt-or-ge, nlt-of-le}
 use Rattle.float.proofs.Whole.{own, sub-whole}
 use Rattle.float.proofs.Numbers.{whole-number}
@@ -25,25 +29,21 @@ use Rattle.float.proofs.Assemble.{whole-bits}
 use Rattle.float.proofs.Units.{parts-of}
 use Rattle.float.proofs.Bound.{Within, Over, Signed, Held, held-whole, round-signed, round-within, round-over}
 
--- −B ≤ y ≤ P / Q
-abbrev pub Span : ℕ → ℕ → ℕ → Float → Type 0
-Span B P Q nan = ⊥
-Span B P Q (inf s) = ⊥
-Span B P Q (fin true m e) = m * up e ≤ B * down e
-Span B P Q (fin false m e) = m * up e * Q ≤ P * down e
-
-inside-span : (x : Float) → T (inside x) → Span 708 709 1 x
+pub inside-span : (x : Float) → T (inside x) → Span 708 709 1 x
 unfolding ofInt neg le lt eq
 inside-span nan h = absurd h
 inside-span (inf true) h = absurd h
 inside-span (inf false) h = absurd h
 inside-span (fin true m e) h =
     let x = fin true m e in
-    let k : m * up e * 1 ≤ 708 * down e = nltb→le (708 * down e) (m * up e * 1) (not-T (lt x (neg (number 708))) (nlt-of-le x (neg (number 708)) (and-l (le (neg (number 708)) x) (le x (number 709)) h))) in
+    let a = and-l (le (neg (number 708)) x) (le x (number 709)) h in
+    let k : m * up e * 1 ≤ 708 * down e =
+    nltb→le (708 * down e) (m * up e * 1) (not-T (lt x (neg (number 708))) (nlt-of-le x (neg (number 708)) a)) in
     omega arith
 inside-span (fin false m e) h =
     let x = fin false m e in
-    nltb→le (709 * down e) (m * up e * 1) (not-T (lt (number 709) x) (nlt-of-le (number 709) x (and-r (le (neg (number 708)) x) (le x (number 709)) h)))
+    let b = and-r (le (neg (number 708)) x) (le x (number 709)) h in
+    nltb→le (709 * down e) (m * up e * 1) (not-T (lt (number 709) x) (nlt-of-le (number 709) x b))
 
 -- ---- x · c: a sign of its own, and a bound
 span-of : (s : Bool) (v : Float) (B P Q : ℕ) → Signed s v → (s ≡ true → Within B 1 v) → (s ≡ false → Within P Q v) → Span B P Q v
@@ -53,7 +53,7 @@ span-of false (inf t) B P Q g h k = k refl
 span-of s (fin true m e) B P Q g h k = omega (arith, h (sym g))
 span-of s (fin false m e) B P Q g h k = k (sym g)
 
-scaled : (a d C K L B : ℕ) → a ≤ B * d → B * C ≤ K * L → a * C * 1 ≤ K * (d * L)
+pub scaled : (a d C K L B : ℕ) → a ≤ B * d → B * C ≤ K * L → a * C * 1 ≤ K * (d * L)
 scaled a d C K L B h k =
     let x : a * C ≤ B * d * C = mul-le-mul-right C h in
     let y : B * C * d ≤ K * L * d = mul-le-mul-right d k in
@@ -69,7 +69,8 @@ mul-span (fin true m e) h =
     let n = m * up e * 3248660424278399 in
     let d = down e * 2251799813685248 in
     span-of true (round binary64 true n d) 1022 1023 1 (round-signed binary64 true n d)
-    (λ _. round-within binary64 true n d 1022 1 (mul-pos (down-pos e) (lit< tt)) (lit< tt) (held-whole binary64 1022 (lit≤ tt)) (scaled (m * up e) (down e) 3248660424278399 1022 2251799813685248 708 h (lit≤ tt)))
+    (λ _. round-within binary64 true n d 1022 1 (mul-pos (down-pos e) (lit< tt)) (lit< tt) (held-whole binary64 1022 (lit≤ tt))
+    (scaled (m * up e) (down e) 3248660424278399 1022 2251799813685248 708 h (lit≤ tt)))
     (λ q. absurd (true≢false q))
 mul-span (fin false m e) h =
     let n = m * up e * 3248660424278399 in
@@ -77,7 +78,8 @@ mul-span (fin false m e) h =
     let g : m * up e ≤ 709 * down e = omega arith in
     span-of false (round binary64 false n d) 1022 1023 1 (round-signed binary64 false n d)
     (λ q. absurd (true≢false (sym q)))
-    (λ _. round-within binary64 false n d 1023 1 (mul-pos (down-pos e) (lit< tt)) (lit< tt) (held-whole binary64 1023 (lit≤ tt)) (scaled (m * up e) (down e) 3248660424278399 1023 2251799813685248 709 g (lit≤ tt)))
+    (λ _. round-within binary64 false n d 1023 1 (mul-pos (down-pos e) (lit< tt)) (lit< tt) (held-whole binary64 1023 (lit≤ tt))
+    (scaled (m * up e) (down e) 3248660424278399 1023 2251799813685248 709 g (lit≤ tt)))
 
 -- ---- and 0.5
 held-half : Held binary64 2047 2
@@ -93,23 +95,30 @@ half-span (fin false m e) h =
     let d = down e * 2 in
     span-of false (round binary64 false n d) 1022 2047 2 (round-signed binary64 false n d) (λ q. absurd (true≢false (sym q)))
     (λ _. round-within binary64 false n d 2047 2 (mul-pos (down-pos e) (lit< tt)) (lit< tt) held-half (omega arith))
-half-span (fin true m e) h = go (ltb (m * up e * 2) (1 * down e)) (ltb (1 * down e) (m * up e * 2)) (ltb→lt (m * up e * 2) (1 * down e)) (nltb→le (1 * down e) (m * up e * 2))
+half-span (fin true m e) h =
+    go (ltb (m * up e * 2) (1 * down e)) (ltb (1 * down e) (m * up e * 2))
+    (ltb→lt (m * up e * 2) (1 * down e)) (nltb→le (1 * down e) (m * up e * 2))
   where
     go : (t u : Bool) → (T t → m * up e * 2 < 1 * down e) → (T (not u) → m * up e * 2 ≤ 1 * down e) →
-        Span 1022 2047 2 (cond t (round binary64 false (1 * down e - m * up e * 2) (down e * 2)) (round binary64 (true && u) (m * up e * 2 - 1 * down e) (down e * 2)))
+        Span 1022 2047 2
+        (cond t (round binary64 false (1 * down e - m * up e * 2) (down e * 2))
+        (round binary64 (true && u) (m * up e * 2 - 1 * down e) (down e * 2)))
     go true u f g =
         let n = 1 * down e - m * up e * 2 in
-        span-of false (round binary64 false n (down e * 2)) 1022 2047 2 (round-signed binary64 false n (down e * 2)) (λ q. absurd (true≢false (sym q)))
+        span-of false (round binary64 false n (down e * 2)) 1022 2047 2 (round-signed binary64 false n (down e * 2))
+        (λ q. absurd (true≢false (sym q)))
         (λ _. round-within binary64 false n (down e * 2) 2047 2 (mul-pos (down-pos e) (lit< tt)) (lit< tt) held-half (omega arith))
     go false true f g =
         let n = m * up e * 2 - 1 * down e in
         span-of true (round binary64 true n (down e * 2)) 1022 2047 2 (round-signed binary64 true n (down e * 2))
-        (λ _. round-within binary64 true n (down e * 2) 1022 1 (mul-pos (down-pos e) (lit< tt)) (lit< tt) (held-whole binary64 1022 (lit≤ tt)) (omega arith))
+        (λ _. round-within binary64 true n (down e * 2) 1022 1 (mul-pos (down-pos e) (lit< tt)) (lit< tt)
+        (held-whole binary64 1022 (lit≤ tt)) (omega arith))
         (λ q. absurd (true≢false q))
     go false false f g =
         let n = m * up e * 2 - 1 * down e in
         let z : n ≡ 0 = omega (arith, g tt) in
-        span-of false (round binary64 false n (down e * 2)) 1022 2047 2 (round-signed binary64 false n (down e * 2)) (λ q. absurd (true≢false (sym q)))
+        span-of false (round binary64 false n (down e * 2)) 1022 2047 2 (round-signed binary64 false n (down e * 2))
+        (λ q. absurd (true≢false (sym q)))
         (λ _. round-within binary64 false n (down e * 2) 2047 2 (mul-pos (down-pos e) (lit< tt)) (lit< tt) held-half (omega arith))
 
 pub turns-span : (x : Float) → T (inside x) → Span 1022 2047 2 (turnsOf x)
@@ -147,7 +156,8 @@ num-high (inf s) h = absurd h
 num-high (fin true m e) h = omega (arith, down-pos e)
 num-high (fin false m e) h = omega (arith, down-pos e)
 
-shift : (y : Float) → Span 1022 2047 2 y → add binary64 y (number 4503599627371519) ≡ round binary64 false (4503599627370496 * denOf y + numOf y) (denOf y)
+shift : (y : Float) → Span 1022 2047 2 y →
+    add binary64 y (number 4503599627371519) ≡ round binary64 false (4503599627370496 * denOf y + numOf y) (denOf y)
 unfolding add sum ofInt
 shift nan h = absurd h
 shift (inf s) h = absurd h
@@ -173,7 +183,8 @@ no-places m k q l o = omega (arith, pow-suc 2 k, pow-pos k, mul-le-mul-right (2 
     le-self : (q : ℕ) → 4503599627370496 ≤ 4503599627370496 + q
     le-self q = omega arith
 
-near-of : (v : Float) (q : ℕ) → q < 2047 → T (fits binary64 v) → Signed false v → Over (4503599627370496 + q) 1 v → Within (4503599627370496 + q + 1) 1 v → Near v q
+near-of : (v : Float) (q : ℕ) → q < 2047 → T (fits binary64 v) → Signed false v → Over (4503599627370496 + q) 1 v →
+    Within (4503599627370496 + q + 1) 1 v → Near v q
 near-of nan q l f s o w = absurd w
 near-of (inf t) q l f s o w = absurd w
 near-of (fin true m e) q l f s o w = absurd (true≢false s)
@@ -187,20 +198,20 @@ near-of (fin false zero e) q l f s o w = absurd (clash (down e) (up e) (down-pos
 near-of (fin false (suc m) (negsuc k)) q l f s o w = absurd (no-places (suc m) k q (parts-of binary64 false m (negsuc k) f .few) o)
 near-of (fin false (suc m) (pos k)) q l f s o w =
     let a = suc m * 2 ^ k in
-    let e : 4503599627370496 + (a - 4503599627370496) ≡ a = omega arith in
-    let h : a * 1 ≡ (4503599627370496 + (a - 4503599627370496)) * 1 = omega arith in
+    let b = 4503599627370496 + (a - 4503599627370496) in
+    let h : a * 1 ≡ b * 1 = omega arith in
     record {
       t = a - 4503599627370496;
       least = omega arith;
       most = omega arith;
-      value = whole-unique binary64 (fin false (suc m) (pos k)) (number (4503599627370496 + (a - 4503599627370496))) false (4503599627370496 + (a - 4503599627370496))
-          f (ofInt-fits binary64 (pos (4503599627370496 + (a - 4503599627370496)))) (refl, h) (own binary64 (4503599627370496 + (a - 4503599627370496)) (omega arith));
+      value = whole-unique binary64 (fin false (suc m) (pos k)) (number b) false b f (ofInt-fits binary64 (pos b)) (refl, h)
+          (own binary64 b (omega arith));
     }
 
 whole-low : (N D : ℕ) → 0 < D → D ≤ N → N < 2047 * D → (0 < N / D) × (N / D < 2047)
 whole-low N D d l h = (le-div-iff-mul-le d .1 (omega arith), div-lt-iff-lt-mul d .1 h)
 
-whole-next : (N D : ℕ) → 0 < D → N < (N / D + 1) * D
+pub whole-next : (N D : ℕ) → 0 < D → N < (N / D + 1) * D
 whole-next N D d = div-lt-iff-lt-mul d .0 (omega arith)
 
 near : (y : Float) → Span 1022 2047 2 y → Near (add binary64 y (number 4503599627371519)) (numOf y / denOf y)
@@ -218,8 +229,10 @@ near y h =
     let S = 4503599627370496 * D + N in
     subst (λ (v : Float). Near v q) (sym (shift y h))
     (near-of (round binary64 false S D) q (b .1) (round-fits binary64 false S D) (round-signed binary64 false S D)
-    (round-over binary64 S D (4503599627370496 + q) 1 d (lit< tt) (held-whole binary64 (4503599627370496 + q) (omega (arith, b .1))) (omega arith))
-    (round-within binary64 false S D (4503599627370496 + q + 1) 1 d (lit< tt) (held-whole binary64 (4503599627370496 + q + 1) (omega (arith, b .1))) (omega arith)))
+    (round-over binary64 S D (4503599627370496 + q) 1 d (lit< tt)
+    (held-whole binary64 (4503599627370496 + q) (omega (arith, b .1))) (omega arith))
+    (round-within binary64 false S D (4503599627370496 + q + 1) 1 d (lit< tt)
+    (held-whole binary64 (4503599627370496 + q + 1) (omega (arith, b .1))) (omega arith)))
 
 -- ---- y < t - 1023 says that y + 1023 < t
 ltb-iff : (x y u v : ℕ) → (x < y → u < v) → (u < v → x < y) → ltb x y ≡ ltb u v
@@ -279,7 +292,8 @@ lt-up (fin true m e) (fin false n d) t h l v =
     let K = t - 1023 in
     let g : t * down e ≡ K * down e + 1023 * down e = ap (λ (z : ℕ). z * down e) (back t 1023 l) ∙ add-mul K 1023 (down e) in
     some (m * up e) (down e) (n * up d) (down d) K (down-pos e) (down-pos d) (v .1)
-    ∙ ltb-iff 0 (m * up e + K * down e) (1023 * down e - m * up e) (t * down e) (λ p. omega (arith, down-pos e)) (λ p. omega (arith, down-pos e))
+    ∙ ltb-iff 0 (m * up e + K * down e) (1023 * down e - m * up e) (t * down e)
+    (λ p. omega (arith, down-pos e)) (λ p. omega (arith, down-pos e))
 
 lt-down : (y k : Float) (t : ℕ) → Span 1022 2047 2 y → t < 1023 → HasValue k true (1023 - t) 1 → lt y k ≡ ltb (numOf y) (t * denOf y)
 unfolding lt
@@ -338,7 +352,7 @@ quotient n d q D l h =
     omega arith
 
 -- c, the whole part of (a + (d − 1)) / d, is the least whole number not below a / d
-ceiling : (a d : ℕ) → 0 < d → (a ≤ (a + (d - 1)) / d * d) × ((a + (d - 1)) / d * d < a + d)
+pub ceiling : (a d : ℕ) → 0 < d → (a ≤ (a + (d - 1)) / d * d) × ((a + (d - 1)) / d * d < a + d)
 ceiling a d D =
     let c = (a + (d - 1)) / d in
     let l : c * d ≤ a + (d - 1) = div-mul-le-self (a + (d - 1)) d in
@@ -381,7 +395,8 @@ field-floor (fin true m e) h =
     let j : 1023 ≡ r + c = omega arith in
     let f : 1023 * d ≡ r * d + c * d = ap (λ (z : ℕ). z * d) j ∙ add-mul r c d in
     let g : (r + 1) * d ≡ r * d + 1 * d = add-mul r 1 d in
-    ap (λ (z : ℕ). minus z 1023) (quotient (1023 * d - a) d r (down-pos e) (omega (arith, b .0)) (omega (arith, b .1))) ∙ below-by c (omega arith)
+    ap (λ (z : ℕ). minus z 1023) (quotient (1023 * d - a) d r (down-pos e) (omega (arith, b .0)) (omega (arith, b .1)))
+    ∙ below-by c (omega arith)
 
 -- 2^52 + b less 2^52 + 1023, and less 1
 unbias : (b : ℕ) → b ≤ 2048 → sub binary64 (number (4503599627370496 + b)) (number 4503599627371519) ≡ ofInt binary64 (minus b 1023)
@@ -398,13 +413,14 @@ one-less t p l =
 pub lifted-whole : (n : ℤ) (u : Float) → Lifted n u → sub binary64 u (number 4503599627371519) ≡ ofInt binary64 n
 lifted-whole n u l = rw (l .value) (unbias (l .b) (omega (arith, l .field .most))) ∙ ap (ofInt binary64) (l .field .value)
 
-pub lifted-field : (n : ℤ) (u : Float) (l : Lifted n u) → toBits binary64 u % 4503599627370496 ≡ l .b
+pub lifted-field : (n : ℤ) (u : Float) (l : Lifted n u) → digitsOf u ≡ l .b
 lifted-field n u l =
     let m = l .field .most in
-    let e : toBits binary64 u ≡ 1074 * 4503599627370496 + (4503599627370496 + l .b) = ap (toBits binary64) (l .value) ∙ whole-bits (4503599627370496 + l .b) (omega arith) (omega arith) in
+    let e : toBits binary64 u ≡ 1074 * 4503599627370496 + (4503599627370496 + l .b) =
+    ap (toBits binary64) (l .value) ∙ whole-bits (4503599627370496 + l .b) (omega arith) (omega arith) in
     omega (arith, e)
 
-pub field-within : (n : ℤ) (u : Float) → Lifted n u → (0 < toBits binary64 u % 4503599627370496) × (toBits binary64 u % 4503599627370496 < 2047)
+pub field-within : (n : ℤ) (u : Float) → Lifted n u → (0 < digitsOf u) × (digitsOf u < 2047)
 field-within n u l = rw (lifted-field n u l) (l .field .least, l .field .most)
 
 pub lifted-number : (n : ℤ) (u : Float) → Lifted n u → T (not (isNan u))
@@ -422,25 +438,38 @@ module _ (y : Float) (h : Span 1022 2047 2 y) where
   }
 
   -- the comparison in code is that of the exact fraction with the whole number near it
-  tested : (t : ℕ) (s : Float) (r : Bool) → t ≤ 2048 → s ≡ number (4503599627370496 + t) → lt y (sub binary64 s (number 4503599627371519)) ≡ r → ltb (numOf y) (t * denOf y) ≡ r
+  tested : (t : ℕ) (s : Float) (r : Bool) → t ≤ 2048 → s ≡ number (4503599627370496 + t) →
+      lt y (sub binary64 s (number 4503599627371519)) ≡ r → ltb (numOf y) (t * denOf y) ≡ r
   tested t s r b e g =
       let k : sub binary64 s (number 4503599627371519) ≡ ofInt binary64 (minus t 1023) = rw e (unbias t (omega arith)) in
       sym (lt-shift y t h b) ∙ ap (lt y) (sym k) ∙ g
 
-  pub takes : (s : Float) → s ≡ add binary64 y (number 4503599627371519) → lt y (sub binary64 s (number 4503599627371519)) ≡ true → Lifted (floorOf y) (sub binary64 s (number 1))
+  pub takes : (s : Float) → s ≡ add binary64 y (number 4503599627371519) → lt y (sub binary64 s (number 4503599627371519)) ≡ true →
+      Lifted (floorOf y) (sub binary64 s (number 1))
   takes s e g =
       let c = near y h in
       let v = e ∙ c .value in
-      let i = is-field (c .t - 1) (under (numOf y) (denOf y) (c .t) (den-pos y) (c .least) (c .most) (tested (c .t) s true (omega (arith, c .most, bounds .1)) v g)) in
-      record { b = c .t - 1; field = i; value = rw v (one-less (c .t) (omega (arith, c .least, bounds .0)) (omega (arith, c .most, bounds .1))) }
+      let l : c .t ≤ 2048 = omega (arith, c .most, bounds .1) in
+      record {
+        b = c .t - 1;
+        field = is-field (c .t - 1) (under (numOf y) (denOf y) (c .t) (den-pos y) (c .least) (c .most) (tested (c .t) s true l v g));
+        value = rw v (one-less (c .t) (omega (arith, c .least, bounds .0)) l);
+      }
 
-  pub keeps : (s : Float) → s ≡ add binary64 y (number 4503599627371519) → lt y (sub binary64 s (number 4503599627371519)) ≡ false → Lifted (floorOf y) s
+  pub keeps : (s : Float) → s ≡ add binary64 y (number 4503599627371519) → lt y (sub binary64 s (number 4503599627371519)) ≡ false →
+      Lifted (floorOf y) s
   keeps s e g =
       let c = near y h in
       let v = e ∙ c .value in
-      record { b = c .t; field = is-field (c .t) (over (numOf y) (denOf y) (c .t) (den-pos y) (c .least) (c .most) (tested (c .t) s false (omega (arith, c .most, bounds .1)) v g)); value = v }
+      let l : c .t ≤ 2048 = omega (arith, c .most, bounds .1) in
+      record {
+        b = c .t;
+        field = is-field (c .t) (over (numOf y) (denOf y) (c .t) (den-pos y) (c .least) (c .most) (tested (c .t) s false l v g));
+        value = v;
+      }
 
--- ---- `floorOf` is the floor: n ≤ y < n + 1, where n is gain n − loss n and y is (gain − loss) / down e, each side times down e and with what is taken off on the other side
+-- ---- `floorOf` is the floor: n ≤ y < n + 1, where n is gain n − loss n and y is (gain − loss) / down e, each side times down e and with
+-- what is taken off on the other side
 abbrev pub gain : ℤ → ℕ
 gain (pos k) = k
 gain (negsuc k) = 0
@@ -457,7 +486,7 @@ no-gain : (c : ℕ) → gain (negℤ (pos c)) ≡ 0
 no-gain zero = refl
 no-gain (suc c) = refl
 
-all-loss : (c : ℕ) → loss (negℤ (pos c)) ≡ c
+pub all-loss : (c : ℕ) → loss (negℤ (pos c)) ≡ c
 all-loss zero = refl
 all-loss (suc c) = refl
 

@@ -1,22 +1,25 @@
--- The cases of four exponentials at once, each by the case of one exponential, and a turn and the end of the loop over their series. Assumes nothing.
+-- The cases of four exponentials at once, each by the case of one exponential, and a turn and the end of the loop over their series.
+-- Assumes nothing.
 use mathlib.Core.Path.{_≡_, refl, sym, ap, _∙_}
 use mathlib.Core.Bool.{Bool, true, false, _&&_, true≢false}
 use Prim.Native.Nat.{ℕ, zero, suc, _-_, _<_}
 use native.Mathlib.Omega.{arith}
 use lib.Dec.{T}
-use lib.Ieee.{Float, lt, neg, ofInt, ofBits}
+use lib.Ieee.{Float, binary64, mul, lt, neg, ofInt, ofBits}
 use Rattle.float.specs.Arithmetic.{f64, number, plusZero}
-use Rattle.exponential.specs.Exponential.{floorOf, turnsOf, expFrom, expOf}
+use Rattle.exponential.specs.Exponential.{expFrom, expOf}
 use Rattle.float.proofs.Fours.{four-of, each}
 use Rattle.exponential.specs.Fours.{exponentials}
-use Rattle.exponential.specs.Steps.{inside, allInside, raised, OnePower, PowersOf, AllInside, steppedFour, leftFour, seriesFour, onesFour, timesFour}
+use Rattle.exponential.specs.Steps.{inside, allInside, seriesOf, OnePower, PowersOf}
+use Rattle.exponential.specs.Steps.{AllInside, steppedFour, leftFour, seriesFour, onesFour, timesFour}
 use Rattle.float.specs.declared.Four.{Four}
-use Rattle.exponential.proofs.Exponential.{by-low, by-inside, by-whole}
+use Rattle.exponential.proofs.Exponential.{by-low, by-inner, inside-inner}
+use Rattle.exponential.proofs.Low.{by-inside}
 use Rattle.float.proofs.Tests.{of-true}
 
 -- one of four between the borders
-one-of : (x n w : Float) → T (inside x) → OnePower x n w → raised x n w ≡ expOf x
-one-of x n w h p = by-whole x n w (floorOf (turnsOf x)) (p .whole) (p .power) ∙ by-inside x h
+one-of : (x n w : Float) → T (inside x) → OnePower x n w → mul binary64 (seriesOf x n) w ≡ expOf x
+one-of x n w h p = by-inside x n w h (p .whole) (p .power) ∙ by-inner x (inside-inner x h .0) (inside-inner x h .1)
 
 pub all-inside : (x : Four) → allInside x ≡ true → AllInside x
 all-inside x k =
@@ -36,13 +39,14 @@ both-inside x y false q e f h = absurd (true≢false (sym h))
 
 -- the test of the lower border
 abbrev pub under : Float → Bool
-under x = lt x (neg (number 708))
+under x = lt x (neg (number 745))
 
 pub all-below : (x : Four) → under (x .a) && under (x .b) && under (x .c) && under (x .e) ≡ true
     → _≡_ {A = Four} (record { a = plusZero; b = plusZero; c = plusZero; e = plusZero }) (exponentials x)
 all-below x k =
     let t = each (under (x .a)) (under (x .b)) (under (x .c)) (under (x .e)) k in
-    four-of expOf x plusZero plusZero plusZero plusZero (by-low (x .a) (t .first)) (by-low (x .b) (t .second)) (by-low (x .c) (t .third)) (by-low (x .e) (t .last))
+    four-of expOf x plusZero plusZero plusZero plusZero
+    (by-low (x .a) (t .first)) (by-low (x .b) (t .second)) (by-low (x .c) (t .third)) (by-low (x .e) (t .last))
 
 -- ---- the series of each of the four
 
@@ -61,8 +65,8 @@ pub series-end : (r p : Four) (j : ℕ) → j ≡ 0 → seriesFour j r p ≡ p
 unfolding expFrom
 series-end r p j e = rw e
 
-four-raised : (x n w : Four) → AllInside x → PowersOf x n w → timesFour (seriesFour 13 (leftFour x n) onesFour) w ≡ exponentials x
-four-raised x n w h p =
+four-times : (x n w : Four) → AllInside x → PowersOf x n w → timesFour (seriesFour 13 (leftFour x n) onesFour) w ≡ exponentials x
+four-times x n w h p =
     four-of expOf x _ _ _ _
     (one-of (x .a) (n .a) (w .a) (h .at-a) (p .at-a))
     (one-of (x .b) (n .b) (w .b) (h .at-b) (p .at-b))
@@ -70,5 +74,7 @@ four-raised x n w h p =
     (one-of (x .e) (n .e) (w .e) (h .at-e) (p .at-e))
 
 -- what is left of each x, its series, and that times the power
-pub four-done : (x n w r p v : Four) → AllInside x → PowersOf x n w → r ≡ leftFour x n → p ≡ seriesFour 13 r onesFour → v ≡ timesFour p w → v ≡ exponentials x
-four-done x n w r p v h k d e f = f ∙ ap (λ (z : Four). timesFour z w) (e ∙ ap (λ (z : Four). seriesFour 13 z onesFour) d) ∙ four-raised x n w h k
+pub four-done : (x n w r p v : Four) → AllInside x → PowersOf x n w → r ≡ leftFour x n → p ≡ seriesFour 13 r onesFour →
+    v ≡ timesFour p w → v ≡ exponentials x
+four-done x n w r p v h k d e f =
+    f ∙ ap (λ (z : Four). timesFour z w) (e ∙ ap (λ (z : Four). seriesFour 13 z onesFour) d) ∙ four-times x n w h k

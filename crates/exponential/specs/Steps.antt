@@ -1,11 +1,11 @@
--- What the inner functions of this crate promise one another: the field of a power of two, and the series of four. No definition of document 01 stands on this
--- file. Definitions only.
+-- What the inner functions of this crate promise one another: the field of a power of two, and the series of four. No
+-- definition of document 01 stands on this file. Definitions only.
 use mathlib.Core.Path.{_≡_}
-use mathlib.Core.Bool.{Bool, false, _&&_}
-use Prim.Native.Nat.{ℕ, _+_, _<_}
+use mathlib.Core.Bool.{Bool, true, false, _&&_}
+use Prim.Native.Nat.{ℕ, _+_, _*_, _%_, _≤_, _<_}
 use lib.Dec.{T}
 use lib.IntN.{ℤ}
-use lib.Ieee.{Float, fin, binary64, minus, add, mul, div, neg, le, ofInt}
+use lib.Ieee.{Float, nan, inf, fin, binary64, up, down, minus, add, mul, div, neg, lt, le, ofInt, toBits}
 use Rattle.float.specs.Arithmetic.{f64, number}
 use Rattle.float.specs.declared.Four.{Four}
 use Rattle.exponential.specs.Exponential.{expFrom, leftOf, floorOf, turnsOf}
@@ -16,11 +16,26 @@ use Rattle.exponential.specs.Exponential.{expFrom, leftOf, floorOf, turn
 abbrev pub inside : Float → Bool
 inside x = le (neg (number 708)) x && le x (number 709)
 
+-- −745 ≤ x < −708
+abbrev pub low : Float → Bool
+low x = le (neg (number 745)) x && lt x (neg (number 708))
+
+-- −B ≤ y ≤ P / Q
+abbrev pub Span : ℕ → ℕ → ℕ → Float → Type 0
+Span B P Q nan = ⊥
+Span B P Q (inf s) = ⊥
+Span B P Q (fin true m e) = m * up e ≤ B * down e
+Span B P Q (fin false m e) = m * up e * Q ≤ P * down e
+
 -- b is the exponent's field of the normal number 2^n
 pub record FieldOf (n : ℤ) (b : ℕ) : Type 0 where
   pub value : minus b 1023 ≡ n
   pub least : 0 < b
   pub most : b < 2047
+
+-- the 52 last binary digits of a float's pattern
+abbrev pub digitsOf : Float → ℕ
+digitsOf u = toBits binary64 u % 4503599627370496
 
 -- u is 2^52 + b, b being that field
 pub record Lifted (n : ℤ) (u : Float) : Type 0 where
@@ -28,9 +43,9 @@ pub record Lifted (n : ℤ) (u : Float) : Type 0 where
   pub field : FieldOf n b
   pub value : u ≡ number (4503599627370496 + b)
 
--- the series at the rest of x, n being a whole number as a float, times w
-abbrev pub raised : Float → Float → Float → Float
-raised x n w = mul binary64 (expFrom 13 (leftOf x n) (number 1)) w
+-- the series at the rest of x, n being a whole number as a float
+abbrev pub seriesOf : Float → Float → Float
+seriesOf x n = expFrom 13 (leftOf x n) (number 1)
 
 -- ---- four exponentials at once
 
@@ -39,21 +54,39 @@ abbrev pub stepped : Float → Float → Float → Float
 stepped r p j = add binary64 (f64 0x3FF0000000000000) (div binary64 (mul binary64 r p) j)
 
 abbrev pub steppedFour : Four → Four → Float → Four
-steppedFour r p j = record { a = stepped (r .a) (p .a) j; b = stepped (r .b) (p .b) j; c = stepped (r .c) (p .c) j; e = stepped (r .e) (p .e) j }
+steppedFour r p j =
+    record {
+      a = stepped (r .a) (p .a) j;
+      b = stepped (r .b) (p .b) j;
+      c = stepped (r .c) (p .c) j;
+      e = stepped (r .e) (p .e) j;
+    }
 
 abbrev pub leftFour : Four → Four → Four
-leftFour x n = record { a = leftOf (x .a) (n .a); b = leftOf (x .b) (n .b); c = leftOf (x .c) (n .c); e = leftOf (x .e) (n .e) }
+leftFour x n =
+    record { a = leftOf (x .a) (n .a); b = leftOf (x .b) (n .b); c = leftOf (x .c) (n .c); e = leftOf (x .e) (n .e) }
 
 -- the series of each from p, with j steps left; p begins at 1
 abbrev pub seriesFour : ℕ → Four → Four → Four
-seriesFour j r p = record { a = expFrom j (r .a) (p .a); b = expFrom j (r .b) (p .b); c = expFrom j (r .c) (p .c); e = expFrom j (r .e) (p .e) }
+seriesFour j r p =
+    record {
+      a = expFrom j (r .a) (p .a);
+      b = expFrom j (r .b) (p .b);
+      c = expFrom j (r .c) (p .c);
+      e = expFrom j (r .e) (p .e);
+    }
 
 abbrev pub onesFour : Four
 onesFour = record { a = number 1; b = number 1; c = number 1; e = number 1 }
 
 abbrev pub timesFour : Four → Four → Four
 timesFour p w =
-    record { a = mul binary64 (p .a) (w .a); b = mul binary64 (p .b) (w .b); c = mul binary64 (p .c) (w .c); e = mul binary64 (p .e) (w .e) }
+    record {
+      a = mul binary64 (p .a) (w .a);
+      b = mul binary64 (p .b) (w .b);
+      c = mul binary64 (p .c) (w .c);
+      e = mul binary64 (p .e) (w .e);
+    }
 
 -- n is x's whole number as a float, and w is 2^n
 pub record OnePower (x n w : Float) : Type 0 where

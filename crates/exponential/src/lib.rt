@@ -1,13 +1,15 @@
-// The exponential of an f64, operation by operation (document 01, 'Arithmetic under the Rust'), singly, four and eight at once. It takes any f64.
+// The exponential of an f64, operation by operation (document 01, 'Arithmetic under the Rust', and document 02, #106),
+// singly, four and eight at once. It takes any f64.
 ghost use mathlib.Core.Path.{_≡_};
 ghost use lib.Dec.{T};
 ghost use Rattle.exponential.specs.Exponential.{expOf, expBy, floorOf, turnsOf};
 ghost use Rattle.exponential.specs.Fours.{exponentials, eightOf};
-ghost use Rattle.exponential.specs.Steps.{raised, inside, Lifted, OnePower, steppedFour, leftFour, seriesFour, onesFour, timesFour, allInside, AllInside, PowersOf};
+ghost use Rattle.exponential.specs.Steps.{seriesOf, inside, low, Span, Lifted, OnePower, allInside, AllInside};
+ghost use Rattle.exponential.specs.Steps.{steppedFour, leftFour, seriesFour, onesFour, timesFour, PowersOf};
 
-// The series of the exponential at what is left of x past n, times w.
-fn raise(x: f64, n: f64, w: f64) -> f64
-    ensures { λ r. ⌜ r ≡ raised x n w ⌝ }
+// The series of the exponential at what is left of x past n: p = 1 + (r * p) / j, for j = 13 down to 1.
+fn series(x: f64, n: f64) -> f64
+    ensures { λ p. ⌜ p ≡ seriesOf x n ⌝ }
 {
     let r = (x - n * 0.6931471803691238) - n * 1.9082149292705877e-10;
     let p = 1.0;
@@ -23,17 +25,15 @@ fn raise(x: f64, n: f64, w: f64) -> f64
     let p = 1.0 + (r * p) / 4.0;
     let p = 1.0 + (r * p) / 3.0;
     let p = 1.0 + (r * p) / 2.0;
-    let p = 1.0 + (r * p) / 1.0;
-    p * w
+    1.0 + (r * p) / 1.0
 }
 
-// 2^52 + b, b being the exponent's field of 2^n and n the floor of y = x * 1.4426950408889634 + 0.5, for an x from -708 to 709. From 2^52 on an f64 is
-// a whole number, so adding 2^52 + 1023 rounds y to one; it is compared with y, since it may be the one above.
-fn lifted(x: f64) -> f64
-    requires { ⌜ T (inside x) ⌝ }
-    ensures { λ r. ⌜ Lifted (floorOf (turnsOf x)) r ⌝ }
+// 2^52 + b, b being the exponent's field of 2^n and n the floor of y, for a y from -1022 to 1023.5. From 2^52 on an
+// f64 is a whole number, so adding 2^52 + 1023 rounds y to one; it is compared with y, since it may be the one above.
+fn lifted(y: f64) -> f64
+    requires { ⌜ Span 1022 2047 2 y ⌝ }
+    ensures { λ r. ⌜ Lifted (floorOf y) r ⌝ }
 {
-    let y = x * 1.4426950408889634 + 0.5;
     let s = y + 4503599627371519.0;
     if y < s - 4503599627371519.0 {
         s - 1.0
@@ -53,7 +53,7 @@ fn power(x: f64) -> Exponent
     requires { ⌜ T (inside x) ⌝ }
     ensures { λ r. ⌜ OnePower x (r .n) (r .w) ⌝ }
 {
-    let u = lifted(x);
+    let u = lifted(x * 1.4426950408889634 + 0.5);
     let b = f64::to_bits(u) % 4503599627370496;
     Exponent {
         n: u - 4503599627371519.0,
@@ -61,16 +61,31 @@ fn power(x: f64) -> Exponent
     }
 }
 
-// The exponential between its borders.
+// The exponential from -708 to 709.
 fn inner_exp(x: f64) -> f64
     requires { ⌜ T (inside x) ⌝ }
     ensures { λ r. ⌜ r ≡ expBy x (floorOf (turnsOf x)) ⌝ }
 {
     let p = power(x);
-    raise(x, p.n, p.w)
+    series(x, p.n) * p.w
 }
 
-// The exponential: NaN for NaN, +infinity above 709, +0 below -708.
+// The exponential from -745 on and below -708, where n is from -1075 to -1021. Adding 200 to
+// x * 1.4426950408889634 + 0.5 is exact here, so b is the exponent's field of 2^(n + 200), and 202 where n is -1021.
+fn low_exp(x: f64) -> f64
+    requires { ⌜ T (low x) ⌝ }
+    ensures { λ r. ⌜ r ≡ expBy x (floorOf (turnsOf x)) ⌝ }
+{
+    let u = lifted(x * 1.4426950408889634 + 0.5 + 200.0);
+    let b = f64::to_bits(u) % 4503599627370496;
+    let p = series(x, u - 4503599627371719.0);
+    if b < 202 {
+        return p * float::pow2(b) * 6.223015277861142e-61;
+    }
+    p * float::pow2(b - 200)
+}
+
+// The exponential: NaN for NaN, +infinity above 709, +0 below -745.
 pub fn exp(x: f64) -> f64
     ensures { λ r. ⌜ r ≡ expOf x ⌝ }
 {
@@ -81,7 +96,10 @@ pub fn exp(x: f64) -> f64
         return 1.0 / 0.0;
     }
     if x < -708.0 {
-        return 0.0;
+        if x < -745.0 {
+            return 0.0;
+        }
+        return low_exp(x);
     }
     inner_exp(x)
 }
@@ -147,7 +165,7 @@ fn times4(p: float::Four, w: float::Four) -> float::Four
     }
 }
 
-// float::Four whole numbers as floats, and their powers of two.
+// Four whole numbers as floats, and their powers of two.
 struct Powers {
     n: float::Four,
     w: float::Four,
@@ -177,7 +195,7 @@ fn powers4(x: float::Four) -> Powers
     Powers { n, w }
 }
 
-// float::Four exponentials between their borders.
+// Four exponentials from -708 to 709.
 fn inner_exp4(x: float::Four) -> float::Four
     requires { ⌜ AllInside x ⌝ }
     ensures { λ r. ⌜ r ≡ exponentials x ⌝ }
@@ -195,11 +213,11 @@ fn all_inside(x: float::Four) -> bool
     is_inside(x.a) & is_inside(x.b) & is_inside(x.c) & is_inside(x.e)
 }
 
-// float::Four exponentials: zeros where all are below -708, side by side where all are between the borders, else one by one.
+// Four exponentials: zeros where all are below -745, side by side where all are from -708 to 709, else one by one.
 fn exp4(x: float::Four) -> float::Four
     ensures { λ r. ⌜ r ≡ exponentials x ⌝ }
 {
-    if (x.a < -708.0) & (x.b < -708.0) & (x.c < -708.0) & (x.e < -708.0) {
+    if (x.a < -745.0) & (x.b < -745.0) & (x.c < -745.0) & (x.e < -745.0) {
         return float::Four {
             a: 0.0,
             b: 0.0,
@@ -245,7 +263,7 @@ fn series8(r: float::Four, t: float::Four) -> Eight
     Eight { first: p, last: q }
 }
 
-// Eight exponentials between their borders.
+// Eight exponentials from -708 to 709.
 fn inner_exp8(x: float::Four, y: float::Four) -> Eight
     requires { ⌜ (AllInside x) × (AllInside y) ⌝ }
     ensures { λ r. ⌜ r ≡ eightOf (exponentials x) (exponentials y) ⌝ }
@@ -265,7 +283,7 @@ fn inner_exp8(x: float::Four, y: float::Four) -> Eight
     }
 }
 
-// Eight exponentials: side by side where all are between the borders, else by fours.
+// Eight exponentials: side by side where all are from -708 to 709, else by fours.
 pub fn exp8(x: float::Four, y: float::Four) -> Eight
     ensures { λ r. ⌜ r ≡ eightOf (exponentials x) (exponentials y) ⌝ }
 {
