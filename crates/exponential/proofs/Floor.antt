@@ -3,7 +3,7 @@
 -- every finite float. Assumes nothing.
 use mathlib.Core.Path.{_≡_, refl, sym, ap, ap₂, _∙_, subst}
 use mathlib.Core.Logic.{_⊎_, inl, inr}
-use Prim.Native.Nat.{ℕ, zero, suc, _+_, _-_, _*_, _/_, _%_, _^_, _≤_, _<_}
+use Prim.Native.Nat.{ℕ, zero, suc, _+_, _-_, _*_, _/_, _^_, _≤_, _<_}
 use native.Mathlib.Nat.{le-trans, lt-of-lt-of-le, mul-one, mul-comm, mul-assoc, mul-right-comm, mul-le-mul-right, mul-pos}
 use native.Mathlib.Nat.{le-div-iff-mul-le, div-lt-iff-lt-mul, div-mul-le-self, add-mul, pow-suc}
 use native.Mathlib.Nat.{lt-of-mul-lt-mul-right, mul-lt-mul-of-pos-right}

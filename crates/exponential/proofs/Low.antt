@@ -2,15 +2,15 @@
 -- And from −708 on n is not under −1021. Assumes nothing.
 use mathlib.Core.Path.{_≡_, refl, sym, ap, _∙_, subst}
 use mathlib.Core.Logic.{inl, inr}
-use Prim.Native.Nat.{ℕ, zero, suc, _+_, _-_, _*_, _/_, _%_, _^_, _≤_, _<_}
+use Prim.Native.Nat.{ℕ, zero, suc, _+_, _-_, _*_, _/_, _^_, _≤_, _<_}
 use native.Mathlib.Nat.{le-trans, le-of-eq, mul-comm, mul-right-comm, mul-one}
-use native.Mathlib.Nat.{mul-pos, mul-le-mul-right, add-mul, le-of-mul-le-mul-right, lt-of-mul-lt-mul-right, mul-lt-mul-of-pos-right}
+use native.Mathlib.Nat.{mul-le-mul-right, add-mul, le-of-mul-le-mul-right, lt-of-mul-lt-mul-right, mul-lt-mul-of-pos-right}
 use native.Mathlib.Omega.{arith}
 use mathlib.Core.Bool.{Bool, true, false, true≢false}
 use borrow.Author.Tests.{lt-ltb, le-ltb, lt-leb, le-leb}
 use lib.IntN.{ℤ, pos, negsuc, negℤ, _+ℤ_, pos-ne-negsuc}
-use lib.Dec.{T, ltb→lt, nltb→le, not-T, lit<, lit≤}
-use lib.Ieee.{Float, nan, inf, fin, binary64, up, down, minus, round, sum, add, sub, mul, neg, lt, le, eq, ofInt, ofBits, toBits, fits}
+use lib.Dec.{T, ltb→lt, nltb→le, not-T, lit≤}
+use lib.Ieee.{Float, nan, inf, fin, binary64, up, down, minus, round, sum, add, sub, mul, neg, lt, le, eq, ofInt, fits}
 use lib.Ieee.Fits.{and-l, and-r, down-pos, add-fits}
 use lib.Ieee.Exact.{HasValue}
 use Rattle.float.specs.Arithmetic.{f64, number}
@@ -47,7 +47,7 @@ pub by-inside : (x n w : Float) → T (inside x) → n ≡ ofInt binary64 (floor
     mul binary64 (seriesOf x n) w ≡ expBy x (floorOf (turnsOf x))
 by-inside x n w h p q = by-whole x n w (floorOf (turnsOf x)) (inside-high x (inside-span x h)) p q
 
--- ---- x below −708: y is from −1076 to −201
+-- ---- x below −708: y is from −1075 to −201
 abbrev Low : Float → Type 0
 Low nan = ⊥
 Low (inf s) = ⊥

@@ -3,13 +3,13 @@
 use mathlib.Core.Path.{_≡_, refl, sym, ap, _∙_, subst}
 use mathlib.Core.Logic.{inl, inr}
 use Prim.Native.Nat.{ℕ, zero, suc, _+_, _-_, _*_, _/_, _≤_, _<_}
-use native.Mathlib.Nat.{add-mul, suc-mul, mul-assoc, mul-comm, mul-right-comm}
-use native.Mathlib.Nat.{mul-le-mul-right, mul-pos, div-lt-iff-lt-mul, div-mul-le-self, lt-of-mul-lt-mul-right}
+use native.Mathlib.Nat.{add-mul, suc-mul, mul-assoc}
+use native.Mathlib.Nat.{mul-pos, div-lt-iff-lt-mul, div-mul-le-self, lt-of-mul-lt-mul-right}
 use native.Mathlib.Omega.{arith}
 use mathlib.Core.Bool.{Bool, true, false, not, _&&_, cond}
 use lib.IntN.{ℤ, pos, negℤ}
 use lib.Dec.{T, ltb, ltb→lt, nltb→le, lit<, lit≤}
-use lib.Ieee.{Float, nan, inf, fin, binary64, up, down, round, sum, add, mul, ofBits}
+use lib.Ieee.{Float, fin, binary64, up, down, round, sum, add, mul, ofBits}
 use lib.Ieee.Fits.{down-pos}
 use Rattle.float.specs.Arithmetic.{f64}
 use Rattle.float.proofs.Order.{lt-or-ge}
