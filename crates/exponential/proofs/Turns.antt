@@ -1,6 +1,6 @@
 -- The whole number n of an x from −745 to 709 lies within 257/512 of x·1.4426950408889634, by bounds that the format holds: each is kept
 -- by the two roundings. Assumes nothing.
-use mathlib.Core.Path.{_≡_, refl, sym, ap, _∙_, subst}
+use mathlib.Core.Path.{_≡_, refl, sym, ap, ap₂, _∙_, subst}
 use mathlib.Core.Logic.{inl, inr}
 use Prim.Native.Nat.{ℕ, zero, suc, _+_, _-_, _*_, _/_, _≤_, _<_}
 use native.Mathlib.Nat.{add-mul, suc-mul, mul-assoc}
@@ -13,7 +13,7 @@ use lib.Ieee.{Float, fin, binary64, up, down, round, sum, add, mul, ofBits}
 use lib.Ieee.Fits.{down-pos}
 use Rattle.float.specs.Arithmetic.{f64}
 use Rattle.float.proofs.Order.{lt-or-ge}
-use Rattle.float.proofs.Bound.{Within, held-whole, held-part, finite-of, round-signed, round-within, Rounds, rounds}
+use Rattle.float.proofs.Bound.{Within, Held, held-whole, held-part, finite-of, round-signed, round-within, Rounds, rounds}
 use Rattle.exponential.specs.Exponential.{floorOf, turnsOf}
 use Rattle.exponential.proofs.Floor.{scaled, whole-next, ceiling}
 
@@ -22,92 +22,90 @@ pub record Close (A D k : ℕ) : Type 0 where
   pub least : 512 * (k * D) ≤ 512 * A + 257 * D
   pub most : 512 * A ≤ 512 * (k * D) + 257 * D
 
-spread : (m k j D : ℕ) → (m * k + j) * D ≡ m * (k * D) + j * D
-spread m k j D = add-mul (m * k) j D ∙ ap (λ (z : ℕ). z + j * D) (mul-assoc m k D)
+spread : (k j D : ℕ) → (512 * k + j) * D ≡ 512 * (k * D) + j * D
+spread k j D = add-mul (512 * k) j D ∙ ap (λ (z : ℕ). z + j * D) (mul-assoc 512 k D)
 
--- A / D is rounded to b / d, and that and a half to g / f, whose floor is k
-module _ (A D b d g f k : ℕ) (t : Rounds binary64 A D b d) (F : 0 < f) (K : k ≤ 1076) where
-  above-most : Rounds binary64 (b * 2 + 1 * d) (d * 2) g f → g < (k + 1) * f → 512 * A ≤ 512 * (k * D) + 257 * D
-  above-most y u =
-      let x : (2 * k + 1) * D ≡ 2 * (k * D) + 1 * D = spread 2 k 1 D in
-      elim (lt-or-ge (A * 2) ((2 * k + 1) * D)) [
-        | inl p ↦ omega arith
-        | inr p ↦
-            let q = t .over (2 * k + 1) 2 (lit< tt) (held-part binary64 (2 * k + 1) 1 (omega arith) (lit≤ tt)) p in
-            let z : (2 * k + 1) * d ≡ 2 * (k * d) + 1 * d = spread 2 k 1 d in
-            let w : (k + 1) * (d * 2) ≡ k * d * 2 + 1 * (d * 2) =
-            add-mul k 1 (d * 2) ∙ ap (λ (v : ℕ). v + 1 * (d * 2)) (sym (mul-assoc k d 2)) in
-            let o = y .over (k + 1) 1 (lit< tt) (held-whole binary64 (k + 1) (omega arith)) (omega arith) in
-            absurd (clash g ((k + 1) * f) o u)
-      ]
-    where
-      clash : (g h : ℕ) → h ≤ g * 1 → g < h → ⊥
-      clash g h a b = omega arith
+close-by : (A D k : ℕ) → ((512 * k + 257) * D ≤ A * 512 → ⊥) → ((j : ℕ) → k ≡ suc j → A * 512 ≤ (512 * j + 255) * D → ⊥) → Close A D k
+close-by A D k h l =
+    record {
+      least = go k refl;
+      most = elim (lt-or-ge (A * 512) ((512 * k + 257) * D)) [
+        | inl p ↦ omega (arith, spread k 257 D)
+        | inr p ↦ absurd (h p)
+      ];
+    }
+  where
+    go : (i : ℕ) → k ≡ i → 512 * (k * D) ≤ 512 * A + 257 * D
+    go zero e = rw e (omega arith)
+    go (suc j) e = elim (lt-or-ge ((512 * j + 255) * D) (A * 512)) [
+      | inl p ↦ let x : k * D ≡ j * D + D = ap (λ (z : ℕ). z * D) e ∙ suc-mul j D in omega (arith, spread j 255 D)
+      | inr p ↦ absurd (l j e p)
+    ]
 
-  above-least : Rounds binary64 (b * 2 + 1 * d) (d * 2) g f → k * f ≤ g → 512 * (k * D) ≤ 512 * A + 257 * D
-  above-least y l = go k refl
-    where
-      go : (i : ℕ) → i ≡ k → 512 * (k * D) ≤ 512 * A + 257 * D
-      go zero e = rw (← e) (omega arith)
-      go (suc j) e =
-          let x : k * D ≡ j * D + D = ap (λ (z : ℕ). z * D) (sym e) ∙ suc-mul j D in
-          let p0 : (512 * j + 255) * D ≡ 512 * (j * D) + 255 * D = spread 512 j 255 D in
-          elim (lt-or-ge ((512 * j + 255) * D) (A * 512)) [
-            | inl p ↦ omega arith
-            | inr p ↦
-                let q = t .within (512 * j + 255) 512 (lit< tt) (held-part binary64 (512 * j + 255) 9 (omega arith) (lit≤ tt)) p in
-                let z : (512 * j + 255) * d ≡ 512 * (j * d) + 255 * d = spread 512 j 255 d in
-                let w : (512 * j + 511) * (d * 2) ≡ 512 * (j * d * 2) + 511 * (d * 2) =
-                spread 512 j 511 (d * 2) ∙ ap (λ (v : ℕ). 512 * v + 511 * (d * 2)) (sym (mul-assoc j d 2)) in
-                let o = y .within (512 * j + 511) 512 (lit< tt) (held-part binary64 (512 * j + 511) 9 (omega arith) (lit≤ tt))
-                (omega arith) in
-                let v : (512 * j + 511) * f ≡ 512 * (j * f) + 511 * f = spread 512 j 511 f in
-                let r : k * f ≡ j * f + f = ap (λ (z : ℕ). z * f) (sym e) ∙ suc-mul j f in
-                absurd (clash g (j * f) (k * f) ((512 * j + 511) * f) l r v o)
-          ]
-        where
-          clash : (g u w h : ℕ) → w ≤ g → w ≡ u + f → h ≡ 512 * u + 511 * f → g * 512 ≤ h → ⊥
-          clash g u w h l a b c = omega arith
+-- ---- A / D is rounded to b / d, that with a half added or taken off to g / f: a bound of p 512ths becomes one of q
+record Moved (A D g f p q : ℕ) : Type 0 where
+  over : p * D ≤ A * 512 → q * f ≤ g * 512
+  within : A * 512 ≤ p * D → g * 512 ≤ q * f
 
-  -- below zero the half is taken off, and k is the ceiling
-  below-most : Rounds binary64 (b * 2 - 1 * d) (d * 2) g f → 1 * d < b * 2 → g ≤ k * f → 512 * A ≤ 512 * (k * D) + 257 * D
-  below-most y o u =
-      let x : (512 * k + 257) * D ≡ 512 * (k * D) + 257 * D = spread 512 k 257 D in
-      elim (lt-or-ge (A * 512) ((512 * k + 257) * D)) [
-        | inl p ↦ omega arith
-        | inr p ↦
-            let q = t .over (512 * k + 257) 512 (lit< tt) (held-part binary64 (512 * k + 257) 9 (omega arith) (lit≤ tt)) p in
-            let z : (512 * k + 257) * d ≡ 512 * (k * d) + 257 * d = spread 512 k 257 d in
-            let w : (512 * k + 1) * (d * 2) ≡ 512 * (k * d * 2) + 1 * (d * 2) =
-            spread 512 k 1 (d * 2) ∙ ap (λ (v : ℕ). 512 * v + 1 * (d * 2)) (sym (mul-assoc k d 2)) in
-            let i = y .over (512 * k + 1) 512 (lit< tt) (held-part binary64 (512 * k + 1) 9 (omega arith) (lit≤ tt)) (omega arith) in
-            absurd (clash g (k * f) ((512 * k + 1) * f) u (spread 512 k 1 f) i)
-      ]
-    where
-      clash : (g u h : ℕ) → g ≤ u → h ≡ 512 * u + 1 * f → h ≤ g * 512 → ⊥
-      clash g u h a b c = omega arith
+held : (p : ℕ) → p < 1048576 → Held binary64 p 512
+held p l = held-part binary64 p 9 (omega arith) (lit≤ tt)
 
-  below-least : Rounds binary64 (b * 2 - 1 * d) (d * 2) g f → 1 * d < b * 2 → k * f < g + f → 512 * (k * D) ≤ 512 * A + 257 * D
-  below-least y o l = go k refl
+module _ (A D b d g f : ℕ) (t : Rounds binary64 A D b d) where
+  twice : (p : ℕ) → (p + 256) * (d * 2) ≡ p * d * 2 + 512 * d
+  twice p = add-mul p 256 (d * 2) ∙ ap₂ (λ (v w : ℕ). v + w) (sym (mul-assoc p d 2)) (omega arith)
+
+  added : Rounds binary64 (b * 2 + 1 * d) (d * 2) g f → (p : ℕ) → p < 1000000 → Moved A D g f p (p + 256)
+  added y p l =
+      record {
+        over = λ h. let q = t .over p 512 (lit< tt) (held p (omega arith)) h in
+            y .over (p + 256) 512 (lit< tt) (held (p + 256) (omega arith)) (omega (arith, twice p));
+        within = λ h. let q = t .within p 512 (lit< tt) (held p (omega arith)) h in
+            y .within (p + 256) 512 (lit< tt) (held (p + 256) (omega arith)) (omega (arith, twice p));
+      }
+
+  taken : Rounds binary64 (b * 2 - 1 * d) (d * 2) g f → 1 * d < b * 2 → (p : ℕ) → p < 1000000 → Moved A D g f (p + 256) p
+  taken y o p l =
+      let w : p * (d * 2) ≡ p * d * 2 = sym (mul-assoc p d 2) in
+      let x : (p + 256) * d ≡ p * d + 256 * d = add-mul p 256 d in
+      record {
+        over = λ h. let q = t .over (p + 256) 512 (lit< tt) (held (p + 256) (omega arith)) h in
+            y .over p 512 (lit< tt) (held p (omega arith)) (omega arith);
+        within = λ h. let q = t .within (p + 256) 512 (lit< tt) (held (p + 256) (omega arith)) h in
+            y .within p 512 (lit< tt) (held p (omega arith)) (omega arith);
+      }
+
+  -- k is the floor of g / f; below zero it is the ceiling
+  above : Rounds binary64 (b * 2 + 1 * d) (d * 2) g f → 0 < f → (k : ℕ) → k ≤ 1076 → k * f ≤ g → g < (k + 1) * f → Close A D k
+  above y F k K l u =
+      close-by A D k (λ h. most (added y (512 * k + 257) (omega arith) .over h))
+      (λ j e h. least j (ap (λ (z : ℕ). z * f) e ∙ suc-mul j f) (added y (512 * j + 255) (omega arith) .within h))
     where
-      go : (i : ℕ) → i ≡ k → 512 * (k * D) ≤ 512 * A + 257 * D
-      go zero e = rw (← e) (omega arith)
-      go (suc j) e =
-          let x : k * D ≡ j * D + D = ap (λ (z : ℕ). z * D) (sym e) ∙ suc-mul j D in
-          let p0 : (2 * j + 1) * D ≡ 2 * (j * D) + 1 * D = spread 2 j 1 D in
-          elim (lt-or-ge ((2 * j + 1) * D) (A * 2)) [
-            | inl p ↦ omega arith
-            | inr p ↦
-                let q = t .within (2 * j + 1) 2 (lit< tt) (held-part binary64 (2 * j + 1) 1 (omega arith) (lit≤ tt)) p in
-                let z : (2 * j + 1) * d ≡ 2 * (j * d) + 1 * d = spread 2 j 1 d in
-                let w : j * (d * 2) ≡ j * d * 2 = sym (mul-assoc j d 2) in
-                let i = y .within j 1 (lit< tt) (held-whole binary64 j (omega arith)) (omega arith) in
-                let r : k * f ≡ j * f + f = ap (λ (z : ℕ). z * f) (sym e) ∙ suc-mul j f in
-                absurd (clash g (j * f) (k * f) l r i)
-          ]
-        where
-          clash : (g u w : ℕ) → w < g + f → w ≡ u + f → g * 1 ≤ u → ⊥
-          clash g u w l a b = omega arith
+      most : (512 * k + 257 + 256) * f ≤ g * 512 → ⊥
+      most h =
+          let x : (512 * k + 257 + 256) * f ≡ 512 * (k * f) + 513 * f = ap (λ (z : ℕ). z * f) (omega arith) ∙ spread k 513 f in
+          omega (arith, add-mul k 1 f)
+
+      least : (j : ℕ) → k * f ≡ j * f + f → g * 512 ≤ (512 * j + 255 + 256) * f → ⊥
+      least j e h =
+          let x : (512 * j + 255 + 256) * f ≡ 512 * (j * f) + 511 * f = ap (λ (z : ℕ). z * f) (omega arith) ∙ spread j 511 f in
+          omega arith
+
+  below : Rounds binary64 (b * 2 - 1 * d) (d * 2) g f → 1 * d < b * 2 → 0 < f → (k : ℕ) → k ≤ 1076 → g ≤ k * f → k * f < g + f → Close A D k
+  below y o F k K u l =
+      close-by A D k (λ h. most (taken y o (512 * k + 1) (omega arith) .over (rw (plus k 1) h)))
+      (λ j e h. least j (ap (λ (z : ℕ). z * f) e ∙ suc-mul j f) (taken y o (512 * j) (omega arith) .within (wider j h)))
+    where
+      plus : (k c : ℕ) → 512 * k + c + 256 ≡ 512 * k + (c + 256)
+      plus k c = omega arith
+
+      most : (512 * k + 1) * f ≤ g * 512 → ⊥
+      most h = omega (arith, spread k 1 f)
+
+      wider : (j : ℕ) → A * 512 ≤ (512 * j + 255) * D → A * 512 ≤ (512 * j + 256) * D
+      wider j h = omega (arith, spread j 255 D, spread j 256 D)
+
+      least : (j : ℕ) → k * f ≡ j * f + f → g * 512 ≤ 512 * j * f → ⊥
+      least j e h = omega (arith, mul-assoc 512 j f)
 
 -- ---- n is k with the sign s, and k is close
 abbrev pub signed : Bool → ℕ → ℤ
@@ -127,17 +125,14 @@ none A D b d n t C h e =
       k = 0;
       whole = e;
       bound = lit≤ tt;
-      close = record {
-        least = omega arith;
-        most = elim (lt-or-ge (A * 512) (257 * D)) [
-          | inl p ↦ omega arith
-          | inr p ↦ absurd (clash (t .over 257 512 (lit< tt) (held-part binary64 257 9 (lit< tt) (lit≤ tt)) p))
-        ];
-      };
+      close = close-by A D 0 (λ p. clash (t .over 257 512 (lit< tt) (held 257 (lit< tt)) p)) (λ j q p. no-suc j q);
     }
   where
     clash : 257 * d ≤ b * 512 → ⊥
     clash o = omega arith
+
+    no-suc : (j : ℕ) → 0 ≡ suc j → ⊥
+    no-suc j q = omega arith
 
 small-floor : (g f : ℕ) → 0 < f → g * 2 ≤ 1 * f → g / f ≡ 0
 small-floor g f F h = let l : g / f < 1 = div-lt-iff-lt-mul F .1 (omega arith) in omega arith
@@ -170,10 +165,7 @@ half-above A D m e t h =
       k = k;
       whole = refl;
       bound = K;
-      close = record {
-        least = above-least A D b d g f k t F K r (div-mul-le-self g f);
-        most = above-most A D b d g f k t F K r (whole-next g f F);
-      };
+      close = above A D b d g f t r F k K (div-mul-le-self g f) (whole-next g f F);
     })
 
 half-below : (A D m : ℕ) (e : ℤ) → Rounds binary64 A D (m * up e) (down e) → m * up e * 1 ≤ 1075 * down e →
@@ -223,7 +215,7 @@ half-below A D m e t h =
           k = k;
           whole = refl;
           bound = K;
-          close = record { least = below-least A D b d g f k t F K r (o tt) (l .1); most = below-most A D b d g f k t F K r (o tt) (l .0) };
+          close = below A D b d g f t r (o tt) F k K (l .0) (l .1);
         })
       where
         top : (q g f : ℕ) → q * f < g + f → g * 1 ≤ 1075 * f → q ≤ 1076
