@@ -103,23 +103,19 @@ over-whole P Q R j z q o t hl r p h = div-within binary64 P R z (number j) p hl
     ratio (fin s m e) (inf b) h v = v
     ratio (fin s m e) (fin b n d) h v = (some n (up d) (down d) (down-pos d) (v .1), bound (m * up e) (down e) (down d) (n * up d) h (v .1))
 
-held-product : Held binary64 123 256
-held-product = held-part binary64 123 8 (lit< tt) (lit≤ tt)
+held-256 : (n : ℕ) → n < 1024 → Held binary64 n 256
+held-256 n l = held-part binary64 n 8 (omega arith) (lit≤ tt)
 
-held-half : Held binary64 123 512
-held-half = held-part binary64 123 9 (lit< tt) (lit≤ tt)
+held-512 : (n : ℕ) → n < 1024 → Held binary64 n 512
+held-512 n l = held-part binary64 n 9 (omega arith) (lit≤ tt)
 
-held-least : Held binary64 389 512
-held-least = held-part binary64 389 9 (lit< tt) (lit≤ tt)
+-- ---- r·p, and that over j
+product : (r p : Float) → Within 3 8 r → Between 23 41 32 p → Within 123 256 (mul binary64 r p)
+product r p h k = mul-within binary64 3 8 41 32 r p (lit< tt) (lit< tt) (held-256 123 (lit< tt)) h (k .most)
 
-held-most : Held binary64 635 512
-held-most = held-part binary64 635 9 (lit< tt) (lit≤ tt)
-
-held-low : Held binary64 133 256
-held-low = held-part binary64 133 8 (lit< tt) (lit≤ tt)
-
-held-high : Held binary64 379 256
-held-high = held-part binary64 379 8 (lit< tt) (lit≤ tt)
+quotient : (R j : ℕ) (r p : Float) → 0 < j → j ≤ 13 → 0 < R → R ≤ 256 * j → Held binary64 123 R → Within 3 8 r → Between 23 41 32 p →
+    Within 123 R (div binary64 (mul binary64 r p) (number j))
+quotient R j r p o t q l v h k = over-whole 123 256 R j (mul binary64 r p) (lit< tt) o t v l q (product r p h k)
 
 start : Between 23 41 32 (number 1)
 unfolding ofInt
@@ -129,23 +125,24 @@ start = record { sign = refl; least = lit≤ tt; most = lit≤ tt }
 step : (r p : Float) (j : ℕ) → 2 ≤ j → j ≤ 13 → Within 3 8 r → Between 23 41 32 p →
     Between 23 41 32 (add binary64 (number 1) (div binary64 (mul binary64 r p) (number j)))
 step r p j l t h k =
-    let z = mul-within binary64 3 8 41 32 r p (lit< tt) (lit< tt) held-product h (k .most) in
-    let w = over-whole 123 256 512 j (mul binary64 r p) (lit< tt) (omega arith) t held-half (omega arith) (lit< tt) z in
-    let v = add binary64 (number 1) (div binary64 (mul binary64 r p) (number j)) in
-    let b = one-plus 123 389 635 512 (div binary64 (mul binary64 r p) (number j)) (lit< tt) refl refl (lit< tt) held-least held-most w in
+    let z = div binary64 (mul binary64 r p) (number j) in
+    let w = quotient 512 j r p (omega arith) t (lit< tt) (omega arith) (held-512 123 (lit< tt)) h k in
+    let b = one-plus 123 389 635 512 z (lit< tt) refl refl (lit< tt) (held-512 389 (lit< tt)) (held-512 635 (lit< tt)) w in
     record {
       sign = b .sign;
-      least = over-wider 389 512 23 32 v (lit< tt) (lit≤ tt) (b .least);
-      most = within-wider 635 512 41 32 v (lit< tt) (lit≤ tt) (b .most);
+      least = over-wider 389 512 23 32 (add binary64 (number 1) z) (lit< tt) (lit≤ tt) (b .least);
+      most = within-wider 635 512 41 32 (add binary64 (number 1) z) (lit< tt) (lit≤ tt) (b .most);
     }
 
 -- the last step
+last-quotient : (r p : Float) → Within 3 8 r → Between 23 41 32 p → Within 123 256 (div binary64 (mul binary64 r p) (number 1))
+last-quotient r p h k = quotient 256 1 r p (lit< tt) (lit≤ tt) (lit< tt) (lit≤ tt) (held-256 123 (lit< tt)) h k
+
 last : (r p : Float) → Within 3 8 r → Between 23 41 32 p →
     Between 133 379 256 (add binary64 (number 1) (div binary64 (mul binary64 r p) (number 1)))
 last r p h k =
-    let z = mul-within binary64 3 8 41 32 r p (lit< tt) (lit< tt) held-product h (k .most) in
-    let w = over-whole 123 256 256 1 (mul binary64 r p) (lit< tt) (lit< tt) (lit≤ tt) held-product (omega arith) (lit< tt) z in
-    one-plus 123 133 379 256 (div binary64 (mul binary64 r p) (number 1)) (lit< tt) refl refl (lit< tt) held-low held-high w
+    one-plus 123 133 379 256 (div binary64 (mul binary64 r p) (number 1)) (lit< tt) refl refl (lit< tt)
+    (held-256 133 (lit< tt)) (held-256 379 (lit< tt)) (last-quotient r p h k)
 
 -- what the last step makes of each such p, the series is
 steps : (R : Float → Type 0) (r : Float) → Within 3 8 r →
@@ -178,7 +175,7 @@ product-over (fin false m e) (fin false n d) g s h w o k =
     (le-trans (mul-le-mul o k) (le-of-eq (mul-mul-mul-comm (m * up e) 8 (n * up d) 32))) in (
       round-signed binary64 false a c,
       round-over binary64 a c 23 256 (mul-pos (down-pos e) (down-pos d)) (lit< tt)
-          (held-part binary64 23 8 (lit< tt) (lit≤ tt)) x,
+          (held-256 23 (lit< tt)) x,
     )
 
 over-one : (z : Float) → Signed false z → Within 123 256 z → Over 23 256 z →
@@ -191,7 +188,7 @@ over-one (fin false m e) g w o =
     let c = 1 * 1 * down e in (
       round-signed binary64 false (m * up e * 1) c,
       round-over binary64 (m * up e * 1) c 23 256 (omega (arith, down-pos e)) (lit< tt)
-          (held-part binary64 23 8 (lit< tt) (lit≤ tt)) (omega arith),
+          (held-256 23 (lit< tt)) (omega arith),
     )
 
 one-over : (z : Float) → Signed false z → Within 123 256 z → Over 23 256 z → Over 279 256 (add binary64 (number 1) z)
@@ -201,17 +198,15 @@ one-over (inf t) g w o = absurd w
 one-over (fin true m e) g w o = absurd (true≢false g)
 one-over (fin false m e) g w o =
     round-over binary64 (1 * down e + m * up e * 1) (1 * down e) 279 256 (omega (arith, down-pos e)) (lit< tt)
-    (held-part binary64 279 8 (lit< tt) (lit≤ tt)) (omega arith)
+    (held-256 279 (lit< tt)) (omega arith)
 
 last-over : (r p : Float) → Within 3 8 r → Signed false r → Over 1 8 r → Between 23 41 32 p →
     Over 279 256 (add binary64 (number 1) (div binary64 (mul binary64 r p) (number 1)))
 last-over r p h g o k =
     let z = mul binary64 r p in
-    let b = mul-within binary64 3 8 41 32 r p (lit< tt) (lit< tt) held-product h (k .most) in
-    let w = over-whole 123 256 256 1 z (lit< tt) (lit< tt) (lit≤ tt) held-product (omega arith) (lit< tt) b in
     let m = product-over r p g (k .sign) h (k .most) o (k .least) in
-    let q = over-one z (m .0) b (m .1) in
-    one-over (div binary64 z (number 1)) (q .0) w (q .1)
+    let q = over-one z (m .0) (product r p h k) (m .1) in
+    one-over (div binary64 z (number 1)) (q .0) (last-quotient r p h k) (q .1)
 
 pub series-over : (r : Float) → Within 3 8 r → Signed false r → Over 1 8 r → Over 279 256 (expFrom 13 r (number 1))
 series-over r h g o = steps (Over 279 256) r h (λ p k. last-over r p h g o k) 12 (number 1) (lit≤ tt) start
