@@ -40,8 +40,10 @@ uint32_t mosterklomp_spherical_kmeans(
     double *work, size_t work_len, uint32_t *marks, size_t marks_len,
     double *cohesion, uint64_t *counts);
 
-/* The von Mises-Fisher mixture with k groups, the best of four runs. Fills labels (m), responsibilities (m * k, row by row), group_weights (k), directions (k * d),
- * concentrations (k) and logw (k); gives the number of groups, the log-likelihood and the counts. */
+/* The von Mises-Fisher mixture with k groups, the best of four runs. Fills labels (m), responsibilities (m * k, row by
+ * row), group_weights (k), directions (k * d), concentrations (k) and logw (k); gives the number of groups, the
+ * log-likelihood and the counts. After a round a responsibility is 0 only where its logarithm is below -745; a very
+ * small one is a subnormal number. */
 uint32_t mosterklomp_movmf_with(
     const double *weights, size_t m, const double *coords, size_t coords_len, size_t d, size_t k, size_t rounds, uint64_t seed, bool shared,
     uint32_t *labels, size_t labels_len, double *responsibilities, size_t responsibilities_len, double *group_weights, size_t group_weights_len,
