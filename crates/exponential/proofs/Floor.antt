@@ -360,11 +360,12 @@ ceiling a d D =
     let e : (c + 1) * d ≡ c * d + 1 * d = add-mul c 1 d in
     (omega arith, omega arith)
 
-below-by : (c : ℕ) → c ≤ 1023 → minus (1023 - c) 1023 ≡ negℤ (pos c)
-below-by zero h = refl
-below-by (suc k) h =
-    let e : 1023 - suc (1023 - suc k) ≡ k = omega arith in
-    rw (lt-leb 1023 (1023 - suc k) (omega arith)) (ap negsuc e)
+pub minus-below : (b k c : ℕ) → b + k ≡ c → minus b c ≡ negℤ (pos k)
+minus-below b zero c e = minus-same b c 0 0 (omega arith)
+minus-below b (suc k) c e = minus-same b c 0 (suc k) (omega arith) ∙ rw (lt-leb (suc k) 0 (omega arith)) (ap negsuc (one-less k))
+  where
+    one-less : (k : ℕ) → suc k - 1 ≡ k
+    one-less k = omega arith
 
 above-by : (q : ℕ) → minus (1023 + q) 1023 ≡ pos q
 above-by q =
@@ -396,7 +397,7 @@ field-floor (fin true m e) h =
     let f : 1023 * d ≡ r * d + c * d = ap (λ (z : ℕ). z * d) j ∙ add-mul r c d in
     let g : (r + 1) * d ≡ r * d + 1 * d = add-mul r 1 d in
     ap (λ (z : ℕ). minus z 1023) (quotient (1023 * d - a) d r (down-pos e) (omega (arith, b .0)) (omega (arith, b .1)))
-    ∙ below-by c (omega arith)
+    ∙ minus-below r c 1023 (omega arith)
 
 -- 2^52 + b less 2^52 + 1023, and less 1
 unbias : (b : ℕ) → b ≤ 2048 → sub binary64 (number (4503599627370496 + b)) (number 4503599627371519) ≡ ofInt binary64 (minus b 1023)

@@ -23,7 +23,7 @@ use Rattle.float.proofs.Bound.{part-value}
 use Rattle.exponential.specs.Exponential.{floorOf, turnsOf, isLow, expBy}
 use Rattle.exponential.specs.Steps.{inside, low, Span, digitsOf, Lifted, seriesOf}
 use Rattle.exponential.proofs.Exponential.{plus-200, by-whole, by-two}
-use Rattle.exponential.proofs.Floor.{inside-span, ceiling, loss, all-loss, lifted-field}
+use Rattle.exponential.proofs.Floor.{inside-span, minus-below, ceiling, loss, all-loss, lifted-field}
 use Rattle.exponential.proofs.Turns.{signed, close-whole}
 use Rattle.exponential.proofs.Rest.{from-745, from-708, past-708}
 
@@ -70,7 +70,7 @@ low-size (fin true m e) h =
     (omega arith, omega arith)
 
 -- y, whose floor is −k
-pub record LowTurns (y : Float) : Type 0 where
+record LowTurns (y : Float) : Type 0 where
   pub m : ℕ
   pub e : ℤ
   pub is : y ≡ fin true m e
@@ -219,13 +219,6 @@ loss-minus b c = elim (lt-or-ge b c) [
 
     behind : (b c : ℕ) → c ≤ b → 0 ≡ c - b
     behind b c l = omega arith
-
-minus-below : (b k c : ℕ) → b + k ≡ c → minus b c ≡ negℤ (pos k)
-minus-below b zero c e = minus-same b c 0 0 (omega arith)
-minus-below b (suc k) c e = minus-same b c 0 (suc k) (omega arith) ∙ rw (lt-leb (suc k) 0 (omega arith)) (ap negsuc (one-less k))
-  where
-    one-less : (k : ℕ) → suc k - 1 ≡ k
-    one-less k = omega arith
 
 -- u is what `lifted` gives for y + 200, and b are its last digits
 module _ (x u : Float) (h : T (low x)) (l : Lifted (floorOf (add binary64 (turnsOf x) (number 200))) u) where

@@ -103,15 +103,9 @@ over-whole P Q R j z q o t hl r p h = div-within binary64 P R z (number j) p hl
     ratio (fin s m e) (inf b) h v = v
     ratio (fin s m e) (fin b n d) h v = (some n (up d) (down d) (down-pos d) (v .1), bound (m * up e) (down e) (down d) (n * up d) h (v .1))
 
-held-256 : (n : ℕ) → n < 1024 → Held binary64 n 256
-held-256 n l = held-part binary64 n 8 (omega arith) (lit≤ tt)
-
-held-512 : (n : ℕ) → n < 1024 → Held binary64 n 512
-held-512 n l = held-part binary64 n 9 (omega arith) (lit≤ tt)
-
 -- ---- r·p, and that over j
 product : (r p : Float) → Within 3 8 r → Between 23 41 32 p → Within 123 256 (mul binary64 r p)
-product r p h k = mul-within binary64 3 8 41 32 r p (lit< tt) (lit< tt) (held-256 123 (lit< tt)) h (k .most)
+product r p h k = mul-within binary64 3 8 41 32 r p (lit< tt) (lit< tt) (held-part binary64 123 8 (lit< tt) (lit≤ tt)) h (k .most)
 
 quotient : (R j : ℕ) (r p : Float) → 0 < j → j ≤ 13 → 0 < R → R ≤ 256 * j → Held binary64 123 R → Within 3 8 r → Between 23 41 32 p →
     Within 123 R (div binary64 (mul binary64 r p) (number j))
@@ -126,8 +120,9 @@ step : (r p : Float) (j : ℕ) → 2 ≤ j → j ≤ 13 → Within 3 8 r → Bet
     Between 23 41 32 (add binary64 (number 1) (div binary64 (mul binary64 r p) (number j)))
 step r p j l t h k =
     let z = div binary64 (mul binary64 r p) (number j) in
-    let w = quotient 512 j r p (omega arith) t (lit< tt) (omega arith) (held-512 123 (lit< tt)) h k in
-    let b = one-plus 123 389 635 512 z (lit< tt) refl refl (lit< tt) (held-512 389 (lit< tt)) (held-512 635 (lit< tt)) w in
+    let w = quotient 512 j r p (omega arith) t (lit< tt) (omega arith) (held-part binary64 123 9 (lit< tt) (lit≤ tt)) h k in
+    let b = one-plus 123 389 635 512 z (lit< tt) refl refl (lit< tt)
+    (held-part binary64 389 9 (lit< tt) (lit≤ tt)) (held-part binary64 635 9 (lit< tt) (lit≤ tt)) w in
     record {
       sign = b .sign;
       least = over-wider 389 512 23 32 (add binary64 (number 1) z) (lit< tt) (lit≤ tt) (b .least);
@@ -136,13 +131,13 @@ step r p j l t h k =
 
 -- the last step
 last-quotient : (r p : Float) → Within 3 8 r → Between 23 41 32 p → Within 123 256 (div binary64 (mul binary64 r p) (number 1))
-last-quotient r p h k = quotient 256 1 r p (lit< tt) (lit≤ tt) (lit< tt) (lit≤ tt) (held-256 123 (lit< tt)) h k
+last-quotient r p h k = quotient 256 1 r p (lit< tt) (lit≤ tt) (lit< tt) (lit≤ tt) (held-part binary64 123 8 (lit< tt) (lit≤ tt)) h k
 
 last : (r p : Float) → Within 3 8 r → Between 23 41 32 p →
     Between 133 379 256 (add binary64 (number 1) (div binary64 (mul binary64 r p) (number 1)))
 last r p h k =
     one-plus 123 133 379 256 (div binary64 (mul binary64 r p) (number 1)) (lit< tt) refl refl (lit< tt)
-    (held-256 133 (lit< tt)) (held-256 379 (lit< tt)) (last-quotient r p h k)
+    (held-part binary64 133 8 (lit< tt) (lit≤ tt)) (held-part binary64 379 8 (lit< tt) (lit≤ tt)) (last-quotient r p h k)
 
 -- what the last step makes of each such p, the series is
 steps : (R : Float → Type 0) (r : Float) → Within 3 8 r →
@@ -175,7 +170,7 @@ product-over (fin false m e) (fin false n d) g s h w o k =
     (le-trans (mul-le-mul o k) (le-of-eq (mul-mul-mul-comm (m * up e) 8 (n * up d) 32))) in (
       round-signed binary64 false a c,
       round-over binary64 a c 23 256 (mul-pos (down-pos e) (down-pos d)) (lit< tt)
-          (held-256 23 (lit< tt)) x,
+          (held-part binary64 23 8 (lit< tt) (lit≤ tt)) x,
     )
 
 over-one : (z : Float) → Signed false z → Within 123 256 z → Over 23 256 z →
@@ -188,7 +183,7 @@ over-one (fin false m e) g w o =
     let c = 1 * 1 * down e in (
       round-signed binary64 false (m * up e * 1) c,
       round-over binary64 (m * up e * 1) c 23 256 (omega (arith, down-pos e)) (lit< tt)
-          (held-256 23 (lit< tt)) (omega arith),
+          (held-part binary64 23 8 (lit< tt) (lit≤ tt)) (omega arith),
     )
 
 one-over : (z : Float) → Signed false z → Within 123 256 z → Over 23 256 z → Over 279 256 (add binary64 (number 1) z)
@@ -198,7 +193,7 @@ one-over (inf t) g w o = absurd w
 one-over (fin true m e) g w o = absurd (true≢false g)
 one-over (fin false m e) g w o =
     round-over binary64 (1 * down e + m * up e * 1) (1 * down e) 279 256 (omega (arith, down-pos e)) (lit< tt)
-    (held-256 279 (lit< tt)) (omega arith)
+    (held-part binary64 279 8 (lit< tt) (lit≤ tt)) (omega arith)
 
 last-over : (r p : Float) → Within 3 8 r → Signed false r → Over 1 8 r → Between 23 41 32 p →
     Over 279 256 (add binary64 (number 1) (div binary64 (mul binary64 r p) (number 1)))

@@ -6,7 +6,7 @@ use Prim.Native.Nat.{ℕ, zero, suc, _+_, _-_, _*_, _^_, _≤_, _<_}
 use native.Mathlib.Nat.{le-trans, le-of-eq, add-mul, mul-assoc, mul-comm, mul-left-comm, mul-right-comm, mul-suc, zero-mul}
 use native.Mathlib.Nat.{mul-one, one-mul, mul-pos, mul-le-mul-right, mul-le-mul-left, lt-of-mul-lt-mul-right, pow-suc}
 use native.Mathlib.Omega.{arith}
-use mathlib.Core.Bool.{Bool, true, false, _||_, true≢false}
+use mathlib.Core.Bool.{Bool, true, false, true≢false}
 use borrow.Author.Tests.{lt-ltb, le-ltb}
 use lib.IntN.{ℤ, pos, negsuc}
 use lib.Dec.{T, lit<, lit≤, nltb→le, not-T}
@@ -15,7 +15,7 @@ use lib.Ieee.{Float, nan, inf, fin, binary64, up, down, mul, neg, lt, le, eq, is
 use lib.Ieee.Bits.{is-true, is-false}
 use lib.Ieee.Fits.{up-pos, down-pos}
 use Rattle.float.specs.Arithmetic.{number, plusZero}
-use Rattle.float.proofs.Order.{lt-or-ge, nlt-of-le}
+use Rattle.float.proofs.Order.{lt-or-ge, or-r, nlt-of-le}
 use Rattle.float.proofs.Bound.{Within, Over, Signed, held-part, held-whole, round-signed, round-within, round-over}
 use Rattle.float.proofs.Least.{round-some}
 use Rattle.exponential.specs.Exponential.{floorOf, turnsOf, leftOf, expFrom, timesPower, expBy, expOf}
@@ -111,7 +111,7 @@ second (fin false m d) L j k g w o e l p =
     some L d (suc M) W p D o = omega arith
 
 -- ---- so p·2^n is above zero, for an n of −1075 at least, and a p above 1 at −1075
-pub times-some : (p : Float) (s : Bool) (k : ℕ) → Between 133 379 256 p → k ≤ 1075 → (k ≡ 1075 → s ≡ true → Over 279 256 p) →
+times-some : (p : Float) (s : Bool) (k : ℕ) → Between 133 379 256 p → k ≤ 1075 → (k ≡ 1075 → s ≡ true → Over 279 256 p) →
     T (lt plusZero (timesPower p (signed s k)))
 times-some nan s k b l o = absurd (b .sign)
 times-some (inf t) s k b l o = absurd (b .most)
@@ -191,11 +191,7 @@ inner-some (fin s m e) h = exp-some s m e (omega arith)
 -- ---- the theorem
 no-zero : (v : Float) → T (lt plusZero v) → eq v plusZero ≡ false
 unfolding le
-no-zero v h = is-false (eq v plusZero) (not-T (eq v plusZero) (λ e. nlt-of-le plusZero v (right (lt v plusZero) (eq v plusZero) e) h))
-  where
-    right : (a b : Bool) → T b → T (a || b)
-    right true b h = tt
-    right false b h = h
+no-zero v h = is-false (eq v plusZero) (not-T (eq v plusZero) (λ e. nlt-of-le plusZero v (or-r (lt v plusZero) (eq v plusZero) e) h))
 
 zeros-alike : eq plusZero plusZero ≡ true
 unfolding eq

@@ -118,24 +118,30 @@ pub record CloseWhole (s : Bool) (A D : ℕ) (n : ℤ) : Type 0 where
   pub bound : k ≤ 1076
   pub close : Close A D k
 
--- −½ ≤ −b / d, so that n is 0
-none : (A D b d : ℕ) (n : ℤ) → Rounds binary64 A D b d → 0 < d → b * 2 ≤ 1 * d → n ≡ pos 0 → CloseWhole true A D n
-none A D b d n t C h e =
-    record {
+-- −½ ≤ −b / d, so that n is 0: with a half added it is a / (2·d), and ½ at most
+none : (A D b d a : ℕ) → Rounds binary64 A D b d → 0 < d → b * 2 ≤ 1 * d → a ≤ 1 * d →
+    CloseWhole true A D (floorOf (round binary64 false a (d * 2)))
+unfolding floorOf
+none A D b d a t C h l =
+    let w = round-within binary64 false a (d * 2) 1 2 (mul-pos C (lit< tt)) (lit< tt) (held-part binary64 1 1 (lit< tt) (lit≤ tt))
+    (omega arith) in
+    let y = finite-of false (round binary64 false a (d * 2)) 1 2 (round-signed binary64 false a (d * 2)) w in
+    subst (λ (z : Float). CloseWhole true A D (floorOf z)) (sym (y .is))
+    (record {
       k = 0;
-      whole = e;
+      whole = ap pos (small-floor (y .m * up (y .e)) (down (y .e)) (down-pos (y .e)) (subst (Within 1 2) (y .is) w));
       bound = lit≤ tt;
       close = close-by A D 0 (λ p. clash (t .over 257 512 (lit< tt) (held 257 (lit< tt)) p)) (λ j q p. no-suc j q);
-    }
+    })
   where
+    small-floor : (g f : ℕ) → 0 < f → g * 2 ≤ 1 * f → g / f ≡ 0
+    small-floor g f F h = let l : g / f < 1 = div-lt-iff-lt-mul F .1 (omega arith) in omega arith
+
     clash : 257 * d ≤ b * 512 → ⊥
     clash o = omega arith
 
     no-suc : (j : ℕ) → 0 ≡ suc j → ⊥
     no-suc j q = omega arith
-
-small-floor : (g f : ℕ) → 0 < f → g * 2 ≤ 1 * f → g / f ≡ 0
-small-floor g f F h = let l : g / f < 1 = div-lt-iff-lt-mul F .1 (omega arith) in omega arith
 
 at-most : (q g f : ℕ) → q * f ≤ g → g * 1 ≤ 1076 * f → 0 < f → q ≤ 1076
 at-most q g f h k F =
@@ -180,22 +186,9 @@ half-below A D m e t h =
         (cond p (round binary64 false (1 * down e - m * up e * 2) (down e * 2))
         (round binary64 (true && q) (m * up e * 2 - 1 * down e) (down e * 2))))
     go true q i j o =
-        let a = 1 * down e - m * up e * 2 in
-        let c : 0 < down e * 2 = mul-pos (down-pos e) (lit< tt) in
-        let w = round-within binary64 false a (down e * 2) 1 2 c (lit< tt) (held-part binary64 1 1 (lit< tt) (lit≤ tt)) (omega arith) in
-        let y = finite-of false (round binary64 false a (down e * 2)) 1 2 (round-signed binary64 false a (down e * 2)) w in
-        subst (λ (z : Float). CloseWhole true A D (floorOf z)) (sym (y .is))
-        (none A D (m * up e) (down e) (floorOf (fin false (y .m) (y .e))) t (down-pos e) (omega (arith, i tt))
-        (ap pos (small-floor (y .m * up (y .e)) (down (y .e)) (down-pos (y .e)) (subst (Within 1 2) (y .is) w))))
+        none A D (m * up e) (down e) (1 * down e - m * up e * 2) t (down-pos e) (omega (arith, i tt)) (omega arith)
     go false false i j o =
-        let a = m * up e * 2 - 1 * down e in
-        let c : 0 < down e * 2 = mul-pos (down-pos e) (lit< tt) in
-        let w = round-within binary64 false a (down e * 2) 1 2 c (lit< tt) (held-part binary64 1 1 (lit< tt) (lit≤ tt))
-        (omega (arith, j tt)) in
-        let y = finite-of false (round binary64 false a (down e * 2)) 1 2 (round-signed binary64 false a (down e * 2)) w in
-        subst (λ (z : Float). CloseWhole true A D (floorOf z)) (sym (y .is))
-        (none A D (m * up e) (down e) (floorOf (fin false (y .m) (y .e))) t (down-pos e) (j tt)
-        (ap pos (small-floor (y .m * up (y .e)) (down (y .e)) (down-pos (y .e)) (subst (Within 1 2) (y .is) w))))
+        none A D (m * up e) (down e) (m * up e * 2 - 1 * down e) t (down-pos e) (j tt) (omega (arith, j tt))
     go false true i j o =
         let b = m * up e in
         let d = down e in
