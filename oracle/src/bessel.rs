@@ -1,4 +1,4 @@
-// Kinds 17 to 20: ln_gamma, log_vmf_norm, estimate_kappa, kappa_max of the original.
+// Kinds 17 to 20: ln_gamma, log_vmf_norm, estimate_kappa, kappa_max of the original; and kind 26: its ln_gamma of d / 2.
 use crate::cases::{around, bits, Case, List};
 use crate::rng::SplitMix64;
 use crate::vmf;
@@ -18,6 +18,13 @@ pub fn bessel<W: Write>(list: &mut List<W>) {
     estimates(list);
     let cases: Vec<Case> = (1..=256).map(|d| (vec![d as u64], vec![bits(vmf::probe_kappa_max(d))])).collect();
     list.block(20, &cases);
+}
+
+// Kind 26: d, from 1 to 256.
+pub fn halves<W: Write>(list: &mut List<W>) {
+    let of = |d: u64| bits(vmf::probe_ln_gamma(d as f64 / 2.0));
+    let cases: Vec<Case> = (1..=256).map(|d| (vec![d], vec![of(d)])).collect();
+    list.block(26, &cases);
 }
 
 // Kind 18: the dimension, the concentration.
@@ -47,6 +54,12 @@ fn norms<W: Write>(list: &mut List<W>) {
             for b in around(1e6, 1) {
                 add(d, f64::from_bits(b));
             }
+        }
+    }
+    // every dimension, where the series starts from ln_gamma(d / 2)
+    for d in 1..=256 {
+        for kappa in [1e-8, 1.0, 25.0, 9999.0] {
+            add(d, kappa);
         }
     }
     // outside of what a mixture asks; the series stops at 200,000

@@ -27,5 +27,6 @@ fn main() {
     mixture::mixture(&mut list);
     auto::auto(&mut list);
     files::files(&mut list);
+    bessel::halves(&mut list);
     list.end();
 }

@@ -1,3 +1,3 @@
 -- Laws that other proofs cite.
-pub mod Tau
+pub mod Orders
 pub mod Estimate

@@ -1,36 +1,9 @@
-// The special functions of vmf.rs and the estimate of a concentration (document 01, 'Concentration and normalizer'). Every f64
-// is taken, NaN and infinities included; a dimension is 1 to 256.
+// The log normalizing constant of vmf.rs and the estimate of a concentration (document 01, 'Concentration and normalizer').
+// Every f64 is taken, NaN and infinities included; a dimension is 1 to 256.
 ghost use mathlib.Core.Path.{_≡_};
-ghost use Rattle.bessel.specs.Normalizer.{lanczosFrom, lanczos, lanczosTerms, lnGammaOf, termsOf, asymptoticOf, termAfter, withTerm, endsAt, peakSumOf, seriesOf, logIvOf, logVmfNormOf};
+ghost use Rattle.bessel.specs.Normalizer.{termsOf, asymptoticOf, termAfter, withTerm, endsAt, peakSumOf, seriesOf, logIvOf, logVmfNormOf};
 ghost use Rattle.bessel.specs.Concentration.{Dimension, kappaMax, Estimated};
-
-// The logarithm of TAU, document 01's.
-const LN_TAU: f64 = 1.8378770664093453;
-
-// The constants of vmf.rs at x.
-fn lanczos_sum(x: f64) -> f64
-    ensures { λ r. ⌜ r ≡ lanczosFrom x lanczos 1 lanczosTerms ⌝ }
-{
-    let a = 0.9999999999998099;
-    let a = a + 676.5203681218851 / (x + 1.0);
-    let a = a + -1259.1392167224028 / (x + 2.0);
-    let a = a + 771.3234287776531 / (x + 3.0);
-    let a = a + -176.6150291621406 / (x + 4.0);
-    let a = a + 12.507343278686905 / (x + 5.0);
-    let a = a + -0.13857109526572012 / (x + 6.0);
-    let a = a + 9.984369578019572e-6 / (x + 7.0);
-    a + 1.5056327351493116e-7 / (x + 8.0)
-}
-
-// ln Gamma(y), by the Lanczos approximation of vmf.rs.
-pub fn ln_gamma(y: f64) -> f64
-    ensures { λ r. ⌜ r ≡ lnGammaOf y ⌝ }
-{
-    let x = y - 1.0;
-    let t = x + 7.0 + 0.5;
-    let a = lanczos_sum(x);
-    0.5 * LN_TAU + (x + 0.5) * logarithm::ln(t) - t + logarithm::ln(a)
-}
+ghost use Rattle.bessel.specs.Orders.{OrderOf};
 
 // The three terms of DLMF 10.41.3 at p = 1 / w.
 fn asymptotic_terms(nu: f64, w: f64) -> f64
@@ -116,24 +89,26 @@ fn peak_sum(nu: f64, kappa: f64, half_ln: f64, first: f64) -> PeakSum
     }
 }
 
-// log I_nu(kappa) by the power series.
-pub fn log_iv_series(nu: f64, kappa: f64) -> f64
+// log I_nu(kappa) by the power series. ln_gamma(nu + 1), from which it starts, is read from the table.
+pub fn log_iv_series(dim: usize, nu: f64, kappa: f64) -> f64
+    requires { ⌜ OrderOf dim nu ⌝ }
     ensures { λ r. ⌜ r ≡ seriesOf nu kappa ⌝ }
 {
     let half_ln = logarithm::ln(kappa * 0.5);
-    let first = -ln_gamma(nu + 1.0);
+    let first = -gamma_table::ln_gamma_half(dim);
     let s = peak_sum(nu, kappa, half_ln, first);
     nu * half_ln + s.peak + logarithm::ln(s.sum)
 }
 
 // log I_nu(kappa), by the evaluator that serves.
-pub fn log_iv(nu: f64, kappa: f64) -> f64
+pub fn log_iv(dim: usize, nu: f64, kappa: f64) -> f64
+    requires { ⌜ OrderOf dim nu ⌝ }
     ensures { λ r. ⌜ r ≡ logIvOf nu kappa ⌝ }
 {
     if nu >= 1.0 && kappa >= 10000.0 {
         log_iv_asymptotic(nu, kappa)
     } else {
-        log_iv_series(nu, kappa)
+        log_iv_series(dim, nu, kappa)
     }
 }
 
@@ -144,7 +119,7 @@ pub fn log_vmf_norm(dim: usize, kappa: f64) -> f64
 {
     let half_d = dim as f64 / 2.0;
     let nu = half_d - 1.0;
-    nu * logarithm::ln(kappa) - half_d * LN_TAU - log_iv(nu, kappa)
+    nu * logarithm::ln(kappa) - half_d * gamma::LN_TAU - log_iv(dim, nu, kappa)
 }
 
 // The greatest concentration in dim dimensions.

@@ -1,8 +1,9 @@
 // Document 01's edge examples, run: a line for each, `yes` where the answer is as it says and `NO` where it is not; and
 // SplitMix64's published outputs; and the limits of spherical k-means, of the mixture fit and of the automatic fit; and the
-// refusals and the listing of a leaf file. The examples are the lines of standard input. A line has its words, hexadecimal
-// numbers with a space after each, of which word 0 is the kind, and behind a bar the example's name. An f64 is its pattern.
-// A list in a line is its length, how many of its elements are written, and these; the last of them stands for the rest.
+// refusals and the listing of a leaf file; and entries of the table of ln_gamma. The examples are the lines of standard
+// input. A line has its words, hexadecimal numbers with a space after each, of which word 0 is the kind, and behind a bar
+// the example's name. An f64 is its pattern. A list in a line is its length, how many of its elements are written, and
+// these; the last of them stands for the rest.
 ghost use mathlib.Core.Path.{_≡_};
 ghost use Prim.Native.Nat.{_<_, _≤_};
 ghost use lib.ListN.{length};
@@ -391,7 +392,15 @@ fn file_holds(kind: u64, line: &[u8]) -> bool {
 
 // ---- the list
 
-// Whether a line's example holds; kind 9 is a restart's seed.
+// Whether the table's ln_gamma of d / 2 has these bits.
+fn entry_holds(d: usize, bits: u64) -> bool {
+    if d < 1 || 256 < d {
+        return false;
+    }
+    float::bits_of(gamma_table::ln_gamma_half(d)) == bits
+}
+
+// Whether a line's example holds; kind 9 is a restart's seed, kind 15 an entry of the table of ln_gamma.
 fn holds(kind: u64, line: &[u8]) -> bool {
     if kind < 9 {
         return number_holds(kind, line);
@@ -401,6 +410,9 @@ fn holds(kind: u64, line: &[u8]) -> bool {
     }
     if kind < 13 {
         return fits_hold(kind, line);
+    }
+    if kind == 15 {
+        return entry_holds(word(line, 1) as usize, word(line, 4));
     }
     file_holds(kind, line)
 }

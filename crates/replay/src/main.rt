@@ -313,10 +313,13 @@ fn dimension(n: usize) -> usize
     if n < 256 { n } else { 256 }
 }
 
-// Kinds 17 to 20: ln_gamma, log_vmf_norm, estimate_kappa, kappa_max.
+// Kinds 17 to 20: ln_gamma, log_vmf_norm, estimate_kappa, kappa_max; and kind 26: ln_gamma_half.
 fn concentration(kind: u64, a: u64, b: u64) -> f64 {
     if kind == 17 {
-        return bessel::ln_gamma(float::of_bits(a));
+        return gamma::ln_gamma(float::of_bits(a));
+    }
+    if kind == 26 {
+        return gamma_table::ln_gamma_half(dimension(a as usize));
     }
     if kind == 18 {
         return bessel::log_vmf_norm(dimension(a as usize), float::of_bits(b));
@@ -748,7 +751,7 @@ fn agrees(kind: u64, text: &[u8], ins: usize) -> bool {
     if kind <= 16 {
         return vector_agrees(kind, text, ins);
     }
-    if kind <= 20 {
+    if kind <= 20 || kind == 26 {
         return bessel_agrees(kind, text, ins);
     }
     if kind <= 24 {
@@ -777,7 +780,7 @@ fn print_line(text: &[u8], n: usize) {
 
 // Prints what the cases of a kind are of.
 fn print_kind(kind: u64) {
-    let n = if kind <= 25 { kind } else { 0 };
+    let n = if kind <= 26 { kind } else { 0 };
     print_line(
         b"unknown kind
 root
@@ -804,7 +807,8 @@ spherical_kmeans
 movmf_with
 movmf_with, by digests
 movmf_auto_with
-listings of leaf files",
+listings of leaf files
+ln_gamma_half",
         n as usize,
     );
 }

@@ -1,10 +1,12 @@
--- `bessel::log_vmf_norm` meets its contract: the operations of `logNormAt` on what the calls ensure, and the constant is the logarithm of TAU. Assumes nothing.
+-- `bessel::log_vmf_norm` meets its contract: the operations of `logNormAt` on what the calls ensure, and the constant is the logarithm of TAU.
+-- Assumes nothing.
 use borrow.Author.Needs.{needs}
+use mathlib.Core.Path.{refl}
 use native.Mathlib.Omega.{arith}
 use lib.Dec.{le→leb}
 use lib.Ieee.{inFloat, ofBits, ofInt}
+use Rattle.gamma.proofs.Tau.{ln-tau}
 use Rattle.bessel.specs.Normalizer.{logVmfNormOf}
-use Rattle.bessel.proofs.Tau.{ln-tau}
 use Rattle.bessel.proofs.log_vmf_norm.Statement.{statement}
 use Rattle.bessel.proofs.log_vmf_norm.Tie as tie
 
@@ -12,15 +14,13 @@ int-to-float-half-d : tie.Need-int-to-float-half-d
 unfolding inFloat
 int-to-float-half-d c = le→leb (c .before .args .dim) 9007199254740992 (omega (arith, c .before .pre .most))
 
-ln-requires : tie.Need-ln-requires
-ln-requires c κs = search needs
-
 log-iv-requires : tie.Need-log-iv-requires
-log-iv-requires c κs = search needs
+unfolding ofBits ofInt
+log-iv-requires c κs = record { dimension = c .before .before .before .pre; order = refl }
 
 returns : tie.Need-returns
 unfolding logVmfNormOf ofBits ofInt
 returns c = rw (← ln-tau, c .log-iv .ensures, c .before .ln .ensures)
 
 pub log-vmf-norm-spec : {M : Type 1} → statement M
-log-vmf-norm-spec = tie.close (tie.spec int-to-float-half-d ln-requires log-iv-requires returns)
+log-vmf-norm-spec = tie.close (tie.spec int-to-float-half-d (λ c κs. search needs) log-iv-requires returns)

@@ -63,15 +63,6 @@ loop-holds : tie.Need-loop-holds Inv-loop μ-loop
 unfolding ofInt ofBits
 loop-holds c = (0, omega arith, refl, refl)
 
-term-after-requires : tie.Need-term-after-requires Inv-loop μ-loop
-term-after-requires c κs = search needs
-
-with-term-requires : tie.Need-with-term-requires Inv-loop μ-loop
-with-term-requires c κs = search needs
-
-ends-at-requires : tie.Need-ends-at-requires Inv-loop μ-loop
-ends-at-requires c κs = search needs
-
 loop-less : tie.Need-loop-less Inv-loop μ-loop
 loop-less c =
     let v = c .before .before .before .before .loop .inv in
@@ -102,9 +93,9 @@ peak-sum-spec =
     Inv-loop
     μ-loop
     loop-holds
-    term-after-requires
-    with-term-requires
-    ends-at-requires
+    (λ c κs. search needs)
+    (λ c κs. search needs)
+    (λ c κs. search needs)
     loop-less
     loop-again
     returns)

@@ -1,0 +1,3 @@
+-- Laws that other proofs cite.
+pub mod Tau
+pub mod Halves
