@@ -3,7 +3,7 @@
 
     target/bin/gamma_generator | python3 crates/gamma_generator/table.py
 
-Standard input has 256 lines of 16 hexadecimal digits, an f64's bits each. It writes crates/gamma_table/src/table.rt,
+Standard input has 256 lines of 16 hexadecimal digits, an f64's bits each. It writes crates/gamma_table/src/entries.rt,
 each entry as the shortest decimal number that reads back as these bits, and crates/gamma_table/proofs/Patterns.antt,
 the patterns as they were printed: the proof shows that they are ln_gamma of d / 2, and that they are the table.
 """
@@ -12,7 +12,6 @@ import struct
 import sys
 
 MADE = "Made by crates/gamma_generator/table.py; not written by hand."
-PARTS = [("low", 1, 86), ("middle", 87, 172), ("high", 173, 256)]
 CRATE = pathlib.Path(__file__).parent.parent / "gamma_table"
 
 
@@ -28,13 +27,12 @@ def patterns(words):
     yield "-- The lines that the generator prints. " + MADE
     yield "use mathlib.Core.List.{List, [], _∷_}"
     yield "use Prim.Native.Nat.{ℕ}"
-    for name, first, last in PARTS:
-        yield "\n-- d = %d to %d\npub %s : List ℕ\n%s =" % (first, last, name, name)
-        rows = [words[i:min(i + 6, last)] for i in range(first - 1, last, 6)]
-        yield "    " + "\n    ∷ ".join(" ∷ ".join("0x" + w for w in row) for row in rows) + " ∷ []"
+    yield "\npub patterns : List ℕ\npatterns ="
+    rows = [words[i:i + 6] for i in range(0, 256, 6)]
+    yield "    " + "\n    ∷ ".join(" ∷ ".join("0x" + w for w in row) for row in rows) + " ∷ []"
 
 
 words = sys.stdin.read().split()
 assert len(words) == 256 and all(len(w) == 16 for w in words)
-(CRATE / "src" / "table.rt").write_text("\n".join(source(words)) + "\n")
+(CRATE / "src" / "entries.rt").write_text("\n".join(source(words)) + "\n")
 (CRATE / "proofs" / "Patterns.antt").write_text("\n".join(patterns(words)) + "\n")

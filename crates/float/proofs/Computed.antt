@@ -2,12 +2,12 @@
 use mathlib.Core.Path.{_≡_, refl, sym, ap, subst, _∙_}
 use mathlib.Core.Bool.{Bool, true, false, _&&_, Bool·beq}
 use Prim.Native.Nat.{ℕ, zero, suc, _+_, _-_, _<_, _≤_}
-use native.Mathlib.Nat.{add-zero, add-suc, suc-add, le-of-suc-le-suc, not-suc-le-zero}
+use native.Mathlib.Nat.{add-zero, zero-add, add-suc, suc-add, le-of-suc-le-suc, not-suc-le-zero}
 use native.Mathlib.Omega.{arith}
 use lib.Dec.{T, eqb, eqb→eq}
 use lib.IntN.{ℤ, pos, negsuc}
 use lib.Ieee.{Float, nan, inf, fin}
-use lib.Ieee.Fits.{and-l, and-r}
+use lib.Ieee.Fits.{and-i, and-l, and-r}
 
 -- ---- two f64 are the same
 abbrev sameExponent : ℤ → ℤ → Bool
@@ -73,3 +73,10 @@ pub all-at : (f : ℕ → Bool) (i n d : ℕ) → T (allFrom f i n) → i ≤ d 
 all-at f i n d t l h =
     let e : i + (d - i) ≡ d = omega arith in
     subst (λ (m : ℕ). T (f m)) e (at-place f i n (d - i) t (omega arith))
+
+pub all-joined : (f : ℕ → Bool) (i a b : ℕ) → T (allFrom f i a) → T (allFrom f (i + a) b) → T (allFrom f i (a + b))
+all-joined f i zero b s t = rw (zero-add b, ← add-zero i) t
+all-joined f i (suc a) b s t =
+    rw (suc-add a b)
+    (and-i (f i) (allFrom f (suc i) (a + b)) (and-l (f i) (allFrom f (suc i) a) s)
+    (all-joined f (suc i) a b (and-r (f i) (allFrom f (suc i) a) s) (rw (suc-add i a, ← add-suc i a) t)))

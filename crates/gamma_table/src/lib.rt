@@ -2,8 +2,8 @@
 ghost use mathlib.Core.Path.{_≡_};
 ghost use Prim.Native.Nat.{_≤_};
 ghost use Rattle.gamma.specs.Gamma.{lnGammaHalf};
-mod table;
-use table::LN_GAMMA;
+mod entries;
+use entries::LN_GAMMA;
 
 // ln_gamma(d / 2).
 pub fn ln_gamma_half(d: usize) -> f64
