@@ -16,7 +16,7 @@ int-to-float-half-d c = le→leb (c .before .args .dim) 9007199254740992 (omega 
 
 log-iv-requires : tie.Need-log-iv-requires
 unfolding ofBits ofInt
-log-iv-requires c κs = record { dimension = c .before .before .before .pre; order = refl }
+log-iv-requires c κs = record { dimension = c .before .before .pre; order = refl }
 
 returns : tie.Need-returns
 unfolding logVmfNormOf ofBits ofInt

@@ -12,7 +12,8 @@ use borrow.Author.Tests.{ltb-false}
 use Rattle.float.specs.Arithmetic.{number}
 use Rattle.float.proofs.Whole.{add-whole, lt-whole}
 use Rattle.bessel.specs.declared.PeakSum.{PeakSum}
-use Rattle.bessel.specs.Normalizer.{half, termAfter, withTerm, endsAt, seriesFrom, peakSumOf}
+use Rattle.gamma.specs.Gamma.{half}
+use Rattle.bessel.specs.Normalizer.{termAfter, withTerm, endsAt, seriesFrom, peakSumOf}
 use Rattle.bessel.proofs.peak_sum.Statement.{statement}
 use Rattle.bessel.proofs.peak_sum.Tie as tie
 
