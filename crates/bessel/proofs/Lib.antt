@@ -1,3 +1,2 @@
 -- Laws that other proofs cite.
-pub mod Orders
 pub mod Estimate

@@ -1,3 +1,3 @@
 pub mod Normalizer
 pub mod Concentration
-pub mod Orders
+pub mod Start

@@ -1,9 +1,13 @@
 // The log normalizing constant of vmf.rs and the estimate of a concentration (document 01, 'Concentration and normalizer').
 // Every f64 is taken, NaN and infinities included; a dimension is 1 to 256.
 ghost use mathlib.Core.Path.{_≡_};
-ghost use Rattle.bessel.specs.Normalizer.{termsOf, asymptoticOf, termAfter, withTerm, endsAt, peakSumOf, seriesOf, logIvOf, logVmfNormOf};
+ghost use lib.Ieee.{binary64, add};
+ghost use Rattle.float.specs.Arithmetic.{number};
+ghost use Rattle.gamma.specs.Gamma.{lnGammaOf};
+ghost use Rattle.bessel.specs.Normalizer.{termsOf, asymptoticOf, termAfter, withTerm, endsAt, peakSumOf};
+ghost use Rattle.bessel.specs.Normalizer.{seriesOf, logIvOf, logVmfNormOf};
 ghost use Rattle.bessel.specs.Concentration.{Dimension, kappaMax, Estimated};
-ghost use Rattle.bessel.specs.Orders.{OrderOf};
+ghost use Rattle.bessel.specs.Start.{StartOf};
 
 // The three terms of DLMF 10.41.3 at p = 1 / w.
 fn asymptotic_terms(nu: f64, w: f64) -> f64
@@ -89,27 +93,36 @@ fn peak_sum(nu: f64, kappa: f64, half_ln: f64, first: f64) -> PeakSum
     }
 }
 
-// log I_nu(kappa) by the power series. ln_gamma(nu + 1), from which it starts, is read from the table.
-pub fn log_iv_series(dim: usize, nu: f64, kappa: f64) -> f64
-    requires { ⌜ OrderOf dim nu ⌝ }
+// log I_nu(kappa) by the power series, which starts from ln_gamma(nu + 1).
+pub fn log_iv_series(nu: f64, kappa: f64, start: f64) -> f64
+    requires { ⌜ start ≡ lnGammaOf (add binary64 nu (number 1)) ⌝ }
     ensures { λ r. ⌜ r ≡ seriesOf nu kappa ⌝ }
 {
     let half_ln = logarithm::ln(kappa * 0.5);
-    let first = -gamma_table::ln_gamma_half(dim);
-    let s = peak_sum(nu, kappa, half_ln, first);
+    let s = peak_sum(nu, kappa, half_ln, -start);
     nu * half_ln + s.peak + logarithm::ln(s.sum)
 }
 
 // log I_nu(kappa), by the evaluator that serves.
-pub fn log_iv(dim: usize, nu: f64, kappa: f64) -> f64
-    requires { ⌜ OrderOf dim nu ⌝ }
+pub fn log_iv(nu: f64, kappa: f64, start: f64) -> f64
+    requires { ⌜ start ≡ lnGammaOf (add binary64 nu (number 1)) ⌝ }
     ensures { λ r. ⌜ r ≡ logIvOf nu kappa ⌝ }
 {
     if nu >= 1.0 && kappa >= 10000.0 {
         log_iv_asymptotic(nu, kappa)
     } else {
-        log_iv_series(dim, nu, kappa)
+        log_iv_series(nu, kappa, start)
     }
+}
+
+// The log normalizing constant of the density in dim dimensions; `start` is ln_gamma(dim / 2).
+pub fn log_vmf_norm_from(dim: usize, kappa: f64, start: f64) -> f64
+    requires { ⌜ StartOf dim start ⌝ }
+    ensures { λ r. ⌜ r ≡ logVmfNormOf dim kappa ⌝ }
+{
+    let half_d = dim as f64 / 2.0;
+    let nu = half_d - 1.0;
+    nu * logarithm::ln(kappa) - half_d * gamma::LN_TAU - log_iv(nu, kappa, start)
 }
 
 // The log normalizing constant of the density in dim dimensions.
@@ -117,9 +130,7 @@ pub fn log_vmf_norm(dim: usize, kappa: f64) -> f64
     requires { ⌜ Dimension dim ⌝ }
     ensures { λ r. ⌜ r ≡ logVmfNormOf dim kappa ⌝ }
 {
-    let half_d = dim as f64 / 2.0;
-    let nu = half_d - 1.0;
-    nu * logarithm::ln(kappa) - half_d * gamma::LN_TAU - log_iv(dim, nu, kappa)
+    log_vmf_norm_from(dim, kappa, gamma_table::ln_gamma_half(dim))
 }
 
 // The greatest concentration in dim dimensions.

@@ -6,6 +6,7 @@ ghost use lib.Ieee.{binary64, add};
 ghost use Rattle.float.specs.Arithmetic.{maxOf};
 ghost use Rattle.logarithm.specs.Logarithm.{lnOf};
 ghost use Rattle.bessel.specs.Concentration.{Dimension};
+ghost use Rattle.bessel.specs.Start.{StartOf};
 ghost use Rattle.groups.specs.Kappas.{parametersOf};
 ghost use Rattle.groups.specs.Groups.{weightFloor, logNormOf};
 
@@ -33,12 +34,20 @@ pub fn parameters(kappa: Kappa, k: usize, d: usize) -> usize
     }
 }
 
+// The log normalizer of a concentration; `start` is ln_gamma(d / 2).
+pub fn log_norm_from(kappa: f64, d: usize, start: f64) -> f64
+    requires { ⌜ StartOf d start ⌝ }
+    ensures { λ r. ⌜ r ≡ logNormOf d kappa ⌝ }
+{
+    bessel::log_vmf_norm_from(d, float::max(kappa, 1e-8), start)
+}
+
 // The log normalizer of a concentration.
 pub fn log_norm(kappa: f64, d: usize) -> f64
     requires { ⌜ Dimension d ⌝ }
     ensures { λ r. ⌜ r ≡ logNormOf d kappa ⌝ }
 {
-    bessel::log_vmf_norm(d, float::max(kappa, 1e-8))
+    log_norm_from(kappa, d, gamma_table::ln_gamma_half(d))
 }
 
 // ln weight + log normalizer of a group.

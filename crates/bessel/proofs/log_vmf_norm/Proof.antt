@@ -1,26 +1,13 @@
--- `bessel::log_vmf_norm` meets its contract: the operations of `logNormAt` on what the calls ensure, and the constant is the logarithm of TAU.
--- Assumes nothing.
+-- `bessel::log_vmf_norm` meets its contract: the table's entry is where the series starts. Assumes nothing.
 use borrow.Author.Needs.{needs}
-use mathlib.Core.Path.{refl}
-use native.Mathlib.Omega.{arith}
-use lib.Dec.{le→leb}
-use lib.Ieee.{inFloat, ofBits, ofInt}
-use Rattle.gamma.proofs.Tau.{ln-tau}
-use Rattle.bessel.specs.Normalizer.{logVmfNormOf}
 use Rattle.bessel.proofs.log_vmf_norm.Statement.{statement}
 use Rattle.bessel.proofs.log_vmf_norm.Tie as tie
 
-int-to-float-half-d : tie.Need-int-to-float-half-d
-unfolding inFloat
-int-to-float-half-d c = le→leb (c .before .args .dim) 9007199254740992 (omega (arith, c .before .pre .most))
+ln-gamma-half-requires : tie.Need-ln-gamma-half-requires
+ln-gamma-half-requires c κs = (c .pre .least, c .pre .most)
 
-log-iv-requires : tie.Need-log-iv-requires
-unfolding ofBits ofInt
-log-iv-requires c κs = record { dimension = c .before .before .pre; order = refl }
-
-returns : tie.Need-returns
-unfolding logVmfNormOf ofBits ofInt
-returns c = rw (← ln-tau, c .log-iv .ensures, c .before .ln .ensures)
+log-vmf-norm-from-requires : tie.Need-log-vmf-norm-from-requires
+log-vmf-norm-from-requires c κs = record { dimension = c .before .pre; value = c .ln-gamma-half .ensures }
 
 pub log-vmf-norm-spec : {M : Type 1} → statement M
-log-vmf-norm-spec = tie.close (tie.spec int-to-float-half-d (λ c κs. search needs) log-iv-requires returns)
+log-vmf-norm-spec = tie.close (tie.spec ln-gamma-half-requires log-vmf-norm-from-requires (λ c. search needs))

@@ -1,18 +1,13 @@
--- `groups::log_norm` meets its contract: the normalizer of the concentration, which is kept from 0. Assumes nothing.
+-- `groups::log_norm` meets its contract: the table's entry is where the series starts. Assumes nothing.
 use borrow.Author.Needs.{needs}
-use lib.Ieee.{ofBits}
 use Rattle.groups.proofs.log_norm.Statement.{statement}
 use Rattle.groups.proofs.log_norm.Tie as tie
 
-max-requires : tie.Need-max-requires
-max-requires c κs = search needs
+ln-gamma-half-requires : tie.Need-ln-gamma-half-requires
+ln-gamma-half-requires c κs = (c .pre .least, c .pre .most)
 
-log-vmf-norm-requires : tie.Need-log-vmf-norm-requires
-log-vmf-norm-requires c κs = search needs
-
-returns : tie.Need-returns
-unfolding ofBits
-returns c = rw (← c .before .max .ensures) (c .log-vmf-norm .ensures)
+log-norm-from-requires : tie.Need-log-norm-from-requires
+log-norm-from-requires c κs = record { dimension = c .before .pre; value = c .ln-gamma-half .ensures }
 
 pub log-norm-spec : {M : Type 1} → statement M
-log-norm-spec = tie.close (tie.spec max-requires log-vmf-norm-requires returns)
+log-norm-spec = tie.close (tie.spec ln-gamma-half-requires log-norm-from-requires (λ c. search needs))
