@@ -10,6 +10,7 @@ ghost use Rattle.float.specs.Arithmetic.{plusZero, sumFrom};
 ghost use Rattle.rows.specs.Rows.{Apart, part, putPart, rowOf};
 ghost use Rattle.vector.specs.Vectors.{addScaled, dividedBy};
 ghost use Rattle.bessel.specs.Concentration.{Dimension, estimateOf};
+ghost use Rattle.bessel.specs.Start.{StartOf};
 ghost use Rattle.sums.specs.Sums.{normsUpTo};
 ghost use Rattle.groups.specs.Kappas.{tabulate, meanLength, sharedKappa, kappaAt, kappasOf};
 ghost use Rattle.groups.specs.Groups.{logNormOf};
@@ -76,19 +77,20 @@ fn concentrate(work: &mut [f64], kappa: groups::Kappa, whole: f64, m: usize, k: 
 // ---- the E-step
 
 // That of a concentration after the last one, whose normalizer is `norm`; equal ones share it.
-fn norm_for(kappa: f64, last: f64, norm: f64, d: usize) -> f64
-    requires { ⌜ (Dimension d) × (norm ≡ logNormOf d last) ⌝ }
+fn norm_for(kappa: f64, last: f64, norm: f64, d: usize, start: f64) -> f64
+    requires { ⌜ (StartOf d start) × (norm ≡ logNormOf d last) ⌝ }
     ensures { λ r. ⌜ r ≡ logNormOf d kappa ⌝ }
 {
     if float::bits_of(kappa) == float::bits_of(last) {
         return norm;
     }
-    groups::log_norm(kappa, d)
+    groups::log_norm_from(kappa, d, start)
 }
 
-// The base of each group.
-fn put_bases(work: &mut [f64], m: usize, k: usize, d: usize)
+// The base of each group; `start` is ln_gamma(d / 2).
+fn put_bases(work: &mut [f64], m: usize, k: usize, d: usize, start: f64)
     requires { ⌜ Area (length (now work)) m k d ⌝ }
+    requires { ⌜ StartOf d start ⌝ }
     ensures { λ _. ⌜ partsIn m k d (now (work .exit))
         ≡ withBases (basesOf k d (modelOf (partsIn m k d (now (work .entry))))) (partsIn m k d (now (work .entry))) ⌝ }
 {
@@ -97,11 +99,11 @@ fn put_bases(work: &mut [f64], m: usize, k: usize, d: usize)
     let kappas = weights + k;
     let bases = kappas + k;
     let mut last = work[kappas];
-    let mut norm = groups::log_norm(last, d);
+    let mut norm = groups::log_norm_from(last, d, start);
     let mut c = 0;
     while c < k {
         let kappa = work[kappas + c];
-        norm = norm_for(kappa, last, norm, d);
+        norm = norm_for(kappa, last, norm, d, start);
         last = kappa;
         work[bases + c] = groups::base(work[weights + c], norm);
         c += 1;
@@ -407,7 +409,7 @@ fn maximize_model(
 
 // ---- the rounds
 
-// One round; its log-likelihood.
+// One round; its log-likelihood. `start` is ln_gamma(d / 2).
 fn em_round(
     work: &mut [f64],
     weights: &[f64],
@@ -416,12 +418,14 @@ fn em_round(
     m: usize,
     k: usize,
     d: usize,
+    start: f64,
 ) -> f64
     requires { ⌜ Area (length (now work)) m k d ⌝ }
     requires { ⌜ Leaves (length (now weights)) (length (now coords)) m d ⌝ }
+    requires { ⌜ StartOf d start ⌝ }
     ensures { λ r. ⌜ emOf (partsIn m k d (now (work .exit))) r ≡ emRound kappa (now (weights .entry)) (now (coords .entry)) m k d (modelOf (partsIn m k d (now (work .entry)))) ⌝ }
 {
-    put_bases(work, m, k, d);
+    put_bases(work, m, k, d, start);
     let loglik = expect(work, weights, coords, m, k, d);
     maximize_model(work, weights, coords, kappa, m, k, d);
     loglik
@@ -434,7 +438,38 @@ fn stops_at(it: usize, old: f64, new: f64) -> bool
     (it > 0) & (float::abs(new - old) <= 1e-7 * float::max(float::abs(old), 1.0))
 }
 
-// Rounds until the log-likelihood stands, at most `rounds`; the last log-likelihood.
+// Rounds until the log-likelihood stands, at most `rounds`; the last log-likelihood. `start` is ln_gamma(d / 2).
+fn em_from(
+    work: &mut [f64],
+    weights: &[f64],
+    coords: &[f64],
+    kappa: groups::Kappa,
+    rounds: usize,
+    m: usize,
+    k: usize,
+    d: usize,
+    start: f64,
+) -> f64
+    requires { ⌜ (Area (length (now work)) m k d) × (rounds ≤ 10000) ⌝ }
+    requires { ⌜ Leaves (length (now weights)) (length (now coords)) m d ⌝ }
+    requires { ⌜ StartOf d start ⌝ }
+    ensures { λ r. ⌜ emOf (partsIn m k d (now (work .exit))) r ≡ emFrom kappa (now (weights .entry)) (now (coords .entry)) m k d rounds 0 (emOf (partsIn m k d (now (work .entry))) (inf true)) ⌝ }
+{
+    let mut loglik = -1.0 / 0.0;
+    let mut it = 0;
+    while it < rounds {
+        let new = em_round(work, weights, coords, kappa, m, k, d, start);
+        let stops = stops_at(it, loglik, new);
+        loglik = new;
+        if stops {
+            break;
+        }
+        it += 1;
+    }
+    loglik
+}
+
+// The same, with ln_gamma(d / 2) read from the table once.
 fn em(
     work: &mut [f64],
     weights: &[f64],
@@ -449,18 +484,8 @@ fn em(
     requires { ⌜ Leaves (length (now weights)) (length (now coords)) m d ⌝ }
     ensures { λ r. ⌜ emOf (partsIn m k d (now (work .exit))) r ≡ emFrom kappa (now (weights .entry)) (now (coords .entry)) m k d rounds 0 (emOf (partsIn m k d (now (work .entry))) (inf true)) ⌝ }
 {
-    let mut loglik = -1.0 / 0.0;
-    let mut it = 0;
-    while it < rounds {
-        let new = em_round(work, weights, coords, kappa, m, k, d);
-        let stops = stops_at(it, loglik, new);
-        loglik = new;
-        if stops {
-            break;
-        }
-        it += 1;
-    }
-    loglik
+    let start = gamma_table::ln_gamma_half(d);
+    em_from(work, weights, coords, kappa, rounds, m, k, d, start)
 }
 
 // ---- the start

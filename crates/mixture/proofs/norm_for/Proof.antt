@@ -24,12 +24,12 @@ returns c =
     let same : toBits binary64 (a .last) ≡ toBits binary64 (a .kappa) = sym (c .before .bits-of2 .ensures) ∙ sym (c .if1 .taken) ∙ c .before .before .bits-of .ensures in
     b .pre .1 ∙ ap (logNormOf (a .d)) (equal (a .last) (a .kappa) (subst T (sym (b .good .1 .0 .1)) tt) (subst T (sym (b .good .0 .1)) tt) same)
 
-log-norm-requires : tie.Need-log-norm-requires
-log-norm-requires c κs = search needs
+log-norm-from-requires : tie.Need-log-norm-from-requires
+log-norm-from-requires c κs = search needs
 
 returns-2 : tie.Need-returns-2
 returns-2 c = search needs
 
 pub norm-for-spec : {M : Type 1} → statement M
 norm-for-spec =
-    tie.close (tie.spec bits-of-requires bits-of-requires-2 returns log-norm-requires returns-2)
+    tie.close (tie.spec bits-of-requires bits-of-requires-2 returns log-norm-from-requires returns-2)

@@ -17,11 +17,11 @@ use Rattle.mixture.proofs.put_bases.Statement.{statement}
 use Rattle.mixture.proofs.put_bases.Tie as tie
 
 abbrev Inv-loop : tie.InvT-loop
-Inv-loop work₀ m k d kd weights kappas bases last₀ norm₀ c₀ work last norm c =
+Inv-loop work₀ m k d start kd weights kappas bases last₀ norm₀ c₀ work last norm c =
     (c ≤ k) × (length work ≡ length work₀) × (norm ≡ logNormOf d last) × Written basesR (baseAt d (modelOf (partsIn m k d work₀))) m k d work₀ c work
 
 abbrev μ-loop : tie.MeasureT-loop
-μ-loop work₀ m k d kd weights kappas bases last₀ norm₀ c₀ work last norm c = k - c
+μ-loop work₀ m k d start kd weights kappas bases last₀ norm₀ c₀ work last norm c = k - c
 
 mul-kd : tie.Need-mul-kd Inv-loop μ-loop
 mul-kd c = search needs
@@ -41,14 +41,14 @@ mul-last c = search needs
 slice-read-last : tie.Need-slice-read-last Inv-loop μ-loop
 slice-read-last c = search needs
 
-log-norm-requires : tie.Need-log-norm-requires Inv-loop μ-loop
-log-norm-requires c κs = search needs
+log-norm-from-requires : tie.Need-log-norm-from-requires Inv-loop μ-loop
+log-norm-from-requires c κs = search needs
 
 loop-holds : tie.Need-loop-holds Inv-loop μ-loop
 loop-holds c =
     let a = c .before .before .before .args in
     let p = partsIn (a .m) (a .k) (a .d) (a .work .now) in
-    (omega arith, refl, c .log-norm .ensures, written-start basesR (baseAt (a .d) (modelOf p)) (a .m) (a .k) (a .d) (a .work .now))
+    (omega arith, refl, c .log-norm-from .ensures, written-start basesR (baseAt (a .d) (modelOf p)) (a .m) (a .k) (a .d) (a .work .now))
 
 add-kappa : tie.Need-add-kappa Inv-loop μ-loop
 add-kappa c = search needs
@@ -103,7 +103,7 @@ loop-again c =
     let r₁ = written-read basesR f (a .m) (a .k) (a .d) (a .work .now) weightsR (λ x p. refl) (l .work) (at + l .c) (l .c) (omega arith) h o in
     let r₂ = written-read basesR f (a .m) (a .k) (a .d) (a .work .now) kappasR (λ x p. refl) (l .work) (at + a .k + l .c) (l .c) (omega arith) h o in
     let e : c .base .result ≡ f (l .c) = c .base .ensures ∙ ap (add binary64 (lnOf (maxOf _ weightFloor))) (n .ensures) ∙ ap₂ (baseOf (a .d)) r₁ r₂ in
-    let more = written-turn basesR f (a .m) (a .k) (a .d) (a .work .now) (l .work) (at + a .k + a .k + l .c) (l .c) (c .base .result) (omega arith) h (b .pre .work-long) e o in
+    let more = written-turn basesR f (a .m) (a .k) (a .d) (a .work .now) (l .work) (at + a .k + a .k + l .c) (l .c) (c .base .result) (omega arith) h (b .pre .0 .work-long) e o in
     (omega arith, search needs, n .ensures, more)
 
 same-length : tie.Need-same-length Inv-loop μ-loop
@@ -115,7 +115,7 @@ returns c =
     let b = c .before .before .before .before .before in
     let a = b .args in
     let p = partsIn (a .m) (a .k) (a .d) (a .work .now) in
-    written-end basesR (baseAt (a .d) (modelOf p)) (a .m) (a .k) (a .d) (a .work .now) (l .work) (l .c) (a .k) (omega arith) refl (b .pre .work-long) (l .inv .3)
+    written-end basesR (baseAt (a .d) (modelOf p)) (a .m) (a .k) (a .d) (a .work .now) (l .work) (l .c) (a .k) (omega arith) refl (b .pre .0 .work-long) (l .inv .3)
 
 pub put-bases-spec : {M : Type 1} → statement M
 put-bases-spec =
@@ -129,7 +129,7 @@ put-bases-spec =
     add-bases
     mul-last
     slice-read-last
-    log-norm-requires
+    log-norm-from-requires
     loop-holds
     add-kappa
     mul-kappa
