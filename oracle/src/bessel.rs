@@ -1,4 +1,4 @@
-// Kinds 17 to 20: ln_gamma, log_vmf_norm, estimate_kappa, kappa_max of the original; and kind 26: its ln_gamma of d / 2.
+// Kinds 17 to 20: ln_gamma, log_vmf_norm, estimate_kappa, kappa_max of the original; and kind 26, ln_gamma of d / 2.
 use crate::cases::{around, bits, Case, List};
 use crate::rng::SplitMix64;
 use crate::vmf;

@@ -1,4 +1,4 @@
--- What functions ask of the number that they start the series from: it is ln_gamma of d/2, d a dimension. Definitions only.
+-- What functions ask of the number that the series starts from: it is ln_gamma of d/2, d a dimension. Definitions only.
 use mathlib.Core.Path.{_≡_}
 use Prim.Native.Nat.{ℕ}
 use lib.Ieee.{Float}

@@ -1,5 +1,5 @@
-// The log normalizing constant of vmf.rs and the estimate of a concentration (document 01, 'Concentration and normalizer').
-// Every f64 is taken, NaN and infinities included; a dimension is 1 to 256.
+// The log normalizing constant of vmf.rs and the estimate of a concentration (document 01, 'Concentration and
+// normalizer'). Every f64 is taken, NaN and infinities included; a dimension is 1 to 256.
 ghost use mathlib.Core.Path.{_≡_};
 ghost use lib.Ieee.{binary64, add};
 ghost use Rattle.float.specs.Arithmetic.{number};

@@ -1,9 +1,9 @@
 // Document 01's edge examples, run: a line for each, `yes` where the answer is as it says and `NO` where it is not; and
-// SplitMix64's published outputs; and the limits of spherical k-means, of the mixture fit and of the automatic fit; and the
-// refusals and the listing of a leaf file; and entries of the table of ln_gamma. The examples are the lines of standard
-// input. A line has its words, hexadecimal numbers with a space after each, of which word 0 is the kind, and behind a bar
-// the example's name. An f64 is its pattern. A list in a line is its length, how many of its elements are written, and
-// these; the last of them stands for the rest.
+// SplitMix64's published outputs; and the limits of spherical k-means, of the mixture fit and of the automatic fit; and
+// the refusals and the listing of a leaf file; and entries of the table of ln_gamma. The examples are the lines of
+// standard input. A line has its words, hexadecimal numbers with a space after each, of which word 0 is the kind, and
+// behind a bar the example's name. An f64 is its pattern. A list in a line is its length, how many of its elements are
+// written, and these; the last of them stands for the rest.
 ghost use mathlib.Core.Path.{_≡_};
 ghost use Prim.Native.Nat.{_<_, _≤_};
 ghost use lib.ListN.{length};

@@ -1,5 +1,5 @@
-// The generator of the table of ln_gamma (document 02, #105): prints ln_gamma(d / 2) for d = 1 to 256, one a line, as the
-// 16 hexadecimal digits of the f64's bits. table.py beside this folder makes the table's source of what it prints.
+// The generator of the table of ln_gamma (document 02, #105): prints ln_gamma(d / 2) for d = 1 to 256, one a line, as
+// the 16 hexadecimal digits of the f64's bits. table.py beside this folder makes the table's source of what it prints.
 ghost use mathlib.Core.Path.{_≡_};
 ghost use lib.Ieee.{binary64, toBits};
 ghost use Rattle.gamma.specs.Gamma.{lnGammaHalf};

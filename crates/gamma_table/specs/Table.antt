@@ -1,4 +1,4 @@
--- Document 02, #105: the table has 256 values for d = 1 to 256; each entry is `ln_gamma` of d/2 by document 01's arithmetic.
+-- Document 02, #105: 256 values for d = 1 to 256; each entry is `ln_gamma` of d/2 by document 01's arithmetic.
 -- Definitions only.
 use mathlib.Core.Path.{_≡_}
 use mathlib.Core.List.{List}

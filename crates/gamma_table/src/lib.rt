@@ -2,7 +2,9 @@
 ghost use mathlib.Core.Path.{_≡_};
 ghost use Prim.Native.Nat.{_≤_};
 ghost use Rattle.gamma.specs.Gamma.{lnGammaHalf};
+
 mod entries;
+
 use entries::LN_GAMMA;
 
 // ln_gamma(d / 2).

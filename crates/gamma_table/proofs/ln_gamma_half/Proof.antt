@@ -1,5 +1,5 @@
--- `gamma_table::ln_gamma_half` meets its contract: the table's rule at d. The rule, `table-is`, is one test of all entries of the table that the code
--- holds. antt computes it, in three parts, since it bounds the steps of one declaration. Assumes nothing.
+-- `gamma_table::ln_gamma_half` meets its contract: the table's rule at d. The rule, `table-is`, is one test of all entries of the table that
+-- the code holds. antt computes it, in three parts, since it bounds the steps of one declaration. Assumes nothing.
 use borrow.Author.Needs.{needs}
 use mathlib.Core.Path.{_≡_, refl, _∙_}
 use mathlib.Core.Bool.{Bool}
@@ -8,7 +8,9 @@ use Prim.Native.Nat.{ℕ, _-_, _≤_}
 use native.Mathlib.Omega.{arith}
 use lib.Dec.{T}
 use lib.ListN.{getD}
-use mir.Syntax.{Opd, copy, int, intNeg, intBig, float, opdTrue, opdFalse, opdUnit, ptrConst, Rv, rvOpd, op2, op1, addrOf, aggregate, repeat, Body, skip, seq, assign, block, loop, cond, switch, exit, return, call}
+use mir.Syntax.{Opd, copy, int, intNeg, intBig, float, opdTrue, opdFalse, opdUnit, ptrConst}
+use mir.Syntax.{Rv, rvOpd, op2, op1, addrOf, aggregate, repeat}
+use mir.Syntax.{Body, skip, seq, assign, block, loop, cond, switch, exit, return, call}
 use lib.Ieee.{Float, nan, binary64, add, sub, mul, div, lt, round, size, ofBits, ofInt}
 use Rattle.float.specs.Arithmetic.{f64, number}
 use Rattle.float.specs.Parts.{unitsOf}
