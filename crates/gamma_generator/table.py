@@ -11,7 +11,7 @@ import sys
 
 words = sys.stdin.read().split()
 assert len(words) == 256 and all(len(w) == 16 for w in words)
-print("// ln_gamma(d / 2) for d = 1 to 256, and the bits. Made by crates/gamma_generator/table.py, not written by hand.")
+print("// ln_gamma(d / 2) for d = 1 to 256, with the bits. Made by crates/gamma_generator/table.py, not by hand.")
 print("pub const LN_GAMMA: [f64; 256] = [")
 for w in words:
     print("    %r, // %s" % (struct.unpack(">d", bytes.fromhex(w))[0], w))

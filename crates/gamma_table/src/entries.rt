@@ -1,4 +1,4 @@
-// ln_gamma(d / 2) for d = 1 to 256, and the bits. Made by crates/gamma_generator/table.py, not written by hand.
+// ln_gamma(d / 2) for d = 1 to 256, with the bits. Made by crates/gamma_generator/table.py, not by hand.
 pub const LN_GAMMA: [f64; 256] = [
     0.5723649429246995, // 3fe250d048e7a1b8
     -8.881784197001252e-16, // bcd0000000000000

@@ -455,7 +455,7 @@ fn em_from(
     requires { ⌜ StartOf d start ⌝ }
     ensures { λ r. ⌜ emOf (partsIn m k d (now (work .exit))) r
         ≡ emFrom kappa (now (weights .entry)) (now (coords .entry)) m k d rounds 0
-            (emOf (partsIn m k d (now (work .entry))) (inf true)) ⌝ }
+        (emOf (partsIn m k d (now (work .entry))) (inf true)) ⌝ }
 {
     let mut loglik = -1.0 / 0.0;
     let mut it = 0;
@@ -486,7 +486,7 @@ fn em(
     requires { ⌜ Leaves (length (now weights)) (length (now coords)) m d ⌝ }
     ensures { λ r. ⌜ emOf (partsIn m k d (now (work .exit))) r
         ≡ emFrom kappa (now (weights .entry)) (now (coords .entry)) m k d rounds 0
-            (emOf (partsIn m k d (now (work .entry))) (inf true)) ⌝ }
+        (emOf (partsIn m k d (now (work .entry))) (inf true)) ⌝ }
 {
     let start = gamma_table::ln_gamma_half(d);
     em_from(work, weights, coords, kappa, rounds, m, k, d, start)

@@ -1,5 +1,5 @@
--- `bessel::log_vmf_norm_from` meets its contract: the operations of `logNormAt` on what the calls ensure; nu + 1 is d/2, and the constant is
--- the logarithm of TAU. Assumes nothing.
+-- `bessel::log_vmf_norm_from` meets its contract: the operations of `logNormAt` on what the calls ensure; nu + 1 is d/2, and the constant
+-- is the logarithm of TAU. Assumes nothing.
 use borrow.Author.Needs.{needs}
 use mathlib.Core.Path.{sym, ap, _∙_}
 use native.Mathlib.Omega.{arith}

@@ -1,5 +1,5 @@
--- `gamma_table::ln_gamma_half` meets its contract: the table's rule at d. The rule, `table-is`, is one test of all entries of the table that
--- the code holds. antt computes it, in three parts, since it bounds the steps of one declaration. Assumes nothing.
+-- `gamma_table::ln_gamma_half` meets its contract: the table's rule at d. The rule, `table-is`, is one test of all entries of the table
+-- that the code holds. antt computes it, in three parts, since it bounds the steps of one declaration. Assumes nothing.
 use borrow.Author.Needs.{needs}
 use mathlib.Core.Path.{_≡_, refl, _∙_}
 use mathlib.Core.Bool.{Bool}

@@ -1,5 +1,5 @@
--- `mixture::em_from` meets its contract. The loop's invariant: the rounds that are left, from the parts and the log-likelihood as they are, end as all
--- rounds do from the start. The measure is what is left of the rounds. Assumes nothing.
+-- `mixture::em_from` meets its contract. The loop's invariant: the rounds that are left, from the parts and the log-likelihood as they are,
+-- end as all rounds do from the start. The measure is what is left of the rounds. Assumes nothing.
 use mathlib.Core.Path.{_≡_, refl, sym, _∙_}
 use mathlib.Core.Bool.{true}
 use Prim.Native.Nat.{_≤_, _+_, _-_}
@@ -55,12 +55,14 @@ loop-again c =
     let more = test .loop-test .taken in
     let p = emOf (partsIn (a .m) (a .k) (a .d) (l .work)) (l .loglik) in
     let q = emOf (partsIn (a .m) (a .k) (a .d) (r .last .0)) (r .result) in
-    let goes-on = sym (c .before .stops-at .ensures) ∙ c .if1 .left in
-    let turn =
-        em-turn (a .kappa) (a .weights .now) (a .coords .now) (a .m) (a .k) (a .d) (a .rounds - l .it) (a .rounds - (l .it + 1)) (l .it) p q
-        (omega (arith, more)) (r .ensures) goes-on
-    in
-    (omega (arith, more), r .kept .0 ∙ l .inv .1, turn ∙ l .inv .2)
+    let left = a .rounds - l .it in
+    let rest = a .rounds - (l .it + 1) in
+    let goes-on = sym (c .before .stops-at .ensures) ∙ c .if1 .left in (
+      omega (arith, more),
+      r .kept .0 ∙ l .inv .1,
+      em-turn (a .kappa) (a .weights .now) (a .coords .now) (a .m) (a .k) (a .d) left rest (l .it) p q (omega (arith, more)) (r .ensures) goes-on
+          ∙ l .inv .2,
+    )
 
 same-length : tie.Need-same-length Inv-loop μ-loop
 same-length c = c .before .loop .inv .1
@@ -70,7 +72,8 @@ returns c =
     let l = c .before .loop in
     let a = c .before .before .before .before .before .args in
     let p = emOf (partsIn (a .m) (a .k) (a .d) (l .work)) (l .loglik) in
-    em-end (a .kappa) (a .weights .now) (a .coords .now) (a .m) (a .k) (a .d) (a .rounds - l .it) (l .it) p (omega (arith, c .loop-test .left))
+    let left = a .rounds - l .it in
+    em-end (a .kappa) (a .weights .now) (a .coords .now) (a .m) (a .k) (a .d) left (l .it) p (omega (arith, c .loop-test .left))
     ∙ l .inv .2
 
 same-length-2 : tie.Need-same-length-2 Inv-loop μ-loop
@@ -87,9 +90,11 @@ returns-2 c =
     let r = round .em-round in
     let p = emOf (partsIn (a .m) (a .k) (a .d) (l .work)) (l .loglik) in
     let q = emOf (partsIn (a .m) (a .k) (a .d) (r .last .0)) (r .result) in
+    let left = a .rounds - l .it in
+    let rest = a .rounds - (l .it + 1) in
+    let more = test .loop-test .taken in
     let stops = sym (c .before .stops-at .ensures) ∙ c .if1 .taken in
-    em-stop (a .kappa) (a .weights .now) (a .coords .now) (a .m) (a .k) (a .d) (a .rounds - l .it) (a .rounds - (l .it + 1)) (l .it) p q
-    (omega (arith, test .loop-test .taken)) (r .ensures) stops
+    em-stop (a .kappa) (a .weights .now) (a .coords .now) (a .m) (a .k) (a .d) left rest (l .it) p q (omega (arith, more)) (r .ensures) stops
     ∙ l .inv .2
 
 pub em-from-spec : {M : Type 1} → statement M

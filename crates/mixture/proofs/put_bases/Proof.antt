@@ -1,5 +1,5 @@
--- `mixture::put_bases` meets its contract. The loop's invariant: the bases of the first c groups stand before what was there, and `norm` is the normalizer of `last`.
--- Assumes nothing.
+-- `mixture::put_bases` meets its contract. The loop's invariant: the bases of the first c groups stand before what was there, and `norm` is
+-- the normalizer of `last`. Assumes nothing.
 use mathlib.Core.Path.{_≡_, refl, ap, ap₂, _∙_}
 use Prim.Native.Nat.{_+_, _*_, _-_, _≤_, _<_}
 use native.Mathlib.Omega.{arith}
@@ -18,7 +18,8 @@ use Rattle.mixture.proofs.put_bases.Tie as tie
 
 abbrev Inv-loop : tie.InvT-loop
 Inv-loop work₀ m k d start kd weights kappas bases last₀ norm₀ c₀ work last norm c =
-    (c ≤ k) × (length work ≡ length work₀) × (norm ≡ logNormOf d last) × Written basesR (baseAt d (modelOf (partsIn m k d work₀))) m k d work₀ c work
+    (c ≤ k) × (length work ≡ length work₀) × (norm ≡ logNormOf d last)
+    × Written basesR (baseAt d (modelOf (partsIn m k d work₀))) m k d work₀ c work
 
 abbrev μ-loop : tie.MeasureT-loop
 μ-loop work₀ m k d start kd weights kappas bases last₀ norm₀ c₀ work last norm c = k - c
@@ -94,16 +95,21 @@ loop-again c =
     let l = c .before .before .before .before .before .loop in
     let b = c .before .before .before .before .before .before .before .before .before in
     let a = b .args in
-    let p = partsIn (a .m) (a .k) (a .d) (a .work .now) in
+    let old = a .work .now in
     let at = a .k * a .d + a .k * a .d in
-    let f = baseAt (a .d) (modelOf p) in
+    let f = baseAt (a .d) (modelOf (partsIn (a .m) (a .k) (a .d) old)) in
     let h : l .c < a .k = omega arith in
     let n = c .before .before .norm-for in
     let o = l .inv .3 in
-    let r₁ = written-read basesR f (a .m) (a .k) (a .d) (a .work .now) weightsR (λ x p. refl) (l .work) (at + l .c) (l .c) (omega arith) h o in
-    let r₂ = written-read basesR f (a .m) (a .k) (a .d) (a .work .now) kappasR (λ x p. refl) (l .work) (at + a .k + l .c) (l .c) (omega arith) h o in
-    let e : c .base .result ≡ f (l .c) = c .base .ensures ∙ ap (add binary64 (lnOf (maxOf _ weightFloor))) (n .ensures) ∙ ap₂ (baseOf (a .d)) r₁ r₂ in
-    let more = written-turn basesR f (a .m) (a .k) (a .d) (a .work .now) (l .work) (at + a .k + a .k + l .c) (l .c) (c .base .result) (omega arith) h (b .pre .0 .work-long) e o in
+    let w = at + l .c in
+    let r₁ = written-read basesR f (a .m) (a .k) (a .d) old weightsR (λ x p. refl) (l .work) w (l .c) (omega arith) h o in
+    let x = at + a .k + l .c in
+    let r₂ = written-read basesR f (a .m) (a .k) (a .d) old kappasR (λ x p. refl) (l .work) x (l .c) (omega arith) h o in
+    let norm = ap (add binary64 (lnOf (maxOf _ weightFloor))) (n .ensures) in
+    let e : c .base .result ≡ f (l .c) = c .base .ensures ∙ norm ∙ ap₂ (baseOf (a .d)) r₁ r₂ in
+    let y = at + a .k + a .k + l .c in
+    let long = b .pre .0 .work-long in
+    let more = written-turn basesR f (a .m) (a .k) (a .d) old (l .work) y (l .c) (c .base .result) (omega arith) h long e o in
     (omega arith, search needs, n .ensures, more)
 
 same-length : tie.Need-same-length Inv-loop μ-loop
@@ -114,8 +120,9 @@ returns c =
     let l = c .before .loop in
     let b = c .before .before .before .before .before in
     let a = b .args in
-    let p = partsIn (a .m) (a .k) (a .d) (a .work .now) in
-    written-end basesR (baseAt (a .d) (modelOf p)) (a .m) (a .k) (a .d) (a .work .now) (l .work) (l .c) (a .k) (omega arith) refl (b .pre .0 .work-long) (l .inv .3)
+    let old = a .work .now in
+    let f = baseAt (a .d) (modelOf (partsIn (a .m) (a .k) (a .d) old)) in
+    written-end basesR f (a .m) (a .k) (a .d) old (l .work) (l .c) (a .k) (omega arith) refl (b .pre .0 .work-long) (l .inv .3)
 
 pub put-bases-spec : {M : Type 1} → statement M
 put-bases-spec =
