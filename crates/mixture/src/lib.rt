@@ -438,40 +438,7 @@ fn stops_at(it: usize, old: f64, new: f64) -> bool
     (it > 0) & (float::abs(new - old) <= 1e-7 * float::max(float::abs(old), 1.0))
 }
 
-// Rounds until the log-likelihood stands, at most `rounds`; the last log-likelihood. `start` is ln_gamma(d / 2).
-fn em_from(
-    work: &mut [f64],
-    weights: &[f64],
-    coords: &[f64],
-    kappa: groups::Kappa,
-    rounds: usize,
-    m: usize,
-    k: usize,
-    d: usize,
-    start: f64,
-) -> f64
-    requires { ⌜ (Area (length (now work)) m k d) × (rounds ≤ 10000) ⌝ }
-    requires { ⌜ Leaves (length (now weights)) (length (now coords)) m d ⌝ }
-    requires { ⌜ StartOf d start ⌝ }
-    ensures { λ r. ⌜ emOf (partsIn m k d (now (work .exit))) r
-        ≡ emFrom kappa (now (weights .entry)) (now (coords .entry)) m k d rounds 0
-        (emOf (partsIn m k d (now (work .entry))) (inf true)) ⌝ }
-{
-    let mut loglik = -1.0 / 0.0;
-    let mut it = 0;
-    while it < rounds {
-        let new = em_round(work, weights, coords, kappa, m, k, d, start);
-        let stops = stops_at(it, loglik, new);
-        loglik = new;
-        if stops {
-            break;
-        }
-        it += 1;
-    }
-    loglik
-}
-
-// The same, with ln_gamma(d / 2) read from the table once.
+// Rounds until the log-likelihood stands, at most `rounds`; the last log-likelihood. The table is read once, before.
 fn em(
     work: &mut [f64],
     weights: &[f64],
@@ -489,7 +456,18 @@ fn em(
         (emOf (partsIn m k d (now (work .entry))) (inf true)) ⌝ }
 {
     let start = gamma_table::ln_gamma_half(d);
-    em_from(work, weights, coords, kappa, rounds, m, k, d, start)
+    let mut loglik = -1.0 / 0.0;
+    let mut it = 0;
+    while it < rounds {
+        let new = em_round(work, weights, coords, kappa, m, k, d, start);
+        let stops = stops_at(it, loglik, new);
+        loglik = new;
+        if stops {
+            break;
+        }
+        it += 1;
+    }
+    loglik
 }
 
 // ---- the start
