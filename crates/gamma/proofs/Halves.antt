@@ -1,6 +1,5 @@
 -- d/2 − 1 + 1 is d/2, for every d from 1 to 256: computed. Assumes nothing.
 use mathlib.Core.Path.{_≡_}
-use mathlib.Core.Bool.{Bool}
 use Prim.Native.Nat.{ℕ, _≤_}
 use native.Mathlib.Omega.{arith}
 use lib.Ieee.{Float, binary64, add, sub, div, round, size, ofInt}

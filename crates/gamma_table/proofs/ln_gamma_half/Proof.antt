@@ -4,7 +4,7 @@ use borrow.Author.Needs.{needs}
 use mathlib.Core.Path.{_≡_, refl, _∙_}
 use mathlib.Core.Bool.{Bool}
 use mathlib.Core.List.{List, [], map}
-use Prim.Native.Nat.{ℕ, _-_, _≤_}
+use Prim.Native.Nat.{ℕ, _-_}
 use native.Mathlib.Omega.{arith}
 use lib.Dec.{T}
 use lib.ListN.{getD}
@@ -23,7 +23,7 @@ use Rattle.gamma_table.proofs.ln_gamma_half.Code.Mir.{s-1}
 use Rattle.gamma_table.proofs.ln_gamma_half.Statement.{statement}
 use Rattle.gamma_table.proofs.ln_gamma_half.Tie as tie
 
--- ---- the table of the code: what its first statement puts together
+-- ---- the table of the code: what the first statement, s-1, of the function puts together
 abbrev valueOf : Opd → Float
 valueOf (copy p) = nan
 valueOf (int w n) = nan
@@ -60,7 +60,7 @@ table = map valueOf (puts s-1)
 
 -- ---- the test of an entry
 
--- ln_gamma of d/2, with the constant
+-- ln_gamma of d/2, with the constant in the place of the logarithm of TAU
 quick : ℕ → Float
 quick d =
     let x = sub binary64 (div binary64 (number d) (number 2)) (number 1) in
