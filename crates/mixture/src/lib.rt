@@ -87,13 +87,13 @@ fn norm_for(kappa: f64, last: f64, norm: f64, d: usize, start: f64) -> f64
     groups::log_norm_from(kappa, d, start)
 }
 
-// The base of each group; `start` is ln_gamma(d / 2).
-fn put_bases(work: &mut [f64], m: usize, k: usize, d: usize, start: f64)
+// The base of each group. The table is read once for all.
+fn put_bases(work: &mut [f64], m: usize, k: usize, d: usize)
     requires { ⌜ Area (length (now work)) m k d ⌝ }
-    requires { ⌜ StartOf d start ⌝ }
     ensures { λ _. ⌜ partsIn m k d (now (work .exit))
         ≡ withBases (basesOf k d (modelOf (partsIn m k d (now (work .entry))))) (partsIn m k d (now (work .entry))) ⌝ }
 {
+    let start = gamma_table::ln_gamma_half(d);
     let kd = k * d;
     let weights = kd + kd;
     let kappas = weights + k;
@@ -409,7 +409,7 @@ fn maximize_model(
 
 // ---- the rounds
 
-// One round; its log-likelihood. `start` is ln_gamma(d / 2).
+// One round; its log-likelihood.
 fn em_round(
     work: &mut [f64],
     weights: &[f64],
@@ -418,14 +418,12 @@ fn em_round(
     m: usize,
     k: usize,
     d: usize,
-    start: f64,
 ) -> f64
     requires { ⌜ Area (length (now work)) m k d ⌝ }
     requires { ⌜ Leaves (length (now weights)) (length (now coords)) m d ⌝ }
-    requires { ⌜ StartOf d start ⌝ }
     ensures { λ r. ⌜ emOf (partsIn m k d (now (work .exit))) r ≡ emRound kappa (now (weights .entry)) (now (coords .entry)) m k d (modelOf (partsIn m k d (now (work .entry)))) ⌝ }
 {
-    put_bases(work, m, k, d, start);
+    put_bases(work, m, k, d);
     let loglik = expect(work, weights, coords, m, k, d);
     maximize_model(work, weights, coords, kappa, m, k, d);
     loglik
@@ -438,7 +436,7 @@ fn stops_at(it: usize, old: f64, new: f64) -> bool
     (it > 0) & (float::abs(new - old) <= 1e-7 * float::max(float::abs(old), 1.0))
 }
 
-// Rounds until the log-likelihood stands, at most `rounds`; the last log-likelihood. The table is read once, before.
+// Rounds until the log-likelihood stands, at most `rounds`; the last log-likelihood.
 fn em(
     work: &mut [f64],
     weights: &[f64],
@@ -451,15 +449,12 @@ fn em(
 ) -> f64
     requires { ⌜ (Area (length (now work)) m k d) × (rounds ≤ 10000) ⌝ }
     requires { ⌜ Leaves (length (now weights)) (length (now coords)) m d ⌝ }
-    ensures { λ r. ⌜ emOf (partsIn m k d (now (work .exit))) r
-        ≡ emFrom kappa (now (weights .entry)) (now (coords .entry)) m k d rounds 0
-        (emOf (partsIn m k d (now (work .entry))) (inf true)) ⌝ }
+    ensures { λ r. ⌜ emOf (partsIn m k d (now (work .exit))) r ≡ emFrom kappa (now (weights .entry)) (now (coords .entry)) m k d rounds 0 (emOf (partsIn m k d (now (work .entry))) (inf true)) ⌝ }
 {
-    let start = gamma_table::ln_gamma_half(d);
     let mut loglik = -1.0 / 0.0;
     let mut it = 0;
     while it < rounds {
-        let new = em_round(work, weights, coords, kappa, m, k, d, start);
+        let new = em_round(work, weights, coords, kappa, m, k, d);
         let stops = stops_at(it, loglik, new);
         loglik = new;
         if stops {

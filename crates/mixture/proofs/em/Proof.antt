@@ -1,5 +1,5 @@
--- `mixture::em` meets its contract. The loop's invariant: the rounds that are left, from the parts and the log-likelihood as they are,
--- end as all rounds do from the start. The measure is what is left of the rounds. Assumes nothing.
+-- `mixture::em` meets its contract. The loop's invariant: the rounds that are left, from the parts and the log-likelihood as they are, end as all rounds do from the
+-- start. The measure is what is left of the rounds. Assumes nothing.
 use mathlib.Core.Path.{_≡_, refl, sym, _∙_}
 use mathlib.Core.Bool.{true}
 use Prim.Native.Nat.{_≤_, _+_, _-_}
@@ -16,18 +16,12 @@ use Rattle.mixture.proofs.em.Statement.{statement}
 use Rattle.mixture.proofs.em.Tie as tie
 
 abbrev Inv-loop : tie.InvT-loop
-Inv-loop work₀ weights coords kappa rounds m k d start loglik₀ it₀ work loglik it =
-    let from = emFrom kappa weights coords m k d in
+Inv-loop work₀ weights coords kappa rounds m k d loglik₀ it₀ work loglik it =
     (it ≤ rounds) × (length work ≡ length work₀)
-    × (from (rounds - it) it (emOf (partsIn m k d work) loglik) ≡ from rounds 0 (emOf (partsIn m k d work₀) (inf true)))
+    × (emFrom kappa weights coords m k d (rounds - it) it (emOf (partsIn m k d work) loglik) ≡ emFrom kappa weights coords m k d rounds 0 (emOf (partsIn m k d work₀) (inf true)))
 
 abbrev μ-loop : tie.MeasureT-loop
-μ-loop work₀ weights coords kappa rounds m k d start loglik₀ it₀ work loglik it = rounds - it
-
-ln-gamma-half-requires : tie.Need-ln-gamma-half-requires Inv-loop μ-loop
-ln-gamma-half-requires c κs =
-    let area = c .before .before .before .pre .0 .0 in
-    (area .d-some, area .d-small)
+μ-loop work₀ weights coords kappa rounds m k d loglik₀ it₀ work loglik it = rounds - it
 
 loop-holds : tie.Need-loop-holds Inv-loop μ-loop
 unfolding div neg ofBits
@@ -35,43 +29,30 @@ loop-holds c = (omega arith, refl, rw sub-zero)
 
 em-round-requires : tie.Need-em-round-requires Inv-loop μ-loop
 em-round-requires c κs =
-    let l = c .before .before in
-    let read = l .before in
-    let s = read .before .before .before .before in
-    let area = s .pre .0 .0 in
-    let e = read .ln-gamma-half .ensures in
-    let same = area-of _ _ (s .args .m) (s .args .k) (s .args .d) (l .loop .inv .1) area in
-    (same, (s .pre .1, record { dimension = record { least = area .d-some; most = area .d-small }; value = e }))
+    let s = c .before .before .before .before .before .before in
+    (area-of _ _ (s .args .m) (s .args .k) (s .args .d) (c .before .before .loop .inv .1) (s .pre .0 .0), s .pre .1)
+
+stops-at-requires : tie.Need-stops-at-requires Inv-loop μ-loop
+stops-at-requires c κs = search needs
 
 add-it : tie.Need-add-it Inv-loop μ-loop
-add-it c =
-    let test = c .before .before .before .before .before .before in
-    let s = test .before .before .before .before .before .before in
-    omega (arith, test .loop-test .taken, s .pre .0 .1)
+add-it c = let t = c .before .before .before .before .before .before in omega (arith, t .loop-test .taken, t .before .before .before .before .before .pre .0 .1)
 
 loop-less : tie.Need-loop-less Inv-loop μ-loop
-loop-less c =
-    let test = c .before .before .before .before .before .before in
-    omega (arith, test .loop-test .taken)
+loop-less c = omega (arith, c .before .before .before .before .before .before .loop-test .taken)
 
 loop-again : tie.Need-loop-again Inv-loop μ-loop
 loop-again c =
-    let round = c .before .before .before .before in
-    let test = round .before .before in
-    let l = test .before .loop in
-    let a = test .before .before .before .before .before .before .args in
-    let r = round .em-round in
-    let more = test .loop-test .taken in
+    let l = c .before .before .before .before .before .before .before .loop in
+    let a = c .before .before .before .before .before .before .before .before .before .before .before .args in
+    let r = c .before .before .before .before .em-round in
+    let more = c .before .before .before .before .before .before .loop-test .taken in
     let p = emOf (partsIn (a .m) (a .k) (a .d) (l .work)) (l .loglik) in
-    let q = emOf (partsIn (a .m) (a .k) (a .d) (r .last .0)) (r .result) in
-    let left = a .rounds - l .it in
-    let rest = a .rounds - (l .it + 1) in
-    let goes-on = sym (c .before .stops-at .ensures) ∙ c .if1 .left in (
+    let q = emOf (partsIn (a .m) (a .k) (a .d) (r .last .0)) (r .result) in (
       omega (arith, more),
       r .kept .0 ∙ l .inv .1,
-      em-turn (a .kappa) (a .weights .now) (a .coords .now) (a .m) (a .k) (a .d) left rest (l .it) p q (omega (arith, more)) (r .ensures)
-          goes-on
-          ∙ l .inv .2,
+      em-turn (a .kappa) (a .weights .now) (a .coords .now) (a .m) (a .k) (a .d) (a .rounds - l .it) (a .rounds - (l .it + 1)) (l .it) p q (omega (arith, more)) (r .ensures)
+          (sym (c .before .stops-at .ensures) ∙ c .if1 .left) ∙ l .inv .2,
     )
 
 same-length : tie.Need-same-length Inv-loop μ-loop
@@ -80,33 +61,22 @@ same-length c = c .before .loop .inv .1
 returns : tie.Need-returns Inv-loop μ-loop
 returns c =
     let l = c .before .loop in
-    let a = c .before .before .before .before .before .before .args in
-    let p = emOf (partsIn (a .m) (a .k) (a .d) (l .work)) (l .loglik) in
-    let left = a .rounds - l .it in
-    em-end (a .kappa) (a .weights .now) (a .coords .now) (a .m) (a .k) (a .d) left (l .it) p (omega (arith, c .loop-test .left))
-    ∙ l .inv .2
+    let a = c .before .before .before .before .before .args in
+    em-end (a .kappa) (a .weights .now) (a .coords .now) (a .m) (a .k) (a .d) (a .rounds - l .it) (l .it) (emOf (partsIn (a .m) (a .k) (a .d) (l .work)) (l .loglik))
+    (omega (arith, c .loop-test .left)) ∙ l .inv .2
 
 same-length-2 : tie.Need-same-length-2 Inv-loop μ-loop
-same-length-2 c =
-    let round = c .before .before .before .before in
-    round .em-round .kept .0 ∙ round .before .before .before .loop .inv .1
+same-length-2 c = c .before .before .before .before .em-round .kept .0 ∙ c .before .before .before .before .before .before .before .loop .inv .1
 
 returns-2 : tie.Need-returns-2 Inv-loop μ-loop
 returns-2 c =
-    let round = c .before .before .before .before in
-    let test = round .before .before in
-    let l = test .before .loop in
-    let a = test .before .before .before .before .before .before .args in
-    let r = round .em-round in
+    let l = c .before .before .before .before .before .before .before .loop in
+    let a = c .before .before .before .before .before .before .before .before .before .before .before .args in
+    let r = c .before .before .before .before .em-round in
     let p = emOf (partsIn (a .m) (a .k) (a .d) (l .work)) (l .loglik) in
     let q = emOf (partsIn (a .m) (a .k) (a .d) (r .last .0)) (r .result) in
-    let left = a .rounds - l .it in
-    let rest = a .rounds - (l .it + 1) in
-    let more = test .loop-test .taken in
-    let stops = sym (c .before .stops-at .ensures) ∙ c .if1 .taken in
-    em-stop (a .kappa) (a .weights .now) (a .coords .now) (a .m) (a .k) (a .d) left rest (l .it) p q (omega (arith, more)) (r .ensures)
-    stops
-    ∙ l .inv .2
+    em-stop (a .kappa) (a .weights .now) (a .coords .now) (a .m) (a .k) (a .d) (a .rounds - l .it) (a .rounds - (l .it + 1)) (l .it) p q
+    (omega (arith, c .before .before .before .before .before .before .loop-test .taken)) (r .ensures) (sym (c .before .stops-at .ensures) ∙ c .if1 .taken) ∙ l .inv .2
 
 pub em-spec : {M : Type 1} → statement M
 em-spec =
@@ -114,10 +84,9 @@ em-spec =
     (tie.spec
     Inv-loop
     μ-loop
-    ln-gamma-half-requires
     loop-holds
     em-round-requires
-    (λ c κs. search needs)
+    stops-at-requires
     add-it
     loop-less
     loop-again

@@ -13,14 +13,14 @@ put-bases-requires c κs = search needs
 expect-requires : tie.Need-expect-requires
 expect-requires c κs =
     let s = c .before .before .before .before .before .before .before .before in
-    (area-of _ _ (s .args .m) (s .args .k) (s .args .d) (c .before .before .before .put-bases .kept .0) (s .pre .0), s .pre .1 .0)
+    (area-of _ _ (s .args .m) (s .args .k) (s .args .d) (c .before .before .before .put-bases .kept .0) (s .pre .0), s .pre .1)
 
 maximize-model-requires : tie.Need-maximize-model-requires
 maximize-model-requires c κs =
     let e = c .before .before .before in
     let b = e .before .before .before .before in
     let s = b .before .before .before .before .before in
-    (area-of _ _ (s .args .m) (s .args .k) (s .args .d) (e .expect .kept .0 ∙ b .put-bases .kept .0) (s .pre .0), s .pre .1 .0)
+    (area-of _ _ (s .args .m) (s .args .k) (s .args .d) (e .expect .kept .0 ∙ b .put-bases .kept .0) (s .pre .0), s .pre .1)
 
 same-length : tie.Need-same-length
 same-length c =

@@ -24,6 +24,11 @@ Inv-loop work₀ m k d start kd weights kappas bases last₀ norm₀ c₀ work l
 abbrev μ-loop : tie.MeasureT-loop
 μ-loop work₀ m k d start kd weights kappas bases last₀ norm₀ c₀ work last norm c = k - c
 
+ln-gamma-half-requires : tie.Need-ln-gamma-half-requires Inv-loop μ-loop
+ln-gamma-half-requires c κs =
+    let area = c .before .pre in
+    (area .d-some, area .d-small)
+
 mul-kd : tie.Need-mul-kd Inv-loop μ-loop
 mul-kd c = search needs
 
@@ -43,11 +48,14 @@ slice-read-last : tie.Need-slice-read-last Inv-loop μ-loop
 slice-read-last c = search needs
 
 log-norm-from-requires : tie.Need-log-norm-from-requires Inv-loop μ-loop
-log-norm-from-requires c κs = search needs
+log-norm-from-requires c κs =
+    let read = c .before in
+    let area = read .before .before .pre in
+    record { dimension = record { least = area .d-some; most = area .d-small }; value = read .ln-gamma-half .ensures }
 
 loop-holds : tie.Need-loop-holds Inv-loop μ-loop
 loop-holds c =
-    let a = c .before .before .before .args in
+    let a = c .before .before .before .before .args in
     let p = partsIn (a .m) (a .k) (a .d) (a .work .now) in
     (omega arith, refl, c .log-norm-from .ensures, written-start basesR (baseAt (a .d) (modelOf p)) (a .m) (a .k) (a .d) (a .work .now))
 
@@ -61,7 +69,12 @@ slice-read-kappa : tie.Need-slice-read-kappa Inv-loop μ-loop
 slice-read-kappa c = search needs
 
 norm-for-requires : tie.Need-norm-for-requires Inv-loop μ-loop
-norm-for-requires c κs = search needs
+norm-for-requires c κs =
+    let l = c .before .before in
+    let read = l .before .before .before in
+    let area = read .before .before .pre in
+    let e = read .ln-gamma-half .ensures in
+    (record { dimension = record { least = area .d-some; most = area .d-small }; value = e }, l .loop .inv .2)
 
 add-base : tie.Need-add-base Inv-loop μ-loop
 add-base c = search needs
@@ -92,8 +105,9 @@ loop-less c = search needs
 
 loop-again : tie.Need-loop-again Inv-loop μ-loop
 loop-again c =
-    let l = c .before .before .before .before .before .loop in
-    let b = c .before .before .before .before .before .before .before .before .before in
+    let here = c .before .before .before .before .before in
+    let l = here .loop in
+    let b = here .before .before .before .before .before in
     let a = b .args in
     let old = a .work .now in
     let at = a .k * a .d + a .k * a .d in
@@ -108,7 +122,7 @@ loop-again c =
     let norm = ap (add binary64 (lnOf (maxOf _ weightFloor))) (n .ensures) in
     let e : c .base .result ≡ f (l .c) = c .base .ensures ∙ norm ∙ ap₂ (baseOf (a .d)) r₁ r₂ in
     let y = at + a .k + a .k + l .c in
-    let long = b .pre .0 .work-long in
+    let long = b .pre .work-long in
     let more = written-turn basesR f (a .m) (a .k) (a .d) old (l .work) y (l .c) (c .base .result) (omega arith) h long e o in
     (omega arith, search needs, n .ensures, more)
 
@@ -118,11 +132,11 @@ same-length c = search needs
 returns : tie.Need-returns Inv-loop μ-loop
 returns c =
     let l = c .before .loop in
-    let b = c .before .before .before .before .before in
+    let b = c .before .before .before .before .before .before in
     let a = b .args in
     let old = a .work .now in
     let f = baseAt (a .d) (modelOf (partsIn (a .m) (a .k) (a .d) old)) in
-    written-end basesR f (a .m) (a .k) (a .d) old (l .work) (l .c) (a .k) (omega arith) refl (b .pre .0 .work-long) (l .inv .3)
+    written-end basesR f (a .m) (a .k) (a .d) old (l .work) (l .c) (a .k) (omega arith) refl (b .pre .work-long) (l .inv .3)
 
 pub put-bases-spec : {M : Type 1} → statement M
 put-bases-spec =
@@ -130,6 +144,7 @@ put-bases-spec =
     (tie.spec
     Inv-loop
     μ-loop
+    ln-gamma-half-requires
     mul-kd
     add-weights
     add-kappas
