@@ -22,7 +22,7 @@ fn asymptotic_terms(nu: f64, w: f64) -> f64
 }
 
 // log I_nu(kappa) by DLMF 10.41.3.
-pub fn log_iv_asymptotic(nu: f64, kappa: f64) -> f64
+fn log_iv_asymptotic(nu: f64, kappa: f64) -> f64
     ensures { λ r. ⌜ r ≡ asymptoticOf nu kappa ⌝ }
 {
     let z = kappa / nu;
@@ -94,7 +94,7 @@ fn peak_sum(nu: f64, kappa: f64, half_ln: f64, first: f64) -> PeakSum
 }
 
 // log I_nu(kappa) by the power series, which starts from ln_gamma(nu + 1).
-pub fn log_iv_series(nu: f64, kappa: f64, start: f64) -> f64
+fn log_iv_series(nu: f64, kappa: f64, start: f64) -> f64
     requires { ⌜ start ≡ lnGammaOf (add binary64 nu (number 1)) ⌝ }
     ensures { λ r. ⌜ r ≡ seriesOf nu kappa ⌝ }
 {
@@ -104,7 +104,7 @@ pub fn log_iv_series(nu: f64, kappa: f64, start: f64) -> f64
 }
 
 // log I_nu(kappa), by the evaluator that serves.
-pub fn log_iv(nu: f64, kappa: f64, start: f64) -> f64
+fn log_iv(nu: f64, kappa: f64, start: f64) -> f64
     requires { ⌜ start ≡ lnGammaOf (add binary64 nu (number 1)) ⌝ }
     ensures { λ r. ⌜ r ≡ logIvOf nu kappa ⌝ }
 {

@@ -6,12 +6,12 @@ use lib.Ieee.{Float, binary64, add, sub, div, round, size, ofInt}
 use Rattle.float.specs.Arithmetic.{number}
 use Rattle.float.proofs.Computed.{same, same-eq, all-at}
 
-abbrev half : ℕ → Float
-half d = div binary64 (number d) (number 2)
+abbrev halved : ℕ → Float
+halved d = div binary64 (number d) (number 2)
 
 abbrev restored : ℕ → Float
-restored d = add binary64 (sub binary64 (half d) (number 1)) (number 1)
+restored d = add binary64 (sub binary64 (halved d) (number 1)) (number 1)
 
-pub less-and-more : (d : ℕ) → 1 ≤ d → d ≤ 256 → restored d ≡ half d
+pub less-and-more : (d : ℕ) → 1 ≤ d → d ≤ 256 → restored d ≡ halved d
 unfolding add sub div round size ofInt
-less-and-more d l m = same-eq (restored d) (half d) (all-at (λ (n : ℕ). same (restored n) (half n)) 1 256 d tt l (omega arith))
+less-and-more d l m = same-eq (restored d) (halved d) (all-at (λ (n : ℕ). same (restored n) (halved n)) 1 256 d tt l (omega arith))
