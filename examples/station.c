@@ -20,7 +20,7 @@ int main(void) {
     double responsibilities[SHOPS * MOST], group_weights[MOST], directions[MOST * GOODS], concentrations[MOST], logw[MOST];
     double work[2 * SHOPS * MOST + 4 * MOST * GOODS + 8 * SHOPS + 16 * MOST];
     uint32_t marks[2 * SHOPS + 2 * MOST];
-    uint64_t groups, counts[3];
+    uint64_t groups, counts[2];
     double loglik, score;
     uint32_t refused = mosterklomp_movmf_auto_with(
         weights, LENGTH(weights), sales, LENGTH(sales), GOODS, 1, MOST, 100, 7, false,

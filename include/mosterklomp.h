@@ -6,7 +6,7 @@
  * `shared` is false for a concentration of its own in each group (Free) and true for one of all groups (Shared).
  *
  * Every array is a pointer and, behind it, its length in entries. An array may be longer than asked for; the entries past what is asked for are left alone. Arrays must
- * not overlap, and no pointer may be null, not even with length 0. `counts` has room for three numbers: made, saved, doubled.
+ * not overlap, and no pointer may be null, not even with length 0. `counts` has room for two numbers: made, saved.
  *
  * The work arrays have at least 2*m*k + 4*k*d + 8*m + 16*k doubles (`work`) and 2*m + 2*k numbers (`marks`); what they hold before does not matter, and what they
  * hold afterwards means nothing.

@@ -77,7 +77,7 @@ pub fn answer(c: &Call, l: &mut Lent) -> u32 {
 
 fn counted(l: &mut Lent) {
     let c = counts::take();
-    l.counts = [c.made, c.saved, c.doubled];
+    (l.counts[0], l.counts[1]) = (c.made, c.saved);
 }
 
 // −2·loglik + p·ln(total weight), which the original does not return.

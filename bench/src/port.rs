@@ -47,6 +47,7 @@ pub struct Lent {
     pub cohesion: f64,
     pub loglik: f64,
     pub score: f64,
+    // made, saved, and an entry that no call may touch
     pub counts: [u64; 3],
 }
 

@@ -1,5 +1,5 @@
 // Kind 24: the original's `movmf_auto_with`. In: m, d, k_min, k_max, rounds, seed, Kappa (0 Free, 1 Shared), the weights, the coordinates. Out: the number kept, or 0
-// where the original finds none and panics, its log-likelihood and score, made, saved, doubled, and a digest of each of the six outputs. The score is not in the
+// where the original finds none and panics, its log-likelihood and score, made, saved, and a digest of each of the six outputs. The score is not in the
 // original's answer; it is worked out here by the original's expression.
 use crate::cases::{bits, Case, List};
 use crate::counts;
@@ -28,7 +28,7 @@ fn case(leaves: &[Leaf], s: &Settings) -> Case {
     let fit = std::panic::catch_unwind(|| vmf::movmf_auto_with::<f64, Leaf>(leaves, s.k_min, s.k_max, s.rounds, s.seed, s.kappa));
     let c = counts::take();
     let Ok(r) = fit else {
-        return (ins, [&[0, 0, 0, c.made, c.saved, c.doubled][..], &[0; 6]].concat());
+        return (ins, [&[0, 0, 0, c.made, c.saved][..], &[0; 6]].concat());
     };
     let k = r.weights.len();
     let p = if s.kappa == Kappa::Free { k * d + (k - 1) } else { k * d };
@@ -36,7 +36,7 @@ fn case(leaves: &[Leaf], s: &Settings) -> Case {
     let score = -2.0 * r.loglik + p as f64 * document::ln(total);
     let labels: Vec<u64> = r.labels.iter().map(|&l| l as u64).collect();
     let outputs = [labels, numbers(&r.resp.concat()), numbers(&r.weights), numbers(&r.means.concat()), numbers(&r.kappas), numbers(&r.mixture.logw)];
-    let mut out = vec![k as u64, bits(r.loglik), bits(score), c.made, c.saved, c.doubled];
+    let mut out = vec![k as u64, bits(r.loglik), bits(score), c.made, c.saved];
     out.extend(outputs.iter().map(|o| digest(o)));
     (ins, out)
 }

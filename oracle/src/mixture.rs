@@ -1,5 +1,5 @@
 // Kinds 22 and 23: the original's `movmf_with`. In: m, d, k, rounds, seed, Kappa (0 Free, 1 Shared), the weights, the coordinates. Out: log-likelihood, made, saved,
-// doubled, then the six outputs: labels, responsibilities, weights, directions, concentrations, logw. Kind 23 has a digest of each output in its place, for cases
+// then the six outputs: labels, responsibilities, weights, directions, concentrations, logw. Kind 23 has a digest of each output in its place, for cases
 // that would have too many words.
 use crate::cases::{bits, Case, List};
 use crate::counts;
@@ -51,7 +51,7 @@ fn case(leaves: &[Leaf], s: &Settings) -> (u64, Case) {
         numbers(&r.kappas),
         numbers(&r.mixture.logw),
     ];
-    let mut out = vec![bits(r.loglik), c.made, c.saved, c.doubled];
+    let mut out = vec![bits(r.loglik), c.made, c.saved];
     if ins.len() + out.len() + outputs.iter().map(Vec::len).sum::<usize>() <= WORDS {
         out.extend(outputs.concat());
         (22, (ins, out))

@@ -1,5 +1,5 @@
 // Kind 21: the original's `spherical_kmeans`. In: m, d, k, rounds, restarts, seed, the weights, the coordinates. Out: cohesion, made,
-// saved, doubled, the labels, the directions.
+// saved, the labels, the directions.
 use crate::cases::{bits, Case, List};
 use crate::counts;
 use crate::leaves::{leaves, words, SORTS};
@@ -22,7 +22,7 @@ fn case(leaves: &[Leaf], s: &Settings) -> Case {
     let c = counts::take();
     assert_eq!(c.made + c.saved, (s.k * m) as u64 * c.begun);
     let sizes = [m as u64, d as u64, s.k as u64, s.rounds as u64, s.restarts as u64, s.seed];
-    let mut out = vec![bits(r.cohesion), c.made, c.saved, c.doubled];
+    let mut out = vec![bits(r.cohesion), c.made, c.saved];
     out.extend(r.labels.iter().map(|&l| l as u64));
     out.extend(r.centers.iter().flatten().map(|&x| bits(x)));
     ([&sizes[..], &words(leaves)].concat(), out)

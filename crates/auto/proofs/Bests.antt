@@ -8,13 +8,14 @@ use native.Mathlib.Omega.{arith}
 use lib.Dec.{T-not}
 use lib.ListN.{length}
 use lib.Ieee.{Float, nan, inf, lt}
+use Rattle.lloyd.specs.Totals.{sumOver}
 use Rattle.mixture.specs.Fits.{Once}
 use Rattle.groups.specs.declared.Settings.{Settings}
 use Rattle.outputs.specs.Outputs.{Outputs, written}
 use Rattle.choice.specs.Choice.{heldScore, chooseBy, choose, chosen, BestOf}
 use Rattle.tries.specs.Tries.{Auto, tallyBy, outputsBy, lone, score, autoUpTo}
 use Rattle.auto.specs.Outcome.{answerBy, ended}
-use Rattle.auto.specs.Best.{refusalIn, Keeps, sumOver, products, Best}
+use Rattle.auto.specs.Best.{refusalIn, Keeps, products, Best}
 use Rattle.choice.specs.declared.Choice.{Choice}
 use Rattle.choice.specs.declared.Choice.the-variants.{Number, Nothing}
 use Rattle.tries.specs.declared.Tally.{Tally}
@@ -26,18 +27,18 @@ use Rattle.auto.proofs.Counts.{made-sum, saved-sum, work-sum, work-most
 -- ---- the parts of an answer
 abbrev numberIn : Chosen → ℕ
 numberIn (Refused code) = 0
-numberIn (Unscored made saved doubled) = 0
-numberIn (Done k loglik score made saved doubled) = k
+numberIn (Unscored made saved) = 0
+numberIn (Done k loglik score made saved) = k
 
 abbrev loglikIn : Chosen → Float
 loglikIn (Refused code) = nan
-loglikIn (Unscored made saved doubled) = nan
-loglikIn (Done k loglik score made saved doubled) = loglik
+loglikIn (Unscored made saved) = nan
+loglikIn (Done k loglik score made saved) = loglik
 
 abbrev scoreIn : Chosen → Float
 scoreIn (Refused code) = nan
-scoreIn (Unscored made saved doubled) = nan
-scoreIn (Done k loglik score made saved doubled) = score
+scoreIn (Unscored made saved) = nan
+scoreIn (Done k loglik score made saved) = score
 
 choice-by : (b : Bool) (k : ℕ) (x : Float) (fit : Once) (t : Tally) → tallyBy b k x fit t .choice ≡ chooseBy b (Number k x) (t .choice)
 choice-by true k x fit t = refl
@@ -91,7 +92,7 @@ module _ (o : Outputs) (weights coords : List Float) (d : ℕ) (s : Settings) wh
     limit = omega (arith, work, work-most o weights coords d s lo (hi + 1 - lo))
 
     -- an answer without a number keeps none
-    not-done : (k : ℕ) (x y : Float) → Keeps (Unscored (t .made) (t .saved) (t .doubled)) k x y → ⊥
+    not-done : (k : ℕ) (x y : Float) → Keeps (Unscored (t .made) (t .saved)) k x y → ⊥
     not-done k x y e = let f : _≡_ {A = ℕ} 7 0 = ap refusalIn (e .is) in omega (arith, f)
 
     best-by : (c : Choice) → Means scores lo (hi + 1 - lo) c → Held c (t .loglik) out → Best o weights coords d s lo hi (answerBy c t) out
@@ -113,11 +114,11 @@ module _ (o : Outputs) (weights coords : List Float) (d : ℕ) (s : Settings) wh
         record {
           kept-is-best = λ j y z e. subst (BestOf scores lo hi) (ap numberIn (e .is)) best;
           best-is-kept = λ j b.
-              subst (λ (i : ℕ). Keeps (Done k (t .loglik) x (t .made) (t .saved) (t .doubled)) i (scores i) (fits i .em .loglik)) (one-best scores lo hi k j best b)
+              subst (λ (i : ℕ). Keeps (Done k (t .loglik) x (t .made) (t .saved)) i (scores i) (fits i .em .loglik)) (one-best scores lo hi k j best b)
               (record {
-                counts = (t .made, t .saved, t .doubled);
-                is = ap (λ (y : Float). Done k y x (t .made) (t .saved) (t .doubled)) (h .0)
-                    ∙ ap (λ (y : Float). Done k (fits k .em .loglik) y (t .made) (t .saved) (t .doubled)) (m .0);
+                counts = (t .made, t .saved);
+                is = ap (λ (y : Float). Done k y x (t .made) (t .saved)) (h .0)
+                    ∙ ap (λ (y : Float). Done k (fits k .em .loglik) y (t .made) (t .saved)) (m .0);
               });
           seven-is-none = λ e. absurd (omega (arith, e));
           none-is-seven = λ e. absurd (T-not (lt (scores k) (inf false)) (e k (best .least) (best .most)) (best .below));

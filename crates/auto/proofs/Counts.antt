@@ -13,6 +13,7 @@ use Rattle.lloyd.specs.Lloyd.{startedFrom}
 use Rattle.seeding.specs.Seeding.{seedsOf}
 use Rattle.lloyd.specs.Runs.{freshRun}
 use Rattle.lloyd.specs.Results.{resultOf}
+use Rattle.lloyd.specs.Totals.{sumOver}
 use Rattle.lloyd.proofs.Runs.{run-counts}
 use Rattle.lloyd.proofs.Tallies.{begun-most}
 use Rattle.mixture.specs.Fits.{Once, onceOf}
@@ -21,7 +22,7 @@ use Rattle.runs.specs.Runs.{keepBy, runOf, runsUpTo}
 use Rattle.outputs.specs.Outputs.{Outputs}
 use Rattle.choice.specs.Choice.{heldScore}
 use Rattle.tries.specs.Tries.{tallyBy, lone, score, autoUpTo}
-use Rattle.auto.specs.Best.{sumOver, begun, products}
+use Rattle.auto.specs.Best.{begun, products}
 use Rattle.tries.specs.declared.Tally.{Tally}
 
 -- ---- sums

@@ -7,8 +7,8 @@ use lib.Dec.{leb}
 use lib.ListN.{length}
 use lib.Ieee.{Float}
 use borrow.Author.Tests.{leb-true}
-use Rattle.limits.specs.Limits.{need, weightOk, coordinateOk, every, sizesOk, roundsOk}
-use Rattle.limits.proofs.Limits.{met, sizes-met}
+use Rattle.limits.specs.Limits.{need, weightOk, coordinateOk, every, sizesOk, roundsOk, LeavesOk}
+use Rattle.limits.proofs.Limits.{admitted, sizes-met}
 use Rattle.outputs.specs.Refusals.{arraysOk}
 use Rattle.outputs.specs.declared.Lengths.{Lengths}
 use Rattle.outputs.proofs.Refusals.{arrays-met, roomy-by, fillable}
@@ -20,13 +20,14 @@ module _ (weights coords : List Float) (d hi rounds : ℕ) (l : Lengths) where
   unfolding refusalOf
   ready e some =
       let m = length weights in
-      let e1 = met (sizesOk m d (length coords)) 0 _ e in
-      let e2 = met (leb hi 64) 1 _ (e1 .1) in
-      let e3 = met (roundsOk rounds) 2 _ (e2 .1) in
-      let e4 = met (arraysOk m hi d l) 3 _ (e3 .1) in
-      let a = arrays-met m hi d l (e4 .0) in
-      let r = roomy-by m hi d rounds (length coords) l (sizes-met m d (length coords) (e1 .0)) some (leb-true _ _ (e2 .0)) (leb-true _ _ (e3 .0)) a in
+      let t = admitted _ _ _ _ _ _ e in
+      let a = arrays-met m hi d l (t .arrays-ok) in
+      let r = roomy-by m hi d rounds (length coords) l (sizes-met m d (length coords) (t .sizes-ok)) some (leb-true _ _ (t .groups-ok)) (leb-true _ _ (t .settings-ok)) a in
       record { roomy = r; fillable = fillable (l .work) m (length coords) m hi d rounds l refl r a }
+
+  pub leaves-ok : refusalOf weights coords d hi rounds l ≡ 0 → LeavesOk weights coords d
+  unfolding refusalOf
+  leaves-ok e = let t = admitted _ _ _ _ _ _ e in record { sizes-ok = t .sizes-ok; weights-ok = t .weights-ok; coords-ok = t .coords-ok }
 
   -- the first refusal by what each test answered
   pub refusal-by : (sizes groups within arrays ws xs : Bool) → sizesOk (length weights) d (length coords) ≡ sizes → leb hi 64 ≡ groups

@@ -3,11 +3,12 @@
 use mathlib.Core.Path.{_≡_}
 use mathlib.Core.List.{List}
 use mathlib.Core.Bool.{false, not}
-use Prim.Native.Nat.{ℕ, zero, suc, _+_, _-_, _*_, _≤_}
+use Prim.Native.Nat.{ℕ, _+_, _-_, _*_, _≤_}
 use lib.Dec.{T}
 use lib.ListN.{length}
 use lib.Ieee.{Float, inf, lt}
 use Rattle.rng.specs.SplitMix.{restartSeedOf}
+use Rattle.lloyd.specs.Totals.{sumOver}
 use Rattle.mixture.specs.Fits.{warmOf}
 use Rattle.groups.specs.declared.Settings.{Settings}
 use Rattle.outputs.specs.Outputs.{Outputs, written}
@@ -19,28 +20,23 @@ use Rattle.auto.specs.declared.Chosen.the-variants.{Refused, Unscored, D
 -- ---- document 01's number and values of an answer
 abbrev pub refusalIn : Chosen → ℕ
 refusalIn (Refused code) = code
-refusalIn (Unscored made saved doubled) = 7
-refusalIn (Done k loglik score made saved doubled) = 0
+refusalIn (Unscored made saved) = 7
+refusalIn (Done k loglik score made saved) = 0
 
 abbrev pub madeIn : Chosen → ℕ
 madeIn (Refused code) = 0
-madeIn (Unscored made saved doubled) = made
-madeIn (Done k loglik score made saved doubled) = made
+madeIn (Unscored made saved) = made
+madeIn (Done k loglik score made saved) = made
 
 abbrev pub savedIn : Chosen → ℕ
 savedIn (Refused code) = 0
-savedIn (Unscored made saved doubled) = saved
-savedIn (Done k loglik score made saved doubled) = saved
+savedIn (Unscored made saved) = saved
+savedIn (Done k loglik score made saved) = saved
 
 -- k is the number that an answer keeps, with this score and log-likelihood
 pub record Keeps (answer : Chosen) (k : ℕ) (score loglik : Float) : Type 0 where
-  pub counts : ℕ × ℕ × ℕ
-  pub is : answer ≡ Done k loglik score (counts .0) (counts .1) (counts .2)
-
--- f lo + .. + f (lo + n − 1)
-unfoldable pub sumOver : (ℕ → ℕ) → ℕ → ℕ → ℕ
-sumOver f lo zero = 0
-sumOver f lo (suc n) = sumOver f lo n + f (lo + n)
+  pub counts : ℕ × ℕ
+  pub is : answer ≡ Done k loglik score (counts .0) (counts .1)
 
 module _ (o : Outputs) (weights coords : List Float) (d : ℕ) (s : Settings) where
   -- the rounds begun by the warm start of restart t of the lone fit of k

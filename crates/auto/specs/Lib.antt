@@ -1,3 +1,4 @@
 pub mod Outcome
 pub mod Refusals
 pub mod Best
+pub mod Doubled

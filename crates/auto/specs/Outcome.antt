@@ -20,8 +20,8 @@ pub record Outcome : Type 0 where
 
 -- what a call answers: with none, 7 and its counts
 abbrev pub answerBy : Choice → Tally → Chosen
-answerBy Nothing t = Unscored (t .made) (t .saved) (t .doubled)
-answerBy (Number k score) t = Done k (t .loglik) score (t .made) (t .saved) (t .doubled)
+answerBy Nothing t = Unscored (t .made) (t .saved)
+answerBy (Number k score) t = Done k (t .loglik) score (t .made) (t .saved)
 
 -- the arrays as found, the leaves and the settings
 module _ (o : Outputs) (weights coords : List Float) (d : ℕ) (s : Settings) where

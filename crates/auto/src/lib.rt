@@ -52,7 +52,6 @@ pub enum Chosen {
     Unscored {
         made: u64,
         saved: u64,
-        doubled: u64,
     },
     Done {
         k: usize,
@@ -60,7 +59,6 @@ pub enum Chosen {
         score: f64,
         made: u64,
         saved: u64,
-        doubled: u64,
     },
 }
 
@@ -76,12 +74,10 @@ fn answer(t: tries::Tally) -> Chosen
             score,
             made: t.made,
             saved: t.saved,
-            doubled: t.doubled,
         },
         choice::Choice::Nothing => Chosen::Unscored {
             made: t.made,
             saved: t.saved,
-            doubled: t.doubled,
         },
     }
 }

@@ -188,7 +188,6 @@ fn code(r: spherical::Clustered) -> u32 {
             cohesion: _,
             made: _,
             saved: _,
-            doubled: _,
         } => 0,
     }
 }
@@ -226,7 +225,6 @@ fn fit_code(r: movmf::Fitted) -> u32 {
             loglik: _,
             made: _,
             saved: _,
-            doubled: _,
         } => 0,
     }
 }
@@ -286,18 +284,13 @@ fn chosen_is(r: auto::Chosen, line: &[u8]) -> bool {
     let b = word(line, 3);
     match r {
         auto::Chosen::Refused(n) => refusal(n) == c,
-        auto::Chosen::Unscored {
-            made,
-            saved,
-            doubled: _,
-        } => (c == 7) & (made == a) & (saved == b),
+        auto::Chosen::Unscored { made, saved } => (c == 7) & (made == a) & (saved == b),
         auto::Chosen::Done {
             k,
             loglik: _,
             score,
             made: _,
             saved: _,
-            doubled: _,
         } => (c == 0) & ((a == 0) | (k as u64 == a)) & ((b == 0) | (float::bits_of(score) == b)),
     }
 }

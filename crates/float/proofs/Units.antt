@@ -1,9 +1,11 @@
--- Every finite float is a whole multiple of the smallest value, and rounding leaves it as it is; so a sum of two that are not negative is at least each. Assumes nothing.
-use mathlib.Core.Path.{_≡_, refl, sym, ap, _∙_}
+-- Every finite float is a whole multiple of the smallest value, and rounding leaves it as it is; so a sum of two that are not negative is at
+-- least each, and a sum of squares at least each square. Assumes nothing.
+use mathlib.Core.Path.{_≡_, refl, sym, ap, _∙_, subst}
 use mathlib.Core.Logic.{_⊎_, inl, inr}
 use mathlib.Core.List.{List, [], _∷_}
 use Prim.Native.Nat.{ℕ, zero, suc, _+_, _-_, _*_, _%_, _^_, _≤_, _<_}
-use native.Mathlib.Nat.{le-trans, le-of-eq, lt-of-lt-of-le, lt-of-le-of-lt, not-le-of-lt, mul-one, zero-mul, mul-comm, mul-assoc, mul-left-comm, mul-le-mul-right, mul-lt-mul-of-pos-right, mul-pos, lt-of-mul-lt-mul-right, eq-zero-or-pos}
+use native.Mathlib.Nat.{le-trans, le-of-eq, lt-of-lt-of-le, lt-of-le-of-lt, not-le-of-lt, mul-one, one-mul, add-mul, zero-mul, mul-comm}
+use native.Mathlib.Nat.{mul-assoc, mul-left-comm, mul-le-mul-right, mul-lt-mul-of-pos-right, mul-pos, lt-of-mul-lt-mul-right, eq-zero-or-pos}
 use borrow.Author.Tests.{lt-ltb, le-ltb}
 use native.Mathlib.Omega.{arith}
 use mathlib.Core.Bool.{Bool, true, false, not, _&&_, true≢false}
@@ -16,9 +18,9 @@ use lib.Ieee.Fits.{and-l, and-r, down-pos, add-fits, mul-fits}
 use lib.Ieee.Exact.{round-exact}
 use lib.Ieee.Positive.{through}
 use lib.Ieee.Scale.{finite}
-use Rattle.float.specs.Arithmetic.{dotFrom}
-use Rattle.float.proofs.Bound.{Within, Over, Signed, Held, held-whole, round-signed, round-over}
-use Rattle.float.proofs.Ranges.{grown, All, within-more, mul-within, add-within}
+use Rattle.float.specs.Arithmetic.{minusZero, plusZero, dotFrom}
+use Rattle.float.proofs.Bound.{Within, Over, Signed, Held, round-signed, round-over}
+use Rattle.float.proofs.Ranges.{All, within-more, mul-within, add-within}
 use Rattle.float.proofs.Scaling.{Grained}
 
 -- what `fits` says of the digits and of the exponent
@@ -201,22 +203,8 @@ self (inf s) g = g
 self (fin true m e) g = absurd g
 self (fin false m e) g = le-of-eq refl
 
-pub squares-each : (A S : ℕ) (s : Float) (xs : List Float) → S + A * A * length xs ≤ 9007199254740992 → Good s → Within S 1 s → All (Within A 1) xs → Summed s xs (S + A * A * length xs) (squaresFrom s xs)
-squares-each A S s [] l g w h = record { good = g; most = within-more S (S + A * A * 0) 1 s (omega arith) w; start = self s g; each = tt }
-squares-each A S s (x ∷ xs) l g w h =
-    let C = A * A in
-    let e : S + C * suc (length xs) ≡ S + C + C * length xs = grown S C (length xs) in
-    let y = mul binary64 x x in
-    let z = add binary64 s y in
-    let wy : Within C 1 y = mul-within binary64 A 1 A 1 x x (lit< tt) (lit< tt) (held-whole binary64 C (omega arith)) (h .0) (h .0) in
-    let gy : Good y = good-of y C 1 (square-signed x A 1 (h .0)) wy (mul-fits binary64 x x) in
-    let wz : Within (S + C) 1 z = add-within binary64 S C 1 s y (lit< tt) (held-whole binary64 (S + C) (omega arith)) w wy in
-    let gz : Good z = good-of z (S + C) 1 (sum-signed s y g gy) wz (add-fits binary64 s y) in
-    let r = squares-each A (S + C) z xs (omega arith) gz wz (h .1) in
-    rw e (record { good = r .good; most = r .most; start = at-most-trans s z (squaresFrom z xs) gz (more-left s y g gy) (r .start); each = (at-most-trans y z (squaresFrom z xs) gz (more-right s y g gy) (r .start), r .each) })
-
 -- a sum that starts at -0, as Rust's does, is the one that starts at +0
-pub start-at-zero : (y : Float) → Good y → add binary64 (fin true 0 (pos 0)) y ≡ add binary64 (fin false 0 (pos 0)) y
+start-at-zero : (y : Float) → Good y → add binary64 (fin true 0 (pos 0)) y ≡ add binary64 (fin false 0 (pos 0)) y
 unfolding add sum
 start-at-zero nan g = absurd g
 start-at-zero (inf s) g = absurd g
@@ -237,3 +225,44 @@ start-at-zero (fin false n d) g =
   where
     same : (a b : ℕ) → a ≡ b → a ≡ b
     same a b e = e
+
+-- elements within ±A, and a start within S·A², where the format holds A² up to N times
+module _ (A N : ℕ) (held : (n : ℕ) → n ≤ N → Held binary64 (n * (A * A)) 1) where
+  square-good : (x : Float) → 1 ≤ N → Within A 1 x → Within (A * A) 1 (mul binary64 x x) × Good (mul binary64 x x)
+  square-good x l h =
+      let one : Held binary64 (A * A) 1 = subst (λ (z : ℕ). Held binary64 z 1) (one-mul (A * A)) (held 1 l) in
+      let w : Within (A * A) 1 (mul binary64 x x) = mul-within binary64 A 1 A 1 x x (lit< tt) (lit< tt) one h h in
+      (w, good-of (mul binary64 x x) (A * A) 1 (square-signed x A 1 h) w (mul-fits binary64 x x))
+
+  squares-from : (S : ℕ) (s : Float) (xs : List Float) → S + length xs ≤ N → Good s → Within (S * (A * A)) 1 s → All (Within A 1) xs
+      → Summed s xs ((S + length xs) * (A * A)) (squaresFrom s xs)
+  squares-from S s [] l g w h =
+      record { good = g; most = within-more (S * (A * A)) ((S + 0) * (A * A)) 1 s (mul-le-mul-right (A * A) (here S)) w; start = self s g; each = tt }
+    where
+      here : (S : ℕ) → S ≤ S + 0
+      here S = omega arith
+  squares-from S s (x ∷ xs) l g w h =
+      let C = A * A in
+      let y = mul binary64 x x in
+      let z = add binary64 s y in
+      let q = square-good x (omega arith) (h .0) in
+      let e : S * C + C ≡ (S + 1) * C = sym (add-mul S 1 C ∙ ap (λ (k : ℕ). S * C + k) (one-mul C)) in
+      let wz : Within (S * C + C) 1 z =
+      add-within binary64 (S * C) C 1 s y (lit< tt) (subst (λ (k : ℕ). Held binary64 k 1) (sym e) (held (S + 1) (omega arith))) w (q .0) in
+      let gz : Good z = good-of z (S * C + C) 1 (sum-signed s y g (q .1)) wz (add-fits binary64 s y) in
+      let r = squares-from (S + 1) z xs (omega arith) gz (subst (λ (k : ℕ). Within k 1 z) e wz) (h .1) in
+      let same : S + 1 + length xs ≡ S + suc (length xs) = omega arith in
+      record {
+        good = r .good;
+        most = subst (λ (k : ℕ). Within (k * C) 1 (squaresFrom z xs)) same (r .most);
+        start = at-most-trans s z (squaresFrom z xs) gz (more-left s y g (q .1)) (r .start);
+        each = (at-most-trans y z (squaresFrom z xs) gz (more-right s y g (q .1)) (r .start), r .each);
+      }
+
+  pub squares-each : (xs : List Float) → length xs ≤ N → All (Within A 1) xs → Summed plusZero xs ((0 + length xs) * (A * A)) (squaresFrom plusZero xs)
+  unfolding fits
+  squares-each xs l h = squares-from 0 plusZero xs (omega arith) tt (le-of-eq (sym (ap (λ (z : ℕ). z * 1) (zero-mul (A * A))))) h
+
+  -- Rust's sum of squares starts at −0, and is the one that starts at +0
+  pub squares-start : (x : Float) (xs : List Float) → 1 ≤ N → Within A 1 x → squaresFrom minusZero (x ∷ xs) ≡ squaresFrom plusZero (x ∷ xs)
+  squares-start x xs l h = ap (λ (z : Float). dotFrom z xs xs) (start-at-zero (mul binary64 x x) (square-good x l h .1))

@@ -14,7 +14,6 @@ pub struct Runs {
     pub last: f64,
     pub made: u64,
     pub saved: u64,
-    pub doubled: u64,
 }
 
 // Of two runs in two areas, the part of the kept one: that of the run, unless its log-likelihood is at most the held one's.

@@ -66,8 +66,8 @@ groupsText k made saved labels = numberLine groupsWord k ++ (numberLine madeWord
 -- these, or a refusal alone
 abbrev pub textOf : Chosen → List ℕ → List ℕ
 textOf (Refused code) labels = refusedText code
-textOf (Unscored made saved doubled) labels = refusedText 7
-textOf (Done k loglik score made saved doubled) labels = groupsText k made saved labels
+textOf (Unscored made saved) labels = refusedText 7
+textOf (Done k loglik score made saved) labels = groupsText k made saved labels
 
 -- the labels of 64 leaves, before they are filled
 abbrev pub blank : List ℕ

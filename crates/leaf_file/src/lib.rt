@@ -252,7 +252,6 @@ fn put_answer(out: &mut [u8], r: auto::Chosen, labels: &[u32]) -> usize
         auto::Chosen::Unscored {
             made: _,
             saved: _,
-            doubled: _,
         } => put_refused(out, 7),
         auto::Chosen::Done {
             k,
@@ -260,7 +259,6 @@ fn put_answer(out: &mut [u8], r: auto::Chosen, labels: &[u32]) -> usize
             score: _,
             made,
             saved,
-            doubled: _,
         } => put_groups(out, k, made, saved, labels),
     }
 }

@@ -29,6 +29,27 @@ pub met : (t : Bool) (code rest : ℕ) → need t (suc code) rest ≡ 0 → (t �
 met true code rest e = (refl, e)
 met false code rest e = absurd (omega (arith, e))
 
+-- the six tests that the entries share the order of, where nothing is refused
+pub record Admitted (sizes groups settings arrays weights coords : Bool) : Type 0 where
+  pub sizes-ok : sizes ≡ true
+  pub groups-ok : groups ≡ true
+  pub settings-ok : settings ≡ true
+  pub arrays-ok : arrays ≡ true
+  pub weights-ok : weights ≡ true
+  pub coords-ok : coords ≡ true
+
+pub admitted : (sizes groups settings arrays weights coords : Bool)
+    → need sizes 1 (need groups 2 (need settings 3 (need arrays 4 (need weights 5 (need coords 6 0))))) ≡ 0
+    → Admitted sizes groups settings arrays weights coords
+admitted sizes groups settings arrays weights coords e =
+    let e1 = met sizes 0 _ e in
+    let e2 = met groups 1 _ (e1 .1) in
+    let e3 = met settings 2 _ (e2 .1) in
+    let e4 = met arrays 3 _ (e3 .1) in
+    let e5 = met weights 4 _ (e4 .1) in
+    let e6 = met coords 5 0 (e5 .1) in
+    record { sizes-ok = e1 .0; groups-ok = e2 .0; settings-ok = e3 .0; arrays-ok = e4 .0; weights-ok = e5 .0; coords-ok = e6 .0 }
+
 pub sizes-met : (m d coords : ℕ) → sizesOk m d coords ≡ true → (1 ≤ m) × (m ≤ 4096) × (1 ≤ d) × (d ≤ 256) × (coords ≡ m * d)
 sizes-met m d coords e =
     let e1 = both (leb 1 m) _ e in

@@ -1,8 +1,10 @@
 -- Document 01, 'Leaves, settings, fit' and 'Refusals by call': the limits that the entries share. Definitions only.
+use mathlib.Core.Path.{_≡_}
 use mathlib.Core.List.{List, [], _∷_}
 use mathlib.Core.Bool.{Bool, true, false, _&&_}
 use Prim.Native.Nat.{ℕ, _+_, _*_}
 use lib.Dec.{eqb, leb}
+use lib.ListN.{length}
 use lib.Ieee.{Float, neg, le}
 use Rattle.float.specs.Arithmetic.{number, plusZero}
 
@@ -45,3 +47,9 @@ groupsOk k m = leb 1 k && (leb k 64 && leb k m)
 -- 3 if rounds are above 10,000
 abbrev pub roundsOk : ℕ → Bool
 roundsOk rounds = leb rounds 10000
+
+-- leaves within the limits: what 1, 5 and 6 ask of them
+pub record LeavesOk (weights coords : List Float) (d : ℕ) : Type 0 where
+  pub sizes-ok : sizesOk (length weights) d (length coords) ≡ true
+  pub weights-ok : every weightOk weights ≡ true
+  pub coords-ok : every coordinateOk coords ≡ true

@@ -38,7 +38,7 @@ pub run-done : (weights coords : List Float) (m k d rounds state : ℕ) (cs : Li
     → v ≡ cohesionOf weights coords (s₃ .labels) m k d
     → s₄ ≡ s₃
     → RunDone (resultOf weights coords m k d rounds state) s₄
-    (record { cohesion = v; made = c .made; saved = c .saved; doubled = c .doubled; state = next })
+    (record { cohesion = v; made = c .made; saved = c .saved; state = next })
 unfolding resultOf
 run-done weights coords m k d rounds state cs s₂ s₃ s₄ next c v es en e₂ l ev e₄ =
     let seeds = seedsOf weights coords m k d state in
@@ -51,11 +51,9 @@ run-done weights coords m k d rounds state cs s₂ s₃ s₄ next c v es en e₂
       cohesion = ev ∙ ap (λ (x : State). cohesionOf weights coords (x .labels) m k d) es₃;
       made = l .made ∙ ap (λ (x : Run). x .made) r;
       saved = l .saved ∙ ap (λ (x : Run). x .saved) r;
-      doubled = l .doubled ∙ ap (λ (x : Run). x .doubled) r;
       state = en;
       made-small = l .made-small;
       saved-small = l .saved-small;
-      doubled-small = l .doubled-small;
     }
 
 -- ---- made + saved = k · m · rounds begun

@@ -1,3 +1,5 @@
 pub mod Lloyd
 pub mod Runs
 pub mod Results
+pub mod Totals
+pub mod Doubled

@@ -13,7 +13,6 @@ pub record Result : Type 0 where
   pub cohesion : Float
   pub made : ℕ
   pub saved : ℕ
-  pub doubled : ℕ
   pub begun : ℕ
   pub state : ℕ
 
@@ -25,7 +24,6 @@ resultBy weights coords m k d r state =
       cohesion = cohesionOf weights coords (r .state .labels) m k d;
       made = r .made;
       saved = r .saved;
-      doubled = r .doubled;
       begun = r .begun;
       state = state;
     }

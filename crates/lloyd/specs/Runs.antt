@@ -1,7 +1,7 @@
 -- What the functions of the start, of a round and of a whole run ask and promise. No definition of document 01 stands on this file.
 use mathlib.Core.Path.{_≡_}
 use mathlib.Core.List.{List}
-use mathlib.Core.Bool.{true, false, cond}
+use mathlib.Core.Bool.{true, false}
 use Prim.Native.Nat.{ℕ, _+_, _≤_}
 use lib.Ieee.{Float}
 use Rattle.rows.specs.Rows.{rowOf}
@@ -37,10 +37,8 @@ pub record RoundBy (weights coords : List Float) (m k d it : ℕ) (p : Pass) (s'
   pub saved : r .saved ≡ p .saved
   pub last : endsAt it p ≡ true → s' ≡ p .state
   pub state : endsAt it p ≡ false → s' ≡ updateOf weights coords m k d (p .state) .state
-  pub doubled : r .doubled ≡ cond (endsAt it p) 0 (updateOf weights coords m k d (p .state) .doubled)
   pub made-small : r .made ≤ 262144
   pub saved-small : r .saved ≤ 262144
-  pub doubled-small : r .doubled ≤ 64
 
 abbrev pub RoundDone : List Float → List Float → ℕ → ℕ → ℕ → ℕ → State → State → Round → Type 0
 RoundDone weights coords m k d it s s' r = RoundBy weights coords m k d it (passOf coords m k d it s) s' r
@@ -53,10 +51,8 @@ pub record Lloyded (run : Run) (s : State) (c : Counts) : Type 0 where
   pub state : s ≡ run .state
   pub made : c .made ≡ run .made
   pub saved : c .saved ≡ run .saved
-  pub doubled : c .doubled ≡ run .doubled
   pub made-small : c .made ≤ 2621440000
   pub saved-small : c .saved ≤ 2621440000
-  pub doubled-small : c .doubled ≤ 640000
 
 -- ---- the start
 unfoldable pub putScale : List Float → State → State
@@ -74,11 +70,9 @@ pub record RunDone (result : Result) (s : State) (r : Ran) : Type 0 where
   pub cohesion : r .cohesion ≡ result .cohesion
   pub made : r .made ≡ result .made
   pub saved : r .saved ≡ result .saved
-  pub doubled : r .doubled ≡ result .doubled
   pub state : r .state ≡ result .state
   pub made-small : r .made ≤ 2621440000
   pub saved-small : r .saved ≤ 2621440000
-  pub doubled-small : r .doubled ≤ 640000
 
 -- what a run leaves beside its result: labels below k, and the sums of the groups that they make
 pub record RunLeft (weights coords : List Float) (m k d : ℕ) (w : List Float) (u : List ℕ) : Type 0 where

@@ -17,7 +17,6 @@ pub struct Round {
     pub ended: bool,
     pub made: u64,
     pub saved: u64,
-    pub doubled: u64,
 }
 
 // Round `it`: the pass, and unless it ends the run the update.
@@ -41,14 +40,13 @@ fn one_round(
             ended: true,
             made: p.made,
             saved: p.saved,
-            doubled: 0,
         };
     }
+    update::settle(work, marks, weights, coords, m, k, d);
     Round {
         ended: false,
         made: p.made,
         saved: p.saved,
-        doubled: update::settle(work, marks, weights, coords, m, k, d),
     }
 }
 
@@ -56,7 +54,6 @@ fn one_round(
 pub struct Counts {
     pub made: u64,
     pub saved: u64,
-    pub doubled: u64,
 }
 
 // Rounds until no label changes after the first, at most `rounds`.
@@ -74,18 +71,13 @@ fn lloyd(
     requires { ⌜ (length (now weights) ≡ m) × (rounds ≤ 10000) × Labelled m k (stateIn m k d (now work) (now marks)) ⌝ }
     ensures { λ r. ⌜ Lloyded (roundsFrom (now (weights .entry)) (now (coords .entry)) m k d rounds 0 (freshRun (stateIn m k d (now (work .entry)) (now (marks .entry))))) (stateIn m k d (now (work .exit)) (now (marks .exit))) r ⌝ }
 {
-    let mut c = Counts {
-        made: 0,
-        saved: 0,
-        doubled: 0,
-    };
+    let mut c = Counts { made: 0, saved: 0 };
     let mut it = 0;
     while it < rounds {
         let r = one_round(work, marks, weights, coords, it, m, k, d);
         c = Counts {
             made: c.made + r.made,
             saved: c.saved + r.saved,
-            doubled: c.doubled + r.doubled,
         };
         if r.ended {
             break;
@@ -167,7 +159,6 @@ pub struct Ran {
     pub cohesion: f64,
     pub made: u64,
     pub saved: u64,
-    pub doubled: u64,
     pub state: u64,
 }
 
@@ -195,7 +186,6 @@ pub fn run(
         cohesion,
         made: c.made,
         saved: c.saved,
-        doubled: c.doubled,
         state: next,
     }
 }

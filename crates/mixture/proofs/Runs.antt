@@ -71,7 +71,7 @@ pub run-done : (s : Settings) (weights coords : List Float) (m k d : ℕ) (w₁ 
     → partsIn m k d w₂ .kappas ≡ startKappasBy (s .kappa) k d (partsIn m k d w₁ .sums) (labelTotalsUpTo weights (take m u) k m)
     → partsIn m k d w₃ ≡ withResp (replicate (m * k) plusZero) (withWeights (replicate k (evenWeight k)) (partsIn m k d w₂))
     → emOf (partsIn m k d w₄) r ≡ emFrom (s .kappa) weights coords m k d (s .rounds) 0 (emOf (partsIn m k d w₃) (inf true))
-    → RunDone (onceOf s weights coords m k d) (partsIn m k d w₄) (record { loglik = r; made = x .made; saved = x .saved; doubled = x .doubled })
+    → RunDone (onceOf s weights coords m k d) (partsIn m k d w₄) (record { loglik = r; made = x .made; saved = x .saved })
 unfolding onceOf
 run-done s weights coords m k d w₁ w₂ w₃ w₄ u x r done left directed concentrated cleared rounds =
     let warm = warmOf weights coords m k d (s .seed) in
@@ -85,8 +85,6 @@ run-done s weights coords m k d w₁ w₂ w₃ w₄ u x r done left directed con
       em = rounds ∙ ap (emFrom (s .kappa) weights coords m k d (s .rounds) 0) start;
       made = done .made;
       saved = done .saved;
-      doubled = done .doubled;
       made-small = done .made-small;
       saved-small = done .saved-small;
-      doubled-small = done .doubled-small;
     }

@@ -150,7 +150,5 @@ pub record RunDone (once : Once) (p : Parts) (r : Ran) : Type 0 where
   pub em : emOf p (r .loglik) ≡ once .em
   pub made : r .made ≡ once .made
   pub saved : r .saved ≡ once .saved
-  pub doubled : r .doubled ≡ once .doubled
   pub made-small : r .made ≤ 2621440000
   pub saved-small : r .saved ≤ 2621440000
-  pub doubled-small : r .doubled ≤ 640000

@@ -46,15 +46,17 @@ startFrom kappa weights coords m k d warm =
     }
 
 -- the warm start: 50 rounds, one restart
+abbrev pub warmRounds : ℕ
+warmRounds = 50
+
 abbrev pub warmOf : List Float → List Float → ℕ → ℕ → ℕ → ℕ → Result
-warmOf weights coords m k d seed = resultOf weights coords m k d 50 seed
+warmOf weights coords m k d seed = resultOf weights coords m k d warmRounds seed
 
 -- ---- one run: what the rounds leave, and the counts of its warm start
 pub record Once : Type 0 where
   pub em : Em
   pub made : ℕ
   pub saved : ℕ
-  pub doubled : ℕ
 
 abbrev pub onceFrom : Settings → List Float → List Float → ℕ → ℕ → ℕ → Result → Once
 onceFrom s weights coords m k d warm =
@@ -62,7 +64,6 @@ onceFrom s weights coords m k d warm =
       em = emFrom (s .kappa) weights coords m k d (s .rounds) 0 (startFrom (s .kappa) weights coords m k d warm);
       made = warm .made;
       saved = warm .saved;
-      doubled = warm .doubled;
     }
 
 unfoldable pub onceOf : Settings → List Float → List Float → ℕ → ℕ → ℕ → Once

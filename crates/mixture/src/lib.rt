@@ -524,7 +524,6 @@ pub struct Ran {
     pub loglik: f64,
     pub made: u64,
     pub saved: u64,
-    pub doubled: u64,
 }
 
 // One run: the warm start, the concentrations of its groups, and the rounds. What it found stays in the area.
@@ -550,6 +549,5 @@ pub fn movmf_once(
         loglik,
         made: warm.made,
         saved: warm.saved,
-        doubled: warm.doubled,
     }
 }

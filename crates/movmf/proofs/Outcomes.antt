@@ -27,11 +27,11 @@ module _ (o : Outputs) (weights coords : List Float) (d k : ℕ) (s : Settings) 
       → (w : List Float) (r : Runs) (loglik : Float) (o' : Outputs)
       → Both (runsUpTo s weights coords (length weights) k d 2) (runOf s weights coords (length weights) k d 3) w (length weights) k d r
       → loglik ≡ keptLoglik (r .held) (r .last) → o' ≡ written (length weights) k d (keptEm (length weights) k d w r) o
-      → _≡_ {A = Outcome} (record { answer = Done k loglik (r .made) (r .saved) (r .doubled); outputs = o' }) (outcome o weights coords d k s work marks)
+      → _≡_ {A = Outcome} (record { answer = Done k loglik (r .made) (r .saved); outputs = o' }) (outcome o weights coords d k s work marks)
   done code e z w r loglik o' b el eo =
       let m = length weights in
       let em = fit-em s weights coords m k d w r b in
       let n = fit-counts s weights coords m k d w r b in
       let ll : loglik ≡ fitOf s weights coords m k d .em .loglik = el ∙ ap (λ (x : Em). x .loglik) em in
       let wr : o' ≡ written m k d (fitOf s weights coords m k d .em) o = eo ∙ ap (λ (x : Em). written m k d x o) em in
-      rw (← e, z, wr, ll, n .0, n .1, n .2)
+      rw (← e, z, wr, ll, n .0, n .1)

@@ -3,12 +3,12 @@
 use mathlib.Core.Path.{_≡_, sym, _∙_}
 use mathlib.Core.List.{List}
 use mathlib.Core.Bool.{Bool}
-use Prim.Native.Nat.{ℕ}
+use Prim.Native.Nat.{ℕ, _≤_}
 use lib.ListN.{length}
 use lib.Ieee.{Float}
 use borrow.Author.Tests.{leb-true}
-use Rattle.limits.specs.Limits.{need, weightOk, coordinateOk, every, sizesOk, groupsOk, roundsOk}
-use Rattle.limits.proofs.Limits.{met, sizes-met, groups-met}
+use Rattle.limits.specs.Limits.{need, weightOk, coordinateOk, every, sizesOk, groupsOk, roundsOk, LeavesOk}
+use Rattle.limits.proofs.Limits.{admitted, sizes-met, groups-met}
 use Rattle.runs.specs.Halves.{Roomy}
 use Rattle.outputs.specs.Refusals.{arraysOk}
 use Rattle.outputs.specs.declared.Lengths.{Lengths}
@@ -25,13 +25,20 @@ module _ (weights coords : List Float) (d k rounds : ℕ) (l : Lengths) where
   unfolding refusalOf
   ready code same none =
       let m = length weights in
-      let e1 = met (sizesOk m d (length coords)) 0 _ (sym same ∙ none) in
-      let e2 = met (groupsOk k m) 1 _ (e1 .1) in
-      let e3 = met (roundsOk rounds) 2 _ (e2 .1) in
-      let e4 = met (arraysOk m k d l) 3 _ (e3 .1) in
-      let g = groups-met k m (e2 .0) in
-      let a = arrays-met m k d l (e4 .0) in
-      record { roomy = roomy-by m k d rounds (length coords) l (sizes-met m d (length coords) (e1 .0)) (g .0) (g .1) (leb-true _ _ (e3 .0)) a; arrays = a }
+      let t = admitted _ _ _ _ _ _ (sym same ∙ none) in
+      let g = groups-met k m (t .groups-ok) in
+      let a = arrays-met m k d l (t .arrays-ok) in
+      record {
+        roomy = roomy-by m k d rounds (length coords) l (sizes-met m d (length coords) (t .sizes-ok)) (g .0) (g .1) (leb-true _ _ (t .settings-ok)) a;
+        arrays = a;
+      }
+
+  pub leaves-ok : refusalOf weights coords d k rounds l ≡ 0 → LeavesOk weights coords d × (1 ≤ k) × (k ≤ length weights)
+  unfolding refusalOf
+  leaves-ok e =
+      let t = admitted _ _ _ _ _ _ e in
+      let g = groups-met k (length weights) (t .groups-ok) in
+      (record { sizes-ok = t .sizes-ok; weights-ok = t .weights-ok; coords-ok = t .coords-ok }, g .0, g .2)
 
   -- the first refusal by what each test answered
   pub refusal-by : (sizes groups within arrays ws xs : Bool) → sizesOk (length weights) d (length coords) ≡ sizes → groupsOk k (length weights) ≡ groups

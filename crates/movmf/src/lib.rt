@@ -52,7 +52,6 @@ pub enum Fitted {
         loglik: f64,
         made: u64,
         saved: u64,
-        doubled: u64,
     },
 }
 
@@ -112,7 +111,6 @@ pub fn movmf_with(
         loglik: keeper::kept_loglik(r),
         made: r.made,
         saved: r.saved,
-        doubled: r.doubled,
     }
 }
 

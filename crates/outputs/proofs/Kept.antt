@@ -72,6 +72,6 @@ module _ (s : Settings) (weights coords : List Float) (m k d : ℕ) (w : List Fl
   unfolding runsUpTo
   fit-em = kept-em m k d w (runsUpTo s weights coords m k d 2) (runOf s weights coords m k d 3) r b
 
-  pub fit-counts : (r .made ≡ fitOf s weights coords m k d .made) × (r .saved ≡ fitOf s weights coords m k d .saved) × (r .doubled ≡ fitOf s weights coords m k d .doubled)
+  pub fit-counts : (r .made ≡ fitOf s weights coords m k d .made) × (r .saved ≡ fitOf s weights coords m k d .saved)
   unfolding runsUpTo
   fit-counts = kept-counts m k d w (runsUpTo s weights coords m k d 2) (runOf s weights coords m k d 3) r b

@@ -1,5 +1,5 @@
--- What the calls of a leaf's turn in a shift and in a pass ensure is the definition's step, over plain lists; a shift leaves labels, a pass keeps labels below k, and
--- its counts are small. By the laws of the regions, and by recursion on the leaves done. Assumes nothing.
+-- What the calls of a leaf's turn in a shift and in a pass ensure is the definition's step, over plain lists; a shift leaves labels, a pass keeps
+-- labels below k, both leave the centres, and a pass's counts are small. By the laws of the regions, and by recursion on the leaves done. Assumes nothing.
 use mathlib.Core.Path.{_≡_, refl, ap, sym, _∙_}
 use mathlib.Core.List.{List, [], _∷_}
 use mathlib.Core.Bool.{Bool, true, false, not, _&&_, _||_, cond}
@@ -152,3 +152,30 @@ module _ (m k : ℕ) (s : State) where
   pub labelled-of-pass : (coords : List Float) (d it : ℕ) → 0 < k → Labelled m k s → Labelled m k (passOf coords m k d it s .state)
   labelled-of-pass coords d it h l =
       labelled-after-pass coords m k d it (shiftedFor m k it s) (labelled-of m k s (shiftedFor m k it s) (shifted-labels (ltb 0 it)) l) h m
+
+-- ---- neither the shift nor the pass moves a centre
+shift-centers : (k : ℕ) (t : Slowest) (s : State) (n : ℕ) → shiftUpTo k t s n .centers ≡ s .centers
+unfolding shiftUpTo putBounds
+shift-centers k t s zero = refl
+shift-centers k t s (suc n) = shift-centers k t s n
+
+shifted-centers : (m k it : ℕ) (s : State) → shiftedFor m k it s .centers ≡ s .centers
+shifted-centers m k it s = go (ltb 0 it)
+  where
+    go : (b : Bool) → cond b (shiftUpTo k (slowestUpTo (s .drift) k) s m) s .centers ≡ s .centers
+    go true = shift-centers k (slowestUpTo (s .drift) k) s m
+    go false = refl
+
+either-centers : (b : Bool) (x y : Pass) (l : List Float) → x .state .centers ≡ l → y .state .centers ≡ l → cond b x y .state .centers ≡ l
+either-centers true x y l e f = e
+either-centers false x y l e f = f
+
+centers-to : (coords : List Float) (k d it : ℕ) (s : State) (n : ℕ) → passUpTo coords k d it s n .state .centers ≡ s .centers
+unfolding passUpTo putBounds putLabel
+centers-to coords k d it s zero = refl
+centers-to coords k d it s (suc n) =
+    let e = centers-to coords k d it s n in
+    either-centers (skips it (boundsAt (passUpTo coords k d it s n .state) n)) _ _ (s .centers) e e
+
+pub pass-centers : (coords : List Float) (m k d it : ℕ) (s : State) → passOf coords m k d it s .state .centers ≡ s .centers
+pass-centers coords m k d it s = centers-to coords k d it (shiftedFor m k it s) m ∙ shifted-centers m k it s

@@ -1,15 +1,19 @@
 -- Laws of the definitions of specs/Places.antt and specs/Pick.antt, one for a turn of the loop that computes each and one for its end. A pick goes by what is left of the
 -- list, a place by the turns done; either lies within the list. Assumes nothing.
-use mathlib.Core.Path.{_≡_, refl}
+use mathlib.Core.Path.{_≡_, refl, sym, subst}
 use mathlib.Core.List.{List, [], _∷_}
-use mathlib.Core.Bool.{Bool, true, false, cond}
+use mathlib.Core.Bool.{Bool, true, false, not, _||_, cond}
+use mathlib.Core.Logic.{⊎-elim}
 use Prim.Native.Nat.{ℕ, zero, suc, _+_, _-_, _%_, _≤_, _<_, max}
 use native.Mathlib.Nat.{mod-lt}
 use native.Mathlib.Numerals.{add-one}
 use native.Mathlib.Omega.{arith}
+use lib.Dec.{T}
 use lib.ListN.{length, getD, drop, drop-of-length-le}
 use lib.Seq.{drop-cons}
-use lib.Ieee.{Float, nan, binary64, sub, mul, lt, le}
+use lib.Ieee.{Float, nan, binary64, sub, mul, lt, eq, le, isNan}
+use Rattle.float.proofs.Order.{lt-or-ge, le-trans, le-of-nlt}
+use Rattle.float.proofs.Interval.{le-refl}
 use Rattle.float.specs.Arithmetic.{minusZero, plusZero, sumFrom}
 use Rattle.rng.specs.SplitMix.{stepOf, mixOf, unitOf}
 use Rattle.pick.specs.Places.{argmaxUpTo, argmaxOf, argminUpTo, argminOf}
@@ -70,6 +74,33 @@ argmax-below v h = argmax-within v (length v) h (omega arith)
 
 pub argmin-below : (v : List Float) → 0 < length v → argminOf v < length v
 argmin-below v h = argmin-within v (length v) h (omega arith)
+
+-- the element at the place of the least is at most each, where all are numbers
+module _ (v : List Float) (numbers : (i : ℕ) → i < length v → T (not (isNan (getD v i nan)))) where
+  least-by : (t : Bool) (n b j : ℕ) → lt (getD v n nan) (getD v b nan) ≡ t → n < length v → b < length v → j ≤ n
+      → (j < n → T (le (getD v b nan) (getD v j nan))) → T (le (getD v (cond t n b) nan) (getD v j nan))
+  unfolding le
+  least-by true n b j e hn hb l h =
+      ⊎-elim (λ (g : j < n). le-trans (getD v n nan) (getD v b nan) (getD v j nan) (subst (λ (t : Bool). T (t || eq (getD v n nan) (getD v b nan))) (sym e) tt) (h g))
+      (λ (g : n ≤ j). let q : n ≡ j = omega arith in subst (λ (z : ℕ). T (le (getD v n nan) (getD v z nan))) q (le-refl (getD v n nan) (numbers n hn)))
+      (lt-or-ge j n)
+  least-by false n b j e hn hb l h =
+      ⊎-elim h
+      (λ (g : n ≤ j).
+      let q : n ≡ j = omega arith in
+      subst (λ (z : ℕ). T (le (getD v b nan) (getD v z nan))) q
+      (le-of-nlt (getD v n nan) (getD v b nan) (numbers n hn) (numbers b hb) (subst (λ (t : Bool). T (not t)) (sym e) tt)))
+      (lt-or-ge j n)
+
+  least-to : (n : ℕ) → n ≤ length v → (j : ℕ) → j < n → T (le (getD v (argminUpTo v n) nan) (getD v j nan))
+  unfolding argminUpTo
+  least-to zero l j g = absurd (omega arith)
+  least-to (suc n) l j g =
+      let b = argminUpTo v n in
+      least-by (lt (getD v n nan) (getD v b nan)) n b j refl l (argmin-within v n (omega arith) (omega arith)) (omega arith) (least-to n (omega arith) j)
+
+  pub argmin-least : (j : ℕ) → j < length v → T (le (getD v (argminOf v) nan) (getD v j nan))
+  argmin-least j h = least-to (length v) (omega arith) j h
 
 -- the pick: at the place sought, past another, and past all
 module _ (t : Float) (w : List Float) (i : ℕ) where

@@ -372,22 +372,18 @@ struct Answer {
     score: f64,
     made: u64,
     saved: u64,
-    doubled: u64,
 }
 
 // Whether the answer is done and its counts are the words from word `at` on.
 fn counts_agree(a: Answer, text: &[u8], at: usize) -> bool {
-    a.done
-        & (a.made == word(text, at))
-        & (a.saved == word(text, plus(at, 1)))
-        & (a.doubled == word(text, plus(at, 2)))
+    a.done & (a.made == word(text, at)) & (a.saved == word(text, plus(at, 1)))
 }
 
 // Whether an answer with k groups has the words from word `at` on: the place after them.
 fn answer_agrees(a: Answer, k: u64, text: &[u8], at: usize, digest: bool) -> Place {
     let same = (a.k == k) & is_number(a.x, text, at) & counts_agree(a, text, plus(at, 1));
     Place {
-        at: plus(at, 4),
+        at: plus(at, 3),
         digest,
         same,
     }
@@ -395,12 +391,11 @@ fn answer_agrees(a: Answer, k: u64, text: &[u8], at: usize, digest: bool) -> Pla
 
 fn clustered(r: spherical::Clustered) -> Answer {
     match r {
-        spherical::Clustered::Refused(_) => unanswered(0, 0, 0, false),
+        spherical::Clustered::Refused(_) => unanswered(0, 0, false),
         spherical::Clustered::Done {
             cohesion,
             made,
             saved,
-            doubled,
         } => Answer {
             done: true,
             unscored: false,
@@ -409,13 +404,12 @@ fn clustered(r: spherical::Clustered) -> Answer {
             score: 0.0,
             made,
             saved,
-            doubled,
         },
     }
 }
 
 // The answer of a fit that keeps no number.
-fn unanswered(made: u64, saved: u64, doubled: u64, done: bool) -> Answer {
+fn unanswered(made: u64, saved: u64, done: bool) -> Answer {
     Answer {
         done,
         unscored: true,
@@ -424,12 +418,11 @@ fn unanswered(made: u64, saved: u64, doubled: u64, done: bool) -> Answer {
         score: 0.0,
         made,
         saved,
-        doubled,
     }
 }
 
 // Kind 21 with these leaves, spherical k-means: m, d, k, rounds, restarts, seed, m weights, m * d coordinates; cohesion, made,
-// saved, doubled, the labels, the directions. The answer's words are from word `at` on. The outputs are longer than needed, and
+// saved, the labels, the directions. The answer's words are from word `at` on. The outputs are longer than needed, and
 // their rest is looked at too.
 fn groups_agree(text: &[u8], weights: &[f64], coords: &[f64], h: Head, at: usize) -> bool {
     let d = h.w1 as usize;
@@ -496,13 +489,12 @@ fn outputs_agree(
 
 fn fitted(r: movmf::Fitted) -> Answer {
     match r {
-        movmf::Fitted::Refused(_) => unanswered(0, 0, 0, false),
+        movmf::Fitted::Refused(_) => unanswered(0, 0, false),
         movmf::Fitted::Done {
             k,
             loglik,
             made,
             saved,
-            doubled,
         } => Answer {
             done: true,
             unscored: false,
@@ -511,13 +503,12 @@ fn fitted(r: movmf::Fitted) -> Answer {
             score: 0.0,
             made,
             saved,
-            doubled,
         },
     }
 }
 
 // Kinds 22 and 23 with these leaves, the mixture fit: m, d, k, rounds, seed, Kappa, m weights, m * d coordinates; the
-// log-likelihood, made, saved, doubled, and the six outputs, or in kind 23 a digest of each.
+// log-likelihood, made, saved, and the six outputs, or in kind 23 a digest of each.
 fn mixture_agrees(
     text: &[u8],
     weights: &[f64],
@@ -569,19 +560,14 @@ fn mixture_agrees(
 
 fn chosen(r: auto::Chosen) -> Answer {
     match r {
-        auto::Chosen::Refused(_) => unanswered(0, 0, 0, false),
-        auto::Chosen::Unscored {
-            made,
-            saved,
-            doubled,
-        } => unanswered(made, saved, doubled, true),
+        auto::Chosen::Refused(_) => unanswered(0, 0, false),
+        auto::Chosen::Unscored { made, saved } => unanswered(made, saved, true),
         auto::Chosen::Done {
             k,
             loglik,
             score,
             made,
             saved,
-            doubled,
         } => Answer {
             done: true,
             unscored: false,
@@ -590,7 +576,6 @@ fn chosen(r: auto::Chosen) -> Answer {
             score,
             made,
             saved,
-            doubled,
         },
     }
 }
@@ -604,7 +589,7 @@ fn choice_agrees(a: Answer, text: &[u8], at: usize) -> Place {
         & (a.unscored | (x & score))
         & counts_agree(a, text, plus(at, 3));
     Place {
-        at: plus(at, 6),
+        at: plus(at, 5),
         digest: true,
         same,
     }
@@ -616,7 +601,7 @@ fn labelled(k: usize, m: usize) -> usize {
 }
 
 // Kind 24 with these leaves, the automatic fit: m, d, k_min, k_max, rounds, seed, Kappa, m weights, m * d coordinates; the number,
-// the log-likelihood, the score, made, saved, doubled, and a digest of each output.
+// the log-likelihood, the score, made, saved, and a digest of each output.
 fn auto_agrees(text: &[u8], weights: &[f64], coords: &[f64], h: Head, at: usize) -> bool {
     let d = h.w1 as usize;
     let k = word(text, at) as usize;

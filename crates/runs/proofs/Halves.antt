@@ -62,10 +62,8 @@ try-done m k d a q w x once r e l h done =
       back = g .2;
       made = done .made;
       saved = done .saved;
-      doubled = done .doubled;
       made-small = done .made-small;
       saved-small = done .saved-small;
-      doubled-small = done .doubled-small;
     }
 
 -- the same run at a place that is named otherwise
@@ -74,10 +72,10 @@ tried-of once w w' a a' m k d r e t = rw (← e) t
 
 -- ---- one run more
 pub held-small : (once : Once) (w : List Float) (m k d t : ℕ) (h : Held) → t ≤ 4 → Holds once w m k d t h → HeldSmall h
-held-small once w m k d t h le v = record { made = omega (arith, v .made-small); saved = omega (arith, v .saved-small); doubled = omega (arith, v .doubled-small) }
+held-small once w m k d t h le v = record { made = omega (arith, v .made-small); saved = omega (arith, v .saved-small) }
 
 pub addable : (once : Once) (w w' : List Float) (a m k d : ℕ) (h : Held) (r : Ran) → HeldSmall h → Tried once w w' a m k d r → Addable h r
-addable once w w' a m k d h r s t = record { held = s; made = t .made-small; saved = t .saved-small; doubled = t .doubled-small }
+addable once w w' a m k d h r s t = record { held = s; made = t .made-small; saved = t .saved-small }
 
 module _ (m k d : ℕ) (w w' : List Float) (run : Once) (r : Ran) where
   -- the held half is as it was, and the free one has the run
@@ -102,36 +100,30 @@ module _ (m k d : ℕ) (w w' : List Float) (run : Once) (r : Ran) where
         there = still-there (held .em) (h .second) (h .loglik) (v .there) x;
         made = rw (v .made, x .made);
         saved = rw (v .saved, x .saved);
-        doubled = rw (v .doubled, x .doubled);
         made-small = omega (arith, v .made-small, x .made-small);
         saved-small = omega (arith, v .saved-small, x .saved-small);
-        doubled-small = omega (arith, v .doubled-small, x .doubled-small);
       }
   kept-by false held t h v x =
       record {
         there = new-half (h .second) x;
         made = rw (v .made, x .made);
         saved = rw (v .saved, x .saved);
-        doubled = rw (v .doubled, x .doubled);
         made-small = omega (arith, v .made-small, x .made-small);
         saved-small = omega (arith, v .saved-small, x .saved-small);
-        doubled-small = omega (arith, v .doubled-small, x .doubled-small);
       }
 
   -- the last run, which is not yet kept or left
   pub both-done : (held : Once) (h : Held) → Holds held w m k d 3 h → Tried run w w' (freeAt (h .second) (half m k d)) m k d r
       → Both held run w' m k d
-      (record { second = h .second; held = h .loglik; last = r .loglik; made = h .made + r .made; saved = h .saved + r .saved; doubled = h .doubled + r .doubled })
+      (record { second = h .second; held = h .loglik; last = r .loglik; made = h .made + r .made; saved = h .saved + r .saved })
   both-done held h v x =
       record {
         there = still-there (held .em) (h .second) (h .loglik) (v .there) x;
         beside = x .there;
         made = rw (v .made, x .made);
         saved = rw (v .saved, x .saved);
-        doubled = rw (v .doubled, x .doubled);
         made-small = omega (arith, v .made-small, x .made-small);
         saved-small = omega (arith, v .saved-small, x .saved-small);
-        doubled-small = omega (arith, v .doubled-small, x .doubled-small);
       }
 
 pub kept-turn : (m k d t : ℕ) (w w' : List Float) (held run : Once) (h q : Held) (r : Ran) → Holds held w m k d t h → Tried run w w' (freeAt (h .second) (half m k d)) m k d r
@@ -144,16 +136,14 @@ kept-turn m k d t w w' held run h q r v x e =
 
 -- ---- all runs
 pub first-held : (once : Once) (w w' : List Float) (m k d : ℕ) (r : Ran) → Tried once w w' 0 m k d r
-    → Holds once w' m k d 1 (record { second = false; loglik = r .loglik; made = r .made; saved = r .saved; doubled = r .doubled })
+    → Holds once w' m k d 1 (record { second = false; loglik = r .loglik; made = r .made; saved = r .saved })
 first-held once w w' m k d r t =
     record {
       there = t .there;
       made = t .made;
       saved = t .saved;
-      doubled = t .doubled;
       made-small = omega (arith, t .made-small);
       saved-small = omega (arith, t .saved-small);
-      doubled-small = omega (arith, t .doubled-small);
     }
 
 module _ (s : Settings) (weights coords : List Float) (m k d : ℕ) where
@@ -194,9 +184,9 @@ module _ (m k d : ℕ) (w : List Float) (held last : Once) (r : Runs) (b : Both 
       let t : le (r .last) (r .held) ≡ le (last .em .loglik) (held .em .loglik) = rw (er, eh) in
       chosen (le (r .last) (r .held)) ∙ ap (λ (b : Bool). keepBy b held last .em) t
 
-  keep-made : (t : Bool) → (r .made ≡ keepBy t held last .made) × (r .saved ≡ keepBy t held last .saved) × (r .doubled ≡ keepBy t held last .doubled)
-  keep-made true = (b .made, b .saved, b .doubled)
-  keep-made false = (b .made, b .saved, b .doubled)
+  keep-made : (t : Bool) → (r .made ≡ keepBy t held last .made) × (r .saved ≡ keepBy t held last .saved)
+  keep-made true = (b .made, b .saved)
+  keep-made false = (b .made, b .saved)
 
-  pub kept-counts : (r .made ≡ keep held last .made) × (r .saved ≡ keep held last .saved) × (r .doubled ≡ keep held last .doubled)
+  pub kept-counts : (r .made ≡ keep held last .made) × (r .saved ≡ keep held last .saved)
   kept-counts = keep-made (le (last .em .loglik) (held .em .loglik))

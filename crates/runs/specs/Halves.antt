@@ -43,39 +43,33 @@ pub record Tried (once : Once) (w w' : List Float) (a m k d : ℕ) (r : Ran) : T
   pub back : drop (a + half m k d) w' ≡ drop (a + half m k d) w
   pub made : r .made ≡ once .made
   pub saved : r .saved ≡ once .saved
-  pub doubled : r .doubled ≡ once .doubled
   pub made-small : r .made ≤ 2621440000
   pub saved-small : r .saved ≤ 2621440000
-  pub doubled-small : r .doubled ≤ 640000
 
 -- what is held after t runs: its half, and the numbers; each run adds at most so much
 pub record Holds (once : Once) (w : List Float) (m k d t : ℕ) (h : Held) : Type 0 where
   pub there : emAt m k d w (heldAt (h .second) (half m k d)) (h .loglik) ≡ once .em
   pub made : h .made ≡ once .made
   pub saved : h .saved ≡ once .saved
-  pub doubled : h .doubled ≡ once .doubled
   pub made-small : h .made ≤ t * 2621440000
   pub saved-small : h .saved ≤ t * 2621440000
-  pub doubled-small : h .doubled ≤ t * 640000
 
 -- ---- with one run more
 pub record HeldSmall (h : Held) : Type 0 where
   pub made : h .made ≤ 10485760000
   pub saved : h .saved ≤ 10485760000
-  pub doubled : h .doubled ≤ 2560000
 
 pub record Addable (h : Held) (r : Ran) : Type 0 where
   pub held : HeldSmall h
   pub made : r .made ≤ 2621440000
   pub saved : r .saved ≤ 2621440000
-  pub doubled : r .doubled ≤ 640000
 
 -- a run replaces the held one unless its log-likelihood is ≤ the held one's
 abbrev pub keptBy : Bool → Held → Ran → Held
 keptBy true h r =
-    record { second = h .second; loglik = h .loglik; made = h .made + r .made; saved = h .saved + r .saved; doubled = h .doubled + r .doubled }
+    record { second = h .second; loglik = h .loglik; made = h .made + r .made; saved = h .saved + r .saved }
 keptBy false h r =
-    record { second = not (h .second); loglik = r .loglik; made = h .made + r .made; saved = h .saved + r .saved; doubled = h .doubled + r .doubled }
+    record { second = not (h .second); loglik = r .loglik; made = h .made + r .made; saved = h .saved + r .saved }
 
 abbrev pub keptHeld : Held → Ran → Held
 keptHeld h r = keptBy (le (r .loglik) (h .loglik)) h r
@@ -86,10 +80,8 @@ pub record Both (held last : Once) (w : List Float) (m k d : ℕ) (r : Runs) : T
   pub beside : emAt m k d w (freeAt (r .second) (half m k d)) (r .last) ≡ last .em
   pub made : r .made ≡ held .made + last .made
   pub saved : r .saved ≡ held .saved + last .saved
-  pub doubled : r .doubled ≡ held .doubled + last .doubled
   pub made-small : r .made ≤ 10485760000
   pub saved-small : r .saved ≤ 10485760000
-  pub doubled-small : r .doubled ≤ 2560000
 
 -- what the kept one found
 abbrev pub keptEm : ℕ → ℕ → ℕ → List Float → Runs → Em

@@ -15,7 +15,6 @@ counted em held run =
       em = em;
       made = held .made + run .made;
       saved = held .saved + run .saved;
-      doubled = held .doubled + run .doubled;
     }
 
 -- a run replaces the held one unless its log-likelihood is ≤ the held one's, so a NaN replaces and is replaced

@@ -41,7 +41,6 @@ pub struct Held {
     pub loglik: f64,
     pub made: u64,
     pub saved: u64,
-    pub doubled: u64,
 }
 
 // With one run more, which stands in the free half.
@@ -51,14 +50,12 @@ fn keep(h: Held, r: mixture::Ran) -> Held
 {
     let made = h.made + r.made;
     let saved = h.saved + r.saved;
-    let doubled = h.doubled + r.doubled;
     if r.loglik <= h.loglik {
         return Held {
             second: h.second,
             loglik: h.loglik,
             made,
             saved,
-            doubled,
         };
     }
     Held {
@@ -66,7 +63,6 @@ fn keep(h: Held, r: mixture::Ran) -> Held
         loglik: r.loglik,
         made,
         saved,
-        doubled,
     }
 }
 
@@ -112,7 +108,6 @@ fn first_runs(
         loglik: first.loglik,
         made: first.made,
         saved: first.saved,
-        doubled: first.doubled,
     };
     let mut t = 1;
     while t < 3 {
@@ -145,6 +140,5 @@ pub fn four_runs(
         last: r.loglik,
         made: h.made + r.made,
         saved: h.saved + r.saved,
-        doubled: h.doubled + r.doubled,
     }
 }

@@ -79,11 +79,9 @@ try-done m k d a b q p w x u y result r eq ep lx ly hw hu e =
       cohesion = e .cohesion;
       made = e .made;
       saved = e .saved;
-      doubled = e .doubled;
       state = e .state;
       made-small = e .made-small;
       saved-small = e .saved-small;
-      doubled-small = e .doubled-small;
     }
 
 -- the same run at places that are named otherwise
@@ -97,10 +95,10 @@ roomy-of w w' u u' x y m k d rounds e f v = rw (e, f) v
 -- ---- one restart more
 pub held-small : (result : Result) (w : List Float) (u : List ℕ) (m k d t : ℕ) (h : Held) → t ≤ 64 → Holds result w u m k d t h → HeldSmall h
 held-small result w u m k d t h le v =
-    record { made = omega (arith, v .made-small); saved = omega (arith, v .saved-small); doubled = omega (arith, v .doubled-small) }
+    record { made = omega (arith, v .made-small); saved = omega (arith, v .saved-small) }
 
 pub addable : (result : Result) (w w' : List Float) (u u' : List ℕ) (a b m k d : ℕ) (h : Held) (r : Ran) → HeldSmall h → Tried result w w' u u' a b m k d r → Addable h r
-addable result w w' u u' a b m k d h r s t = record { held = s; made = t .made-small; saved = t .saved-small; doubled = t .doubled-small }
+addable result w w' u u' a b m k d h r s t = record { held = s; made = t .made-small; saved = t .saved-small }
 
 module _ (m k d : ℕ) (w w' : List Float) (u u' : List ℕ) (run : Result) (r : Ran) where
   -- the held half is as it was, and the free one has the run
@@ -126,11 +124,9 @@ module _ (m k d : ℕ) (w w' : List Float) (u u' : List ℕ) (run : Result) (r :
         cohesion = v .cohesion;
         made = rw (v .made, x .made);
         saved = rw (v .saved, x .saved);
-        doubled = rw (v .doubled, x .doubled);
         state = x .state;
         made-small = omega (arith, v .made-small, x .made-small);
         saved-small = omega (arith, v .saved-small, x .saved-small);
-        doubled-small = omega (arith, v .doubled-small, x .doubled-small);
       }
   kept-by false result t h v x =
       let s = new-half (h .second) x in
@@ -139,11 +135,9 @@ module _ (m k d : ℕ) (w w' : List Float) (u u' : List ℕ) (run : Result) (r :
         cohesion = x .cohesion;
         made = rw (v .made, x .made);
         saved = rw (v .saved, x .saved);
-        doubled = rw (v .doubled, x .doubled);
         state = x .state;
         made-small = omega (arith, v .made-small, x .made-small);
         saved-small = omega (arith, v .saved-small, x .saved-small);
-        doubled-small = omega (arith, v .doubled-small, x .doubled-small);
       }
 
 pub kept-turn : (m k d t : ℕ) (w w' : List Float) (u u' : List ℕ) (result run : Result) (h q : Held) → Holds result w u m k d t h → TriedAgain run w w' u u' m k d h q
@@ -157,18 +151,16 @@ kept-turn m k d t w w' u u' result run h q v x =
 -- ---- all restarts
 pub first-held : (result : Result) (w w' : List Float) (u u' : List ℕ) (m k d : ℕ) (r : Ran) → Tried result w w' u u' 0 0 m k d r
     → Holds result w' u' m k d 1
-    (record { second = false; cohesion = r .cohesion; made = r .made; saved = r .saved; doubled = r .doubled; state = r .state })
+    (record { second = false; cohesion = r .cohesion; made = r .made; saved = r .saved; state = r .state })
 first-held result w w' u u' m k d r t =
     record {
       there = t .there;
       cohesion = t .cohesion;
       made = t .made;
       saved = t .saved;
-      doubled = t .doubled;
       state = t .state;
       made-small = omega (arith, t .made-small);
       saved-small = omega (arith, t .saved-small);
-      doubled-small = omega (arith, t .doubled-small);
     }
 
 module _ (weights coords : List Float) (m k d rounds seed : ℕ) where
@@ -192,11 +184,9 @@ module _ (weights coords : List Float) (m k d rounds seed : ℕ) where
         cohesion = v' .cohesion;
         made = v' .made;
         saved = v' .saved;
-        doubled = v' .doubled;
         state = v' .state;
         made-small = omega (arith, g, v .made-small);
         saved-small = omega (arith, g, v .saved-small);
-        doubled-small = omega (arith, g, v .doubled-small);
       }
 
 -- ---- the entry
@@ -247,6 +237,6 @@ module _ (ls : List ℕ) (ds weights coords : List Float) (d k rounds restarts s
       → Holds (kmeansOf weights coords (length weights) k d rounds restarts seed) w u (length weights) k d 64 h
       → ls' ≡ stateAt (length weights) k d w u (heldAt (h .second) (half (length weights) k d)) (heldAt (h .second) (length weights + k)) .labels ++ drop (length weights) ls
       → ds' ≡ stateAt (length weights) k d w u (heldAt (h .second) (half (length weights) k d)) (heldAt (h .second) (length weights + k)) .centers ++ drop (k * d) ds
-      → _≡_ {A = Outcome} (record { answer = Done (h .cohesion) (h .made) (h .saved) (h .doubled); labels = ls'; directions = ds' })
+      → _≡_ {A = Outcome} (record { answer = Done (h .cohesion) (h .made) (h .saved); labels = ls'; directions = ds' })
       (outcome ls ds weights coords d k rounds restarts seed work marks)
-  done code e z w u h ls' ds' v el ed = rw (← e, z, el, ed, v .there .labels, v .there .centers, v .cohesion, v .made, v .saved, v .doubled)
+  done code e z w u h ls' ds' v el ed = rw (← e, z, el, ed, v .there .labels, v .there .centers, v .cohesion, v .made, v .saved)

@@ -2,3 +2,4 @@
 pub mod Refusals
 pub mod Halves
 pub mod Work
+pub mod Doubled

@@ -7,8 +7,8 @@ use lib.Dec.{leb}
 use lib.ListN.{length}
 use lib.Ieee.{Float}
 use borrow.Author.Tests.{leb-true}
-use Rattle.limits.specs.Limits.{need, weightOk, coordinateOk, every, workLength, marksLength, sizesOk, groupsOk, roundsOk}
-use Rattle.limits.proofs.Limits.{both, met, sizes-met, groups-met}
+use Rattle.limits.specs.Limits.{need, weightOk, coordinateOk, every, workLength, marksLength, sizesOk, groupsOk, roundsOk, LeavesOk}
+use Rattle.limits.proofs.Limits.{both, admitted, sizes-met, groups-met}
 use Rattle.spherical.specs.Refusals.{restartsOk, arraysOk, refusalOf}
 
 -- what it says that nothing is refused
@@ -35,16 +35,11 @@ module _ (weights coords : List Float) (d k rounds restarts labels directions wo
   unfolding refusalOf
   ready e =
       let m = length weights in
-      let e1 = met (sizesOk m d (length coords)) 0 _ e in
-      let e2 = met (groupsOk k m) 1 _ (e1 .1) in
-      let e3 = met (roundsOk rounds && restartsOk restarts) 2 _ (e2 .1) in
-      let e4 = met (arraysOk m k d labels directions work marks) 3 _ (e3 .1) in
-      let e5 = met (every weightOk weights) 4 _ (e4 .1) in
-      let e6 = met (every coordinateOk coords) 5 0 (e5 .1) in
-      let s = sizes-met m d (length coords) (e1 .0) in
-      let g = groups-met k m (e2 .0) in
-      let r = both (roundsOk rounds) (restartsOk restarts) (e3 .0) in
-      let a1 = both (leb m labels) _ (e4 .0) in
+      let t = admitted _ _ _ _ _ _ e in
+      let s = sizes-met m d (length coords) (t .sizes-ok) in
+      let g = groups-met k m (t .groups-ok) in
+      let r = both (roundsOk rounds) (restartsOk restarts) (t .settings-ok) in
+      let a1 = both (leb m labels) _ (t .arrays-ok) in
       let a2 = both (leb (k * d) directions) _ (a1 .1) in
       let a3 = both (leb (workLength m k d) work) (leb (marksLength m k) marks) (a2 .1) in
       record {
@@ -62,9 +57,13 @@ module _ (weights coords : List Float) (d k rounds restarts labels directions wo
         directions-long = leb-true _ _ (a2 .0);
         work-long = leb-true _ _ (a3 .0);
         marks-long = leb-true _ _ (a3 .1);
-        weights-ok = e5 .0;
-        coords-ok = e6 .0;
+        weights-ok = t .weights-ok;
+        coords-ok = t .coords-ok;
       }
+
+  pub leaves-ok : refusalOf weights coords d k rounds restarts labels directions work marks ≡ 0 → LeavesOk weights coords d
+  unfolding refusalOf
+  leaves-ok e = let t = admitted _ _ _ _ _ _ e in record { sizes-ok = t .sizes-ok; weights-ok = t .weights-ok; coords-ok = t .coords-ok }
 
   -- the first refusal by what each test answered
   pub refusal-by : (sizes groups within again arrays ws xs : Bool) → sizesOk (length weights) d (length coords) ≡ sizes → groupsOk k (length weights) ≡ groups

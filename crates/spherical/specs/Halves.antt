@@ -48,11 +48,9 @@ pub record Tried (result : Result) (w w' : List Float) (u u' : List ℕ) (a b m 
   pub cohesion : r .cohesion ≡ result .cohesion
   pub made : r .made ≡ result .made
   pub saved : r .saved ≡ result .saved
-  pub doubled : r .doubled ≡ result .doubled
   pub state : r .state ≡ result .state
   pub made-small : r .made ≤ 2621440000
   pub saved-small : r .saved ≤ 2621440000
-  pub doubled-small : r .doubled ≤ 640000
 
 -- what is held after t runs: its half, and the numbers; each run adds at most so much
 pub record Holds (result : Result) (w : List Float) (u : List ℕ) (m k d t : ℕ) (h : Held) : Type 0 where
@@ -60,23 +58,19 @@ pub record Holds (result : Result) (w : List Float) (u : List ℕ) (m k d t : �
   pub cohesion : h .cohesion ≡ result .cohesion
   pub made : h .made ≡ result .made
   pub saved : h .saved ≡ result .saved
-  pub doubled : h .doubled ≡ result .doubled
   pub state : h .state ≡ result .state
   pub made-small : h .made ≤ t * 2621440000
   pub saved-small : h .saved ≤ t * 2621440000
-  pub doubled-small : h .doubled ≤ t * 640000
 
 -- ---- with one run more
 pub record HeldSmall (h : Held) : Type 0 where
   pub made : h .made ≤ 170000000000
   pub saved : h .saved ≤ 170000000000
-  pub doubled : h .doubled ≤ 50000000
 
 pub record Addable (h : Held) (r : Ran) : Type 0 where
   pub held : HeldSmall h
   pub made : r .made ≤ 2621440000
   pub saved : r .saved ≤ 2621440000
-  pub doubled : r .doubled ≤ 640000
 
 -- a run replaces the held one unless its cohesion is ≤ the held one's
 abbrev pub keptBy : Bool → Held → Ran → Held
@@ -86,7 +80,6 @@ keptBy true h r =
       cohesion = h .cohesion;
       made = h .made + r .made;
       saved = h .saved + r .saved;
-      doubled = h .doubled + r .doubled;
       state = r .state;
     }
 keptBy false h r =
@@ -95,7 +88,6 @@ keptBy false h r =
       cohesion = r .cohesion;
       made = h .made + r .made;
       saved = h .saved + r .saved;
-      doubled = h .doubled + r .doubled;
       state = r .state;
     }
 

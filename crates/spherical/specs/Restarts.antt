@@ -14,7 +14,6 @@ counted held run =
       cohesion = held .cohesion;
       made = held .made + run .made;
       saved = held .saved + run .saved;
-      doubled = held .doubled + run .doubled;
       begun = held .begun + run .begun;
       state = run .state;
     }
@@ -28,7 +27,6 @@ replaced held run =
       cohesion = run .cohesion;
       made = held .made + run .made;
       saved = held .saved + run .saved;
-      doubled = held .doubled + run .doubled;
       begun = held .begun + run .begun;
       state = run .state;
     }

@@ -113,7 +113,6 @@ pub struct Held {
     pub cohesion: f64,
     pub made: u64,
     pub saved: u64,
-    pub doubled: u64,
     pub state: u64,
 }
 
@@ -124,14 +123,12 @@ fn keep(h: Held, r: lloyd::Ran) -> Held
 {
     let made = h.made + r.made;
     let saved = h.saved + r.saved;
-    let doubled = h.doubled + r.doubled;
     if r.cohesion <= h.cohesion {
         return Held {
             second: h.second,
             cohesion: h.cohesion,
             made,
             saved,
-            doubled,
             state: r.state,
         };
     }
@@ -140,7 +137,6 @@ fn keep(h: Held, r: lloyd::Ran) -> Held
         cohesion: r.cohesion,
         made,
         saved,
-        doubled,
         state: r.state,
     }
 }
@@ -192,7 +188,6 @@ fn restart(
         cohesion: first.cohesion,
         made: first.made,
         saved: first.saved,
-        doubled: first.doubled,
         state: first.state,
     };
     let mut t = 1;
@@ -212,7 +207,6 @@ pub enum Clustered {
         cohesion: f64,
         made: u64,
         saved: u64,
-        doubled: u64,
     },
 }
 
@@ -290,6 +284,5 @@ pub fn spherical_kmeans(
         cohesion: h.cohesion,
         made: h.made,
         saved: h.saved,
-        doubled: h.doubled,
     }
 }

@@ -22,9 +22,9 @@ abbrev pub kappaOf : Bool → Kappa
 kappaOf true = Shared
 kappaOf false = Free
 
--- the three counts, as they are lent
-abbrev pub three : ℕ → ℕ → ℕ → List ℕ
-three made saved doubled = made ∷ saved ∷ doubled ∷ []
+-- the two counts, as they are lent
+abbrev pub two : ℕ → ℕ → List ℕ
+two made saved = made ∷ saved ∷ []
 
 -- ---- `spherical_kmeans`: the refusal's number, 0 for none; the cohesion and the counts, and before the answer those that were found
 pub record ClusteredNumbers : Type 0 where
@@ -34,7 +34,7 @@ pub record ClusteredNumbers : Type 0 where
 
 abbrev pub clusteredNumbers : Float → List ℕ → Clustered → ClusteredNumbers
 clusteredNumbers cohesion counts (NotClustered code) = record { refusal = code; cohesion = cohesion; counts = counts }
-clusteredNumbers cohesion counts (ClusteredDone found made saved doubled) = record { refusal = 0; cohesion = found; counts = three made saved doubled }
+clusteredNumbers cohesion counts (ClusteredDone found made saved) = record { refusal = 0; cohesion = found; counts = two made saved }
 
 pub record ClusteredCall : Type 0 where
   pub numbers : ClusteredNumbers
@@ -53,7 +53,7 @@ pub record FittedNumbers : Type 0 where
 
 abbrev pub fittedNumbers : ℕ → Float → List ℕ → Fitted → FittedNumbers
 fittedNumbers groups loglik counts (NotFitted code) = record { refusal = code; groups = groups; loglik = loglik; counts = counts }
-fittedNumbers groups loglik counts (FittedDone k found made saved doubled) = record { refusal = 0; groups = k; loglik = found; counts = three made saved doubled }
+fittedNumbers groups loglik counts (FittedDone k found made saved) = record { refusal = 0; groups = k; loglik = found; counts = two made saved }
 
 pub record FittedCall : Type 0 where
   pub numbers : FittedNumbers
@@ -72,10 +72,10 @@ pub record ChosenNumbers : Type 0 where
 
 abbrev pub chosenNumbers : ℕ → Float → Float → List ℕ → Chosen → ChosenNumbers
 chosenNumbers groups loglik score counts (NotChosen code) = record { refusal = code; groups = groups; loglik = loglik; score = score; counts = counts }
-chosenNumbers groups loglik score counts (ChosenUnscored made saved doubled) =
-    record { refusal = 7; groups = groups; loglik = loglik; score = score; counts = three made saved doubled }
-chosenNumbers groups loglik score counts (ChosenDone k found kept made saved doubled) =
-    record { refusal = 0; groups = k; loglik = found; score = kept; counts = three made saved doubled }
+chosenNumbers groups loglik score counts (ChosenUnscored made saved) =
+    record { refusal = 7; groups = groups; loglik = loglik; score = score; counts = two made saved }
+chosenNumbers groups loglik score counts (ChosenDone k found kept made saved) =
+    record { refusal = 0; groups = k; loglik = found; score = kept; counts = two made saved }
 
 pub record ChosenCall : Type 0 where
   pub numbers : ChosenNumbers

@@ -25,7 +25,7 @@ fn kappa_of(shared: bool) -> groups::Kappa
 }
 
 // The number of the refusal; the cohesion and the counts where there is none.
-fn give_clustered(a: spherical::Clustered, cohesion: &mut f64, counts: &mut [u64; 3]) -> u32
+fn give_clustered(a: spherical::Clustered, cohesion: &mut f64, counts: &mut [u64; 2]) -> u32
     ensures { λ r. ⌜ _≡_ {A = ClusteredNumbers} (record { refusal = r; cohesion = now (cohesion .exit); counts = now (counts .exit) })
         (clusteredNumbers (now (cohesion .entry)) (now (counts .entry)) a) ⌝ }
 {
@@ -35,17 +35,16 @@ fn give_clustered(a: spherical::Clustered, cohesion: &mut f64, counts: &mut [u64
             cohesion: found,
             made,
             saved,
-            doubled,
         } => {
             *cohesion = found;
-            *counts = [made, saved, doubled];
+            *counts = [made, saved];
             0
         }
     }
 }
 
 // The number of the refusal; the number of groups, the log-likelihood and the counts where there is none.
-fn give_fitted(a: movmf::Fitted, groups: &mut u64, loglik: &mut f64, counts: &mut [u64; 3]) -> u32
+fn give_fitted(a: movmf::Fitted, groups: &mut u64, loglik: &mut f64, counts: &mut [u64; 2]) -> u32
     ensures { λ r. ⌜ _≡_ {A = FittedNumbers}
         (record { refusal = r; groups = now (groups .exit); loglik = now (loglik .exit); counts = now (counts .exit) })
         (fittedNumbers (now (groups .entry)) (now (loglik .entry)) (now (counts .entry)) a) ⌝ }
@@ -57,11 +56,10 @@ fn give_fitted(a: movmf::Fitted, groups: &mut u64, loglik: &mut f64, counts: &mu
             loglik: found,
             made,
             saved,
-            doubled,
         } => {
             *groups = k as u64;
             *loglik = found;
-            *counts = [made, saved, doubled];
+            *counts = [made, saved];
             0
         }
     }
@@ -73,7 +71,7 @@ fn give_chosen(
     groups: &mut u64,
     loglik: &mut f64,
     score: &mut f64,
-    counts: &mut [u64; 3],
+    counts: &mut [u64; 2],
 ) -> u32
     ensures { λ r. ⌜ _≡_ {A = ChosenNumbers}
         (record { refusal = r; groups = now (groups .exit); loglik = now (loglik .exit); score = now (score .exit); counts = now (counts .exit) })
@@ -81,12 +79,8 @@ fn give_chosen(
 {
     match a {
         auto::Chosen::Refused(code) => code,
-        auto::Chosen::Unscored {
-            made,
-            saved,
-            doubled,
-        } => {
-            *counts = [made, saved, doubled];
+        auto::Chosen::Unscored { made, saved } => {
+            *counts = [made, saved];
             7
         }
         auto::Chosen::Done {
@@ -95,12 +89,11 @@ fn give_chosen(
             score: kept,
             made,
             saved,
-            doubled,
         } => {
             *groups = k as u64;
             *loglik = found;
             *score = kept;
-            *counts = [made, saved, doubled];
+            *counts = [made, saved];
             0
         }
     }
@@ -123,7 +116,7 @@ pub extern "C" fn mosterklomp_spherical_kmeans(
     work: &mut [f64],
     marks: &mut [u32],
     cohesion: &mut f64,
-    counts: &mut [u64; 3],
+    counts: &mut [u64; 2],
 ) -> u32
     ensures { λ r. ⌜ _≡_ {A = ClusteredCall}
         (record { numbers = record { refusal = r; cohesion = now (cohesion .exit); counts = now (counts .exit) }; labels = now (labels .exit); directions = now (directions .exit) })
@@ -166,7 +159,7 @@ pub extern "C" fn mosterklomp_movmf_with(
     marks: &mut [u32],
     groups: &mut u64,
     loglik: &mut f64,
-    counts: &mut [u64; 3],
+    counts: &mut [u64; 2],
 ) -> u32
     ensures { λ r. ⌜ _≡_ {A = FittedCall}
         (record {
@@ -223,7 +216,7 @@ pub extern "C" fn mosterklomp_movmf_auto_with(
     groups: &mut u64,
     loglik: &mut f64,
     score: &mut f64,
-    counts: &mut [u64; 3],
+    counts: &mut [u64; 2],
 ) -> u32
     ensures { λ r. ⌜ _≡_ {A = ChosenCall}
         (record {

@@ -126,7 +126,7 @@ module _ (weights coords : List Float) (m k d : ℕ) (s : State) (i : ℕ) (w : 
   gather-end w₀ u₀ e f =
       let l = stateIn m k d w₀ u₀ .labels in
       let n : countsIn m k u ≡ countsUpTo l k m = o .counts ∙ rw (e, f) in
-      record { state = o .state ∙ e; sums = o .sums ∙ rw (e, f); counts = n; most = rw n (λ c. counts-most l k m c) }
+      record { state = o .state ∙ e; sums = o .sums ∙ rw (e, f); counts = n }
 
 -- the norms, one row more
 sum-append : (s : Float) (xs : List Float) (x : Float) → sumFrom s (xs ++ (x ∷ [])) ≡ add binary64 (sumFrom s xs) x

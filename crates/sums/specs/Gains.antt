@@ -27,4 +27,3 @@ pub record Accumulated (weights coords : List Float) (m k d : ℕ) (w w' : List 
   pub state : stateIn m k d w' u' ≡ stateIn m k d w u
   pub sums : sumsIn k d w' ≡ sumsUpTo weights coords (stateIn m k d w u .labels) k d m
   pub counts : countsIn m k u' ≡ countsUpTo (stateIn m k d w u .labels) k m
-  pub most : (c : ℕ) → getD (countsIn m k u') c 0 ≤ m

@@ -32,16 +32,16 @@ use Rattle.tries.specs.declared.Tally.{Tally}
 
 -- ---- the counts stay small
 pub runs-small : (held last : Once) (w : List Float) (m k d : ℕ) (r : Runs) → Both held last w m k d r → RunsSmall r
-runs-small held last w m k d r b = record { made = b .made-small; saved = b .saved-small; doubled = b .doubled-small }
+runs-small held last w m k d r b = record { made = b .made-small; saved = b .saved-small }
 
 pub tally-small : (t : Tally) (n : ℕ) → n ≤ 64 → TallySmall t n → TallySmall t 64
-tally-small t n h v = record { made = omega (arith, v .made); saved = omega (arith, v .saved); doubled = omega (arith, v .doubled) }
+tally-small t n h v = record { made = omega (arith, v .made); saved = omega (arith, v .saved) }
 
 kept-small : (t : Tally) (k : ℕ) (x loglik : Float) (r : Runs) (n : ℕ) → RunsSmall r → TallySmall t n → TallySmall (keptTally k x loglik r t) (n + 1)
-kept-small t k x loglik r n a v = record { made = omega (arith, v .made, a .made); saved = omega (arith, v .saved, a .saved); doubled = omega (arith, v .doubled, a .doubled) }
+kept-small t k x loglik r n a v = record { made = omega (arith, v .made, a .made); saved = omega (arith, v .saved, a .saved) }
 
 left-small : (t : Tally) (r : Runs) (n : ℕ) → RunsSmall r → TallySmall t n → TallySmall (leftTally r t) (n + 1)
-left-small t r n a v = record { made = omega (arith, v .made, a .made); saved = omega (arith, v .saved, a .saved); doubled = omega (arith, v .doubled, a .doubled) }
+left-small t r n a v = record { made = omega (arith, v .made, a .made); saved = omega (arith, v .saved, a .saved) }
 
 -- ---- the outputs can still be filled when the work array is as long as it was
 pub fillable-of : (labels resp weights directions kappas logw work work' m k d : ℕ) → work' ≡ work → Fillable labels resp weights directions kappas logw work m k d

@@ -21,21 +21,19 @@ use Rattle.tries.specs.declared.Tally.{Tally}
 pub record TallySmall (t : Tally) (n : ℕ) : Type 0 where
   pub made : t .made ≤ n * 10485760000
   pub saved : t .saved ≤ n * 10485760000
-  pub doubled : t .doubled ≤ n * 2560000
 
 -- with one number more, whose four runs these are, kept or not
 abbrev pub keptTally : ℕ → Float → Float → Runs → Tally → Tally
 keptTally k score loglik r t =
-    record { choice = Number k score; loglik = loglik; made = t .made + r .made; saved = t .saved + r .saved; doubled = t .doubled + r .doubled }
+    record { choice = Number k score; loglik = loglik; made = t .made + r .made; saved = t .saved + r .saved }
 
 abbrev pub leftTally : Runs → Tally → Tally
 leftTally r t =
-    record { choice = t .choice; loglik = t .loglik; made = t .made + r .made; saved = t .saved + r .saved; doubled = t .doubled + r .doubled }
+    record { choice = t .choice; loglik = t .loglik; made = t .made + r .made; saved = t .saved + r .saved }
 
 pub record RunsSmall (r : Runs) : Type 0 where
   pub made : r .made ≤ 10485760000
   pub saved : r .saved ≤ 10485760000
-  pub doubled : r .doubled ≤ 2560000
 
 -- what is found is as long as k groups make it
 pub record Full (m k d : ℕ) (em : Em) : Type 0 where

@@ -19,9 +19,9 @@ pub record Auto : Type 0 where
 
 abbrev pub tallyBy : Bool → ℕ → Float → Once → Tally → Tally
 tallyBy true k score fit t =
-    record { choice = Number k score; loglik = fit .em .loglik; made = t .made + fit .made; saved = t .saved + fit .saved; doubled = t .doubled + fit .doubled }
+    record { choice = Number k score; loglik = fit .em .loglik; made = t .made + fit .made; saved = t .saved + fit .saved }
 tallyBy false k score fit t =
-    record { choice = t .choice; loglik = t .loglik; made = t .made + fit .made; saved = t .saved + fit .saved; doubled = t .doubled + fit .doubled }
+    record { choice = t .choice; loglik = t .loglik; made = t .made + fit .made; saved = t .saved + fit .saved }
 
 abbrev pub outputsBy : Bool → Outputs → Outputs → Outputs
 outputsBy true new held = new
@@ -46,5 +46,5 @@ module _ (o : Outputs) (weights coords : List Float) (d : ℕ) (s : Settings) wh
 
   -- the first n numbers from lo on
   unfoldable pub autoUpTo : ℕ → ℕ → Auto
-  autoUpTo lo zero = record { tally = record { choice = Nothing; loglik = inf true; made = 0; saved = 0; doubled = 0 }; outputs = o }
+  autoUpTo lo zero = record { tally = record { choice = Nothing; loglik = inf true; made = 0; saved = 0 }; outputs = o }
   autoUpTo lo (suc n) = tryNumber (lo + n) (autoUpTo lo n)

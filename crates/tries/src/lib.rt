@@ -15,7 +15,6 @@ pub struct Tally {
     pub loglik: f64,
     pub made: u64,
     pub saved: u64,
-    pub doubled: u64,
 }
 
 // With number k, which is kept.
@@ -28,7 +27,6 @@ fn tally_kept(t: Tally, k: usize, score: f64, loglik: f64, r: keeper::Runs) -> T
         loglik,
         made: t.made + r.made,
         saved: t.saved + r.saved,
-        doubled: t.doubled + r.doubled,
     }
 }
 
@@ -43,7 +41,6 @@ fn tally_left(t: Tally, r: keeper::Runs) -> Tally
         loglik: t.loglik,
         made: t.made + r.made,
         saved: t.saved + r.saved,
-        doubled: t.doubled + r.doubled,
     }
 }
 
@@ -128,7 +125,6 @@ pub fn try_numbers(
         loglik: -1.0 / 0.0,
         made: 0,
         saved: 0,
-        doubled: 0,
     };
     let mut k = lo;
     while k <= hi {

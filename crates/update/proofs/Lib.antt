@@ -1,3 +1,4 @@
 pub mod Served
 pub mod Settles
 pub mod Updates
+pub mod Reseeds

@@ -5,11 +5,10 @@ use mathlib.Core.Bool.{Bool, true, false, cond}
 use Prim.Native.Nat.{ℕ}
 use lib.Ieee.{Float}
 use Rattle.areas.specs.State.{State}
-use Rattle.update.specs.Update.{Update, putServed, servedUpTo, emptyUpTo, refreshed, updateUpTo, updateOf}
+use Rattle.update.specs.Update.{putServed, servedUpTo, emptyUpTo, refreshed, updateUpTo, updateOf}
 use Rattle.sums.specs.Sums.{sumsUpTo, countsUpTo}
 use Rattle.areas.specs.Areas.{stateIn, sumsIn, countsIn, Labelled}
 use Rattle.sums.specs.Gains.{Accumulated}
-use Rattle.update.specs.Groups.{updatedBy, Updated, Settled}
 use Rattle.update.proofs.Updates.{update-labels}
 use Rattle.areas.proofs.Sizes.{labelled-of}
 
@@ -34,17 +33,8 @@ module _ (coords : List Float) (m k d : ℕ) (counts : List ℕ) (s x : State) (
   pub refresh-left : b ≡ emptyUpTo counts k → b ≡ false → s ≡ refreshed coords m k d counts s
   refresh-left e t = rw (← e, t)
 
-module _ (weights coords : List Float) (m k d : ℕ) (w w₁ w₂ w₃ : List Float) (u u₁ u₃ : List ℕ) (r : ℕ) where
-  updated-is : Accumulated weights coords m k d w w₁ u u₁ → stateIn m k d w₂ u₁ ≡ refreshed coords m k d (countsIn m k u₁) (stateIn m k d w₁ u₁)
-      → sumsIn k d w₂ ≡ sumsIn k d w₁ → updatedBy coords m k d w₂ u₁ ≡ updateOf weights coords m k d (stateIn m k d w u)
-  updated-is a e f =
-      ap (λ (x : State). updateUpTo coords d (sumsIn k d w₂) (countsIn m k u₁) x k) e
-      ∙ ap (λ (x : State). updateUpTo coords d (sumsIn k d w₂) (countsIn m k u₁) (refreshed coords m k d (countsIn m k u₁) x) k) (a .state)
-      ∙ ap (λ (x : List Float). updateUpTo coords d x (countsIn m k u₁) (refreshed coords m k d (countsIn m k u₁) (stateIn m k d w u)) k) (f ∙ a .sums)
-      ∙ ap (λ (x : List ℕ). updateUpTo coords d (sumsUpTo weights coords (stateIn m k d w u .labels) k d m) x (refreshed coords m k d x (stateIn m k d w u)) k) (a .counts)
-
-  pub settle-done : Accumulated weights coords m k d w w₁ u u₁ → stateIn m k d w₂ u₁ ≡ refreshed coords m k d (countsIn m k u₁) (stateIn m k d w₁ u₁)
-      → sumsIn k d w₂ ≡ sumsIn k d w₁ → Updated coords m k d w₂ w₃ u₁ u₃ r → Settled weights coords m k d (stateIn m k d w u) (stateIn m k d w₃ u₃) r
-  settle-done a e f g =
-      let h = updated-is a e f in
-      record { state = g .state ∙ ap (λ (x : Update). x .state) h; doubled = g .doubled ∙ ap (λ (x : Update). x .doubled) h; small = g .small }
+pub settle-done : (weights coords : List Float) (m k d : ℕ) (w w₁ w₂ : List Float) (u u₁ : List ℕ) (s' : State) → Accumulated weights coords m k d w w₁ u u₁
+    → stateIn m k d w₂ u₁ ≡ refreshed coords m k d (countsIn m k u₁) (stateIn m k d w₁ u₁) → sumsIn k d w₂ ≡ sumsIn k d w₁
+    → s' ≡ updateUpTo coords d (sumsIn k d w₂) (countsIn m k u₁) (stateIn m k d w₂ u₁) k .state
+    → s' ≡ updateOf weights coords m k d (stateIn m k d w u) .state
+settle-done weights coords m k d w w₁ w₂ u u₁ s' a e f g = g ∙ rw (e, a .state, f, a .sums, a .counts)

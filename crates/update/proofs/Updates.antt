@@ -1,17 +1,16 @@
--- The update over plain lists: what the stores of each of its functions do to the state, the sums and the counts, by the laws of the regions, and that group
--- after group they make what the definition says. A reseeded group's count holds m + 1 + the leaf, and no other count is above m, so the leaves picked are
--- those counts. Assumes nothing.
+-- The update over plain lists: what the stores of each of its functions do to the state and the sums, by the laws of the regions, and that group
+-- after group they make what the definition says. Assumes nothing.
 use mathlib.Core.Path.{_≡_, refl, ap, sym, subst, _∙_}
-use mathlib.Core.List.{List, _∷_}
-use mathlib.Core.Bool.{Bool, true, false, _||_, cond}
+use mathlib.Core.List.{List}
+use mathlib.Core.Bool.{Bool, true, false, cond}
 use Prim.Native.Nat.{ℕ, zero, suc, _+_, _*_, _-_, _≤_, _<_}
 use native.Mathlib.Omega.{arith}
 use native.Mathlib.Numerals.{add-one}
 use lib.Dec.{eqb}
 use lib.ListN.{length, getD, take, drop, set, length-set, length-append, length-drop}
-use lib.Seq.{length-take-le, getD-set-same, getD-set-other}
-use borrow.Author.Tests.{eqb-true, eqb-false, eq-eqb, ne-eqb}
-use lib.Ieee.{Float, inf, lt}
+use lib.Seq.{length-take-le}
+use borrow.Author.Tests.{eq-eqb, ne-eqb}
+use lib.Ieee.{Float, lt}
 use Rattle.float.specs.Arithmetic.{plusZero}
 use Rattle.rows.specs.Rows.{part, putPart, rowOf}
 use Rattle.vector.specs.Vectors.{dotOf, normOf, dividedBy, unitVector}
@@ -20,11 +19,12 @@ use Rattle.rows.proofs.Rows.{row-within, length-part, part-put, drop-put, put-s
 use Rattle.pick.proofs.Places.{argmin-below}
 use Rattle.bounds.specs.Shifts.{cosine}
 use Rattle.areas.specs.State.{State}
-use Rattle.update.specs.Update.{Update, putServed, moveCenter, among, reseedFrom, recenter, updateUpTo}
+use Rattle.update.specs.Update.{Update, begun, putServed, moveCenter, bestServed, reseeded, reseedFrom, recentered, recenter, updateGroup, updateUpTo}
 use Rattle.sums.specs.Sums.{centerBy}
 use Rattle.areas.specs.Areas.{stateIn, sumsIn, countsIn, total, sumsAt, servedAt, driftAt, LeafOf, GroupOf}
-use Rattle.update.specs.Groups.{LaterRows, occursUpTo, worstOf, Reseeded, Recentered, GroupBy, GroupUpdated, CountsAtMost, Updated}
-use Rattle.areas.proofs.Regions.{withCenters, set-drift, set-drift-sums, row-centers, row-sums, put-row-centers, put-row-centers-sums, put-row-sums, put-row-sums-state, length-sums, served-are, set-served, set-served-sums, set-counts-state, set-counts, get-counts, length-counts}
+use Rattle.update.specs.Groups.{LaterRows}
+use Rattle.areas.proofs.Regions.{withCenters, set-drift, set-drift-sums, row-centers, row-sums, put-row-centers, put-row-centers-sums}
+use Rattle.areas.proofs.Regions.{put-row-sums, put-row-sums-state, length-sums, served-are, set-served, set-served-sums, get-counts}
 use Rattle.areas.proofs.Sizes.{leaf-of}
 
 -- what stands after a part that was replaced
@@ -76,7 +76,7 @@ module _ (m k d : ℕ) (w : List Float) (c : ℕ) (v : Float) (group : GroupOf c
 
 -- a row r written in the place of row c of the sums
 module _ (m k d : ℕ) (w : List Float) (c : ℕ) (r : List Float) (group : GroupOf c k d) (long : total m k d ≤ length w) (full : length r ≡ d) where
-  abbrev written : List Float
+  abbrev pub written : List Float
   written = putPart w (k * d + c * d) (k * d + c * d + d - (k * d + c * d)) r
 
   written-is : written ≡ putPart w (sumsAt m k d + c * d) d r
@@ -139,7 +139,7 @@ module _ (m k d : ℕ) (w : List Float) (worst : ℕ) (is : worst ≡ argminOf (
   worst-part : worst ≡ argminOf (part w (servedAt m k d) m)
   worst-part = let f : servedAt m k d + m - servedAt m k d ≡ m = omega arith in rw f at is
 
-  pub worst-is : (u : List ℕ) → worst ≡ worstOf (stateIn m k d w u)
+  pub worst-is : (u : List ℕ) → worst ≡ argminOf (stateIn m k d w u .served)
   worst-is u = worst-part ∙ ap argminOf (served-are m k d w u)
 
   pub worst-leaf : 0 < m → total m k d ≤ length w → LeafOf worst m d
@@ -147,198 +147,89 @@ module _ (m k d : ℕ) (w : List Float) (worst : ℕ) (is : worst ≡ argminOf (
       let l : length (part w (servedAt m k d) m) ≡ m = length-part w (servedAt m k d) m (omega arith) in
       leaf-of worst m d (omega (arith, argmin-below (part w (servedAt m k d) m) (omega (arith, l)), l, worst-part))
 
--- whether a count is among the first: one more
-pub occurs-turn : (m k : ℕ) (u : List ℕ) (x g : ℕ) (found : Bool) → g < k → found ≡ occursUpTo (countsIn m k u) x g
-    → (found || eqb (getD u (m + g) 0) x) ≡ occursUpTo (countsIn m k u) x (g + 1)
-unfolding occursUpTo
-occurs-turn m k u x g found h e = rw (add-one, e, get-counts m k u g 0 h)
-
 -- group c reseeded from the worst-served leaf
-module _ (m k d : ℕ) (coords w : List Float) (c worst : ℕ) (r w' : List Float) (u : List ℕ) (group : GroupOf c k d) (some : 0 < m) (long : total m k d ≤ length w)
+module _ (m k d : ℕ) (coords w : List Float) (c worst : ℕ) (r w' : List Float) (group : GroupOf c k d) (some : 0 < m) (long : total m k d ≤ length w)
     (full : length r ≡ d) (is : worst ≡ argminOf (take (servedAt m k d + m - servedAt m k d) (drop (servedAt m k d) w))) where
   abbrev marked : List Float
-  marked = set (written m k d w c r group long full) (servedAt m k d + worst) (inf false)
+  marked = set (written m k d w c r group long full) (servedAt m k d + worst) bestServed
 
   below : worst < m
   below = worst-leaf m k d w worst is some long .below
 
   marked-sums : sumsIn k d marked ≡ sumsIn k d (written m k d w c r group long full)
-  marked-sums = set-served-sums m k d (written m k d w c r group long full) worst (inf false) below
+  marked-sums = set-served-sums m k d (written m k d w c r group long full) worst bestServed below
 
-  marked-state : stateIn m k d marked u ≡ putServed (set (stateIn m k d w u .served) worst (inf false)) (stateIn m k d w u)
+  marked-state : (u : List ℕ) → stateIn m k d marked u ≡ putServed (set (stateIn m k d w u .served) worst bestServed) (stateIn m k d w u)
   unfolding putServed
-  marked-state =
-      set-served m k d (written m k d w c r group long full) u worst (inf false) below ∙ rw (written-state m k d w c r group long full u)
+  marked-state u =
+      set-served m k d (written m k d w c r group long full) u worst bestServed below ∙ rw (written-state m k d w c r group long full u)
 
-  reseeded-state : r ≡ unitVector (rowOf coords d worst) → stateIn m k d w' u ≡ moveCenter d c (rowOf (sumsIn k d marked) d c) (stateIn m k d marked u)
-      → stateIn m k d w' u
-      ≡ moveCenter d c (unitVector (rowOf coords d worst)) (putServed (set (stateIn m k d w u .served) worst (inf false)) (stateIn m k d w u))
-  reseeded-state e f = f ∙ rw (marked-sums, written-row m k d w c r group long full, marked-state, e)
-
-  pub reseed-done : (again : Bool) (x : ℕ) → r ≡ unitVector (take (worst * d + d - worst * d) (drop (worst * d) coords))
-      → ((v : List ℕ) → stateIn m k d w' v ≡ moveCenter d c (rowOf (sumsIn k d marked) d c) (stateIn m k d marked v))
-      → sumsIn k d w' ≡ sumsIn k d marked → again ≡ occursUpTo (countsIn m k u) (m + 1 + worst) c → x ≡ cond again 1 0
-      → Reseeded coords c m k d w w' u (set u (m + c) (m + 1 + worst)) x
-  reseed-done again x unit move sums found e =
+  pub reseed-done : r ≡ unitVector (take (worst * d + d - worst * d) (drop (worst * d) coords))
+      → ((u : List ℕ) → stateIn m k d w' u ≡ moveCenter d c (rowOf (sumsIn k d marked) d c) (stateIn m k d marked u))
+      → (u : List ℕ) → stateIn m k d w' u ≡ reseeded coords d c (argminOf (stateIn m k d w u .served)) (stateIn m k d w u)
+  reseed-done unit move u =
       let f : worst * d + d - worst * d ≡ d = omega arith in
-      let q : worst ≡ worstOf (stateIn m k d w u) = worst-is m k d w worst is u in
       let unit' : r ≡ unitVector (rowOf coords d worst) = unit ∙ rw f in
-      record {
-        state =
-            set-counts-state m k d w' u c (m + 1 + worst) (group .below)
-            ∙ reseeded-state unit' (move u)
-            ∙ ap (λ (i : ℕ). moveCenter d c (unitVector (rowOf coords d i)) (putServed (set (stateIn m k d w u .served) i (inf false)) (stateIn m k d w u))) q;
-        again = e ∙ ap (λ (b : Bool). cond b 1 0) (found ∙ ap (λ (i : ℕ). occursUpTo (countsIn m k u) (m + 1 + i) c) q);
-        counts = set-counts m k u c (m + 1 + worst) (group .below) ∙ ap (λ (i : ℕ). set (countsIn m k u) c (m + 1 + i)) q;
-        rows = later-of m k d w c r group long full w' (sums ∙ marked-sums);
-      }
+      let here : stateIn m k d w' u ≡ reseeded coords d c worst (stateIn m k d w u) =
+      move u ∙ rw (marked-sums, written-row m k d w c r group long full, marked-state u, unit') in
+      here ∙ ap (λ (i : ℕ). reseeded coords d c i (stateIn m k d w u)) (worst-is m k d w worst is u)
+
+  pub reseed-later : sumsIn k d w' ≡ sumsIn k d marked → LaterRows c k d w w'
+  reseed-later e = later-of m k d w c r group long full w' (e ∙ marked-sums)
 
 -- group c by the test of its count
-module _ (coords : List Float) (c m k d : ℕ) (w w' : List Float) (u u' : List ℕ) (r : ℕ) (below : c < k) where
-  pub group-empty : getD u (m + c) 0 ≡ 0 → Reseeded coords c m k d w w' u u' r → GroupUpdated coords c m k d w w' u u' r
-  group-empty e g =
-      let f : eqb (getD (countsIn m k u) c 0) 0 ≡ true = eq-eqb (getD (countsIn m k u) c 0) 0 (sym (get-counts m k u c 0 below) ∙ e) in
-      subst (λ (b : Bool). GroupBy b coords c m k d w w' u u' r) (sym f) g
+module _ (coords : List Float) (c m k d : ℕ) (w : List Float) (u : List ℕ) (s' : State) (below : c < k) where
+  abbrev state : State
+  state = stateIn m k d w u
 
-  pub group-full : (getD u (m + c) 0 ≡ 0 → ⊥) → Recentered c m k d w w' u u' r → GroupUpdated coords c m k d w w' u u' r
-  group-full n g =
-      let f : eqb (getD (countsIn m k u) c 0) 0 ≡ false = ne-eqb (getD (countsIn m k u) c 0) 0 (λ e. n (get-counts m k u c 0 below ∙ e)) in
-      subst (λ (b : Bool). GroupBy b coords c m k d w w' u u' r) (sym f) g
+  abbrev by : Bool → State
+  by empty = cond empty (reseedFrom coords d c (argminOf (state .served)) (begun state)) (recenter d (sumsIn k d w) c (begun state)) .state
 
-  one-small : (b : Bool) (x : ℕ) → x ≡ cond b 1 0 → x ≤ 1
-  one-small true x e = omega arith
-  one-small false x e = omega arith
+  abbrev updated : State
+  updated = updateGroup coords d (sumsIn k d w) (countsIn m k u) c (begun state) .state
 
-  pub group-small : (b : Bool) → GroupBy b coords c m k d w w' u u' r → r ≤ 1
-  group-small true g = one-small (occursUpTo (countsIn m k u) (m + 1 + worstOf (stateIn m k d w u)) c) r (g .again)
-  group-small false g = omega (arith, g .again)
+  pub group-empty : getD u (m + c) 0 ≡ 0 → s' ≡ reseeded coords d c (argminOf (state .served)) state → s' ≡ updated
+  group-empty e g = g ∙ sym (ap by (eq-eqb (getD (countsIn m k u) c 0) 0 (sym (get-counts m k u c 0 below) ∙ e)))
 
--- marks among the counts
-or-false : (a : Bool) → (a || false) ≡ a
-or-false true = refl
-or-false false = refl
+  pub group-full : (getD u (m + c) 0 ≡ 0 → ⊥) → s' ≡ recentered d (sumsIn k d w) c state → s' ≡ updated
+  group-full n g = g ∙ sym (ap by (ne-eqb (getD (countsIn m k u) c 0) 0 (λ e. n (get-counts m k u c 0 below ∙ e))))
 
-or-comm : (a b : Bool) → (a || b) ≡ (b || a)
-or-comm true true = refl
-or-comm true false = refl
-or-comm false true = refl
-or-comm false false = refl
-
-mark-by : (b : Bool) (m i j : ℕ) → eqb i j ≡ b → eqb (m + 1 + j) (m + 1 + i) ≡ b
-mark-by true m i j e = eq-eqb (m + 1 + j) (m + 1 + i) (omega (arith, eqb-true i j e))
-mark-by false m i j e = ne-eqb (m + 1 + j) (m + 1 + i) (λ h. eqb-false i j e (omega (arith, h)))
-
-occurs-set : (l : List ℕ) (c y x n : ℕ) → n ≤ c → occursUpTo (set l c y) x n ≡ occursUpTo l x n
-unfolding occursUpTo
-occurs-set l c y x zero h = refl
-occurs-set l c y x (suc n) h = rw (occurs-set l c y x n (omega arith), getD-set-other l c n y 0 (λ (e : n ≡ c). omega (arith, e, h)))
-
-occurs-marked : (l : List ℕ) (c m i j : ℕ) (ps : List ℕ) → c < length l → occursUpTo l (m + 1 + i) c ≡ among i ps
-    → occursUpTo (set l c (m + 1 + j)) (m + 1 + i) (c + 1) ≡ among i (j ∷ ps)
-unfolding occursUpTo among
-occurs-marked l c m i j ps h e =
-    let f : c + 1 ≡ suc c = omega arith in
-    rw (f, occurs-set l c (m + 1 + j) (m + 1 + i) c (omega arith), e, getD-set-same l c (m + 1 + j) 0 h, mark-by (eqb i j) m i j refl) (or-comm (among i ps) (eqb i j))
-
-occurs-unmarked : (l : List ℕ) (c m i : ℕ) (ps : List ℕ) → getD l c 0 ≤ m → occursUpTo l (m + 1 + i) c ≡ among i ps → occursUpTo l (m + 1 + i) (c + 1) ≡ among i ps
-unfolding occursUpTo
-occurs-unmarked l c m i ps h e =
-    let f : c + 1 ≡ suc c = omega arith in
-    rw (f, ne-eqb (getD l c 0) (m + 1 + i) (λ q. omega (arith, q, h)), or-false) e
-
--- the areas after c groups
-pub record UpdatedTo (coords : List Float) (m k d : ℕ) (w₀ w : List Float) (u₀ u : List ℕ) (n c : ℕ) : Type 0 where
-  pub state : stateIn m k d w u ≡ updateUpTo coords d (sumsIn k d w₀) (countsIn m k u₀) (stateIn m k d w₀ u₀) c .state
-  pub doubled : n ≡ updateUpTo coords d (sumsIn k d w₀) (countsIn m k u₀) (stateIn m k d w₀ u₀) c .doubled
-  pub small : n ≤ c
+-- the areas after c groups: the definition's state, and the sums of the groups to come
+pub record UpdatedTo (coords : List Float) (m k d : ℕ) (w₀ w : List Float) (u : List ℕ) (c : ℕ) : Type 0 where
+  pub state : stateIn m k d w u ≡ updateUpTo coords d (sumsIn k d w₀) (countsIn m k u) (stateIn m k d w₀ u) c .state
   pub rows : (e : ℕ) → c ≤ e → e < k → rowOf (sumsIn k d w) d e ≡ rowOf (sumsIn k d w₀) d e
-  pub counts : (e : ℕ) → c ≤ e → e < k → getD (countsIn m k u) e 0 ≡ getD (countsIn m k u₀) e 0
-  pub picked : (i : ℕ) → occursUpTo (countsIn m k u) (m + 1 + i) c ≡ among i (updateUpTo coords d (sumsIn k d w₀) (countsIn m k u₀) (stateIn m k d w₀ u₀) c .picked)
 
-pub update-start : (coords : List Float) (m k d : ℕ) (w : List Float) (u : List ℕ) → UpdatedTo coords m k d w w u u 0 0
-unfolding updateUpTo occursUpTo among
-update-start coords m k d w u = record { state = refl; doubled = refl; small = omega arith; rows = λ e h g. refl; counts = λ e h g. refl; picked = λ i. refl }
+pub update-start : (coords : List Float) (m k d : ℕ) (w : List Float) (u : List ℕ) → UpdatedTo coords m k d w w u 0
+unfolding updateUpTo
+update-start coords m k d w u = record { state = refl; rows = λ e h g. refl }
 
-module _ (coords : List Float) (m k d : ℕ) (w₀ w w' : List Float) (u₀ u u' : List ℕ) (n r c : ℕ) (below : c < k) (most : CountsAtMost m k u₀) (long : m + k ≤ length u)
-    (done : UpdatedTo coords m k d w₀ w u₀ u n c) where
-  abbrev before : Update
-  before = updateUpTo coords d (sumsIn k d w₀) (countsIn m k u₀) (stateIn m k d w₀ u₀) c
+-- the state after a group goes by the state before it and by the row of its sum, not by the leaves picked
+same-group : (coords : List Float) (d : ℕ) (sums sums' : List Float) (counts : List ℕ) (c : ℕ) (s : State) (b : Update) → s ≡ b .state
+    → rowOf sums d c ≡ rowOf sums' d c → updateGroup coords d sums counts c (begun s) .state ≡ updateGroup coords d sums' counts c b .state
+same-group coords d sums sums' counts c s b e f = go (eqb (getD counts c 0) 0)
+  where
+    go : (t : Bool) → cond t (reseedFrom coords d c (argminOf (s .served)) (begun s)) (recenter d sums c (begun s)) .state
+        ≡ cond t (reseedFrom coords d c (argminOf (b .state .served)) b) (recenter d sums' c b) .state
+    go true = ap (λ (x : State). reseeded coords d c (argminOf (x .served)) x) e
+    go false =
+        ap (λ (x : List Float). moveCenter d c (centerBy x (rowOf (s .centers) d c)) s) f ∙ ap (λ (x : State). recentered d sums' c x) e
 
-  abbrev after : Update
-  after = updateUpTo coords d (sumsIn k d w₀) (countsIn m k u₀) (stateIn m k d w₀ u₀) (c + 1)
+module _ (coords : List Float) (m k d : ℕ) (w₀ w : List Float) (u : List ℕ) (c : ℕ) (done : UpdatedTo coords m k d w₀ w u c) where
+  abbrev upTo : ℕ → Update
+  upTo n = updateUpTo coords d (sumsIn k d w₀) (countsIn m k u) (stateIn m k d w₀ u) n
 
-  abbrev worst : ℕ
-  worst = worstOf (before .state)
-
-  after-reseed : eqb (getD (countsIn m k u₀) c 0) 0 ≡ true → after ≡ reseedFrom coords d c worst before
+  pub update-turn : (w' : List Float) → c < k → stateIn m k d w' u ≡ updateGroup coords d (sumsIn k d w) (countsIn m k u) c (begun (stateIn m k d w u)) .state
+      → LaterRows c k d w w' → UpdatedTo coords m k d w₀ w' u (c + 1)
   unfolding updateUpTo
-  after-reseed e = rw (add-one, e)
-
-  after-recenter : eqb (getD (countsIn m k u₀) c 0) 0 ≡ false → after ≡ recenter d (sumsIn k d w₀) c before
-  unfolding updateUpTo
-  after-recenter e = rw (add-one, e)
-
-  same-worst : worstOf (stateIn m k d w u) ≡ worst
-  same-worst = ap (λ (s : State). worstOf s) (done .state)
-
-  reseed-turn : eqb (getD (countsIn m k u₀) c 0) 0 ≡ true → Reseeded coords c m k d w w' u u' r → UpdatedTo coords m k d w₀ w' u₀ u' (n + r) (c + 1)
-  reseed-turn e g =
-      let f : after ≡ reseedFrom coords d c worst before = after-reseed e in
-      let counts' : countsIn m k u' ≡ set (countsIn m k u) c (m + 1 + worst) = g .counts ∙ ap (λ (i : ℕ). set (countsIn m k u) c (m + 1 + i)) same-worst in
-      let again : r ≡ cond (among worst (before .picked)) 1 0 =
-      g .again ∙ ap (λ (i : ℕ). cond (occursUpTo (countsIn m k u) (m + 1 + i) c) 1 0) same-worst ∙ ap (λ (b : Bool). cond b 1 0) (done .picked worst) in
+  update-turn w' below g later =
       record {
-        state =
-            g .state
-            ∙ ap (λ (s : State). moveCenter d c (unitVector (rowOf coords d (worstOf s))) (putServed (set (s .served) (worstOf s) (inf false)) s)) (done .state)
-            ∙ sym (ap (λ (a : Update). a .state) f);
-        doubled = ap (λ (x : ℕ). x + r) (done .doubled) ∙ ap (λ (x : ℕ). before .doubled + x) again ∙ sym (ap (λ (a : Update). a .doubled) f);
-        small = omega (arith, done .small, group-small coords c m k d w w' u u' r below true g);
-        rows = λ j h l. g .rows j (omega arith) l ∙ done .rows j (omega arith) l;
-        counts = λ j h l.
-            ap (λ (x : List ℕ). getD x j 0) counts' ∙ getD-set-other (countsIn m k u) c j (m + 1 + worst) 0 (λ (q : j ≡ c). omega (arith, q, h)) ∙ done .counts j (omega arith) l;
-        picked = λ i.
-            ap (λ (x : List ℕ). occursUpTo x (m + 1 + i) (c + 1)) counts'
-            ∙ occurs-marked (countsIn m k u) c m i worst (before .picked) (omega (arith, length-counts m k u long)) (done .picked i)
-            ∙ sym (ap (λ (a : Update). among i (a .picked)) f);
+        state = rw add-one
+            (g ∙ same-group coords d (sumsIn k d w) (sumsIn k d w₀) (countsIn m k u) c (stateIn m k d w u) (upTo c) (done .state) (done .rows c (omega arith) below));
+        rows = λ j h l. later j (omega arith) l ∙ done .rows j (omega arith) l;
       }
 
-  recenter-turn : eqb (getD (countsIn m k u₀) c 0) 0 ≡ false → Recentered c m k d w w' u u' r → UpdatedTo coords m k d w₀ w' u₀ u' (n + r) (c + 1)
-  recenter-turn e g =
-      let f : after ≡ recenter d (sumsIn k d w₀) c before = after-recenter e in
-      let same : n + r ≡ n = omega (arith, g .again) in
-      record {
-        state =
-            g .state
-            ∙ ap (λ (x : List Float). moveCenter d c (centerBy x (rowOf (stateIn m k d w u .centers) d c)) (stateIn m k d w u)) (done .rows c (omega arith) below)
-            ∙ ap (λ (s : State). moveCenter d c (centerBy (rowOf (sumsIn k d w₀) d c) (rowOf (s .centers) d c)) s) (done .state)
-            ∙ sym (ap (λ (a : Update). a .state) f);
-        doubled = same ∙ done .doubled ∙ sym (ap (λ (a : Update). a .doubled) f);
-        small = omega (arith, same, done .small);
-        rows = λ j h l. g .rows j (omega arith) l ∙ done .rows j (omega arith) l;
-        counts = λ j h l. ap (λ (x : List ℕ). getD x j 0) (g .counts) ∙ done .counts j (omega arith) l;
-        picked = λ i.
-            ap (λ (x : List ℕ). occursUpTo x (m + 1 + i) (c + 1)) (g .counts)
-            ∙ occurs-unmarked (countsIn m k u) c m i (before .picked) (omega (arith, done .counts c (omega arith) below, most c)) (done .picked i)
-            ∙ sym (ap (λ (a : Update). among i (a .picked)) f);
-      }
-
-  turn-by : (b : Bool) → eqb (getD (countsIn m k u₀) c 0) 0 ≡ b → GroupBy b coords c m k d w w' u u' r → UpdatedTo coords m k d w₀ w' u₀ u' (n + r) (c + 1)
-  turn-by true e g = reseed-turn e g
-  turn-by false e g = recenter-turn e g
-
-  pub update-turn : GroupUpdated coords c m k d w w' u u' r → UpdatedTo coords m k d w₀ w' u₀ u' (n + r) (c + 1)
-  update-turn g =
-      turn-by (eqb (getD (countsIn m k u) c 0) 0) (ap (λ (x : ℕ). eqb x 0) (sym (done .counts c (omega arith) below))) g
-
-pub update-end : (coords : List Float) (m k d : ℕ) (w₀ w : List Float) (u₀ u : List ℕ) (n c : ℕ) → c ≡ k → k ≤ 64 → UpdatedTo coords m k d w₀ w u₀ u n c
-    → Updated coords m k d w₀ w u₀ u n
-update-end coords m k d w₀ w u₀ u n c e h g =
-    record {
-      state = g .state ∙ ap (λ (x : ℕ). updateUpTo coords d (sumsIn k d w₀) (countsIn m k u₀) (stateIn m k d w₀ u₀) x .state) e;
-      doubled = g .doubled ∙ ap (λ (x : ℕ). updateUpTo coords d (sumsIn k d w₀) (countsIn m k u₀) (stateIn m k d w₀ u₀) x .doubled) e;
-      small = omega (arith, g .small);
-    }
+  pub update-end : c ≡ k → stateIn m k d w u ≡ upTo k .state
+  update-end e = done .state ∙ ap (λ (n : ℕ). upTo n .state) e
 
 -- the labels stay
 either-labels : (b : Bool) (x y : Update) (l : List ℕ) → x .state .labels ≡ l → y .state .labels ≡ l → cond b x y .state .labels ≡ l

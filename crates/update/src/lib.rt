@@ -6,11 +6,11 @@ ghost use Prim.Native.Nat.{ℕ, _+_, _*_, _<_, _≤_};
 ghost use lib.ListN.{length, getD};
 ghost use Rattle.rows.specs.Rows.{part, rowOf};
 ghost use Rattle.bounds.specs.Shifts.{cosine};
-ghost use Rattle.update.specs.Update.{emptyUpTo, servedUpTo, putServed, moveCenter};
-ghost use Rattle.sums.specs.Sums.{centerBy};
+ghost use Rattle.update.specs.Update.{emptyUpTo, servedUpTo, putServed, moveCenter, reseeded, recentered, begun, updateGroup, updateUpTo, updateOf};
+ghost use Rattle.pick.specs.Places.{argminOf};
 ghost use Rattle.vector.specs.Vectors.{dotOf};
 ghost use Rattle.areas.specs.Areas.{stateIn, sumsIn, countsIn, Sized, LeafOf, GroupOf, Labelled, Area};
-ghost use Rattle.update.specs.Groups.{serveLeaf, LaterRows, occursUpTo, Reseeded, GroupUpdated, CountsAtMost, Updated, Settled};
+ghost use Rattle.update.specs.Groups.{serveLeaf, LaterRows, Leafed};
 
 // ---- how well the leaves are served
 
@@ -113,7 +113,7 @@ fn recenter(work: &mut [f64], c: usize, m: usize, k: usize, d: usize)
     requires { ⌜ Area (length (now work)) m k d ⌝ }
     requires { ⌜ GroupOf c k d ⌝ }
     ensures { λ _. ⌜ ((u : List ℕ) → stateIn m k d (now (work .exit)) u
-        ≡ moveCenter d c (centerBy (rowOf (sumsIn k d (now (work .entry))) d c) (rowOf (stateIn m k d (now (work .entry)) u .centers) d c)) (stateIn m k d (now (work .entry)) u)) ⌝ }
+        ≡ recentered d (sumsIn k d (now (work .entry))) c (stateIn m k d (now (work .entry)) u)) ⌝ }
     ensures { λ _. ⌜ LaterRows c k d (now (work .entry)) (now (work .exit)) ⌝ }
 {
     let kd = k * d;
@@ -128,34 +128,13 @@ fn recenter(work: &mut [f64], c: usize, m: usize, k: usize, d: usize)
     }
 }
 
-// Whether one of the groups before c was reseeded from this leaf: a reseeded group's count holds m + 1 + the leaf.
-fn is_picked(marks: &[u32], leaf: usize, c: usize, m: usize, k: usize) -> bool
-    requires { ⌜ (m ≤ 4096) × (k ≤ 64) × (c ≤ k) × (leaf < m) × (m + k ≤ length (now marks)) ⌝ }
-    ensures { λ r. ⌜ r ≡ occursUpTo (countsIn m k (now (marks .entry))) (m + 1 + leaf) c ⌝ }
-{
-    let mark = (m + 1 + leaf) as u32;
-    let mut found = false;
-    let mut g = 0;
-    while g < c {
-        found = found | (marks[m + g] == mark);
-        g += 1;
-    }
-    found
-}
-
-// The empty group c is reseeded from the worst-served leaf; 1 where that leaf was picked already in this update.
-fn reseed(
-    work: &mut [f64],
-    marks: &mut [u32],
-    coords: &[f64],
-    c: usize,
-    m: usize,
-    k: usize,
-    d: usize,
-) -> u64
-    requires { ⌜ Sized (length (now work)) (length (now marks)) (length (now coords)) m k d ⌝ }
+// The empty group c is reseeded from the worst-served leaf, which no other group of this update picks.
+fn reseed(work: &mut [f64], coords: &[f64], c: usize, m: usize, k: usize, d: usize)
+    requires { ⌜ Leafed (length (now work)) (length (now coords)) m k d ⌝ }
     requires { ⌜ GroupOf c k d ⌝ }
-    ensures { λ r. ⌜ Reseeded (now (coords .entry)) c m k d (now (work .entry)) (now (work .exit)) (now (marks .entry)) (now (marks .exit)) r ⌝ }
+    ensures { λ _. ⌜ ((u : List ℕ) → stateIn m k d (now (work .exit)) u
+        ≡ reseeded (now (coords .entry)) d c (argminOf (stateIn m k d (now (work .entry)) u .served)) (stateIn m k d (now (work .entry)) u)) ⌝ }
+    ensures { λ _. ⌜ LaterRows c k d (now (work .entry)) (now (work .exit)) ⌝ }
 {
     let kd = k * d;
     let served = kd + kd + m + m + m;
@@ -166,48 +145,47 @@ fn reseed(
     vector::unit(&mut work[from..from + d], &coords[row..row + d]);
     work[served + worst] = 1.0 / 0.0;
     move_center(work, c, m, k, d);
-    let again = is_picked(marks, worst, c, m, k);
-    marks[m + c] = (m + 1 + worst) as u32;
-    again as u64
 }
 
 // Group c: reseeded where it is empty, else its centre anew.
 fn update_group(
     work: &mut [f64],
-    marks: &mut [u32],
+    marks: &[u32],
     coords: &[f64],
     c: usize,
     m: usize,
     k: usize,
     d: usize,
-) -> u64
+)
     requires { ⌜ Sized (length (now work)) (length (now marks)) (length (now coords)) m k d ⌝ }
     requires { ⌜ GroupOf c k d ⌝ }
-    ensures { λ r. ⌜ GroupUpdated (now (coords .entry)) c m k d (now (work .entry)) (now (work .exit)) (now (marks .entry)) (now (marks .exit)) r ⌝ }
+    ensures { λ _. ⌜ stateIn m k d (now (work .exit)) (now (marks .entry))
+        ≡ updateGroup (now (coords .entry)) d (sumsIn k d (now (work .entry))) (countsIn m k (now (marks .entry))) c
+        (begun (stateIn m k d (now (work .entry)) (now (marks .entry)))) .state ⌝ }
+    ensures { λ _. ⌜ LaterRows c k d (now (work .entry)) (now (work .exit)) ⌝ }
 {
     if marks[m + c] == 0 {
-        return reseed(work, marks, coords, c, m, k, d);
+        reseed(work, coords, c, m, k, d);
+    } else {
+        recenter(work, c, m, k, d);
     }
-    recenter(work, c, m, k, d);
-    0
 }
 
-// Every group's centre anew; how many reseeds picked a leaf already picked.
-fn update(work: &mut [f64], marks: &mut [u32], coords: &[f64], m: usize, k: usize, d: usize) -> u64
+// Every group's centre anew.
+fn update(work: &mut [f64], marks: &[u32], coords: &[f64], m: usize, k: usize, d: usize)
     requires { ⌜ Sized (length (now work)) (length (now marks)) (length (now coords)) m k d ⌝ }
-    requires { ⌜ CountsAtMost m k (now marks) ⌝ }
-    ensures { λ r. ⌜ Updated (now (coords .entry)) m k d (now (work .entry)) (now (work .exit)) (now (marks .entry)) (now (marks .exit)) r ⌝ }
+    ensures { λ _. ⌜ stateIn m k d (now (work .exit)) (now (marks .entry))
+        ≡ updateUpTo (now (coords .entry)) d (sumsIn k d (now (work .entry))) (countsIn m k (now (marks .entry)))
+        (stateIn m k d (now (work .entry)) (now (marks .entry))) k .state ⌝ }
 {
-    let mut doubled: u64 = 0;
     let mut c = 0;
     while c < k {
-        doubled = doubled + update_group(work, marks, coords, c, m, k, d);
+        update_group(work, marks, coords, c, m, k, d);
         c += 1;
     }
-    doubled
 }
 
-// Sums and counts, served refreshed where a group is empty, and new centres; how many reseeds picked a leaf already picked.
+// Sums and counts, served refreshed where a group is empty, and new centres.
 pub fn settle(
     work: &mut [f64],
     marks: &mut [u32],
@@ -216,14 +194,15 @@ pub fn settle(
     m: usize,
     k: usize,
     d: usize,
-) -> u64
+)
     requires { ⌜ Sized (length (now work)) (length (now marks)) (length (now coords)) m k d ⌝ }
     requires { ⌜ (length (now weights) ≡ m) × Labelled m k (stateIn m k d (now work) (now marks)) ⌝ }
-    ensures { λ r. ⌜ Settled (now (weights .entry)) (now (coords .entry)) m k d (stateIn m k d (now (work .entry)) (now (marks .entry))) (stateIn m k d (now (work .exit)) (now (marks .exit))) r ⌝ }
+    ensures { λ _. ⌜ stateIn m k d (now (work .exit)) (now (marks .exit))
+        ≡ updateOf (now (weights .entry)) (now (coords .entry)) m k d (stateIn m k d (now (work .entry)) (now (marks .entry))) .state ⌝ }
 {
     sums::accumulate(work, marks, weights, coords, m, k, d);
     if has_empty(marks, m, k) {
         refresh(work, marks, coords, m, k, d);
     }
-    update(work, marks, coords, m, k, d)
+    update(work, marks, coords, m, k, d);
 }

@@ -1,15 +1,15 @@
--- `lloyd::lloyd` meets its contract. The loop's invariant: the definition's run from the state and counts as they are, with the rounds that are left, ends as the
--- whole run does; labels are below k, and the counts are small. The measure is what is left of the rounds. Assumes nothing.
+-- `lloyd::lloyd` meets its contract. The loop's invariant: the definition's run from the state and counts as they are, with the rounds that are left,
+-- ends as the whole run does (`GoesOn`); labels are below k, and the counts are small. The measure is what is left of the rounds. Assumes nothing.
 use mathlib.Core.Path.{_≡_, refl, _∙_}
 use Prim.Native.Nat.{_≤_, _+_, _-_}
 use native.Mathlib.Nat.{sub-zero}
 use native.Mathlib.Omega.{arith}
 use lib.ListN.{length}
-use Rattle.lloyd.specs.Lloyd.{roundsFrom}
+use Rattle.lloyd.specs.Lloyd.{Run, roundsFrom}
 use Rattle.areas.specs.Areas.{stateIn, Sized, Labelled}
 use Rattle.lloyd.specs.Runs.{freshRun}
 use Rattle.areas.proofs.Sizes.{sized-of}
-use Rattle.lloyd.proofs.Rounds.{running, Few, plus, few-turn, run-turn, run-stop, run-end, labelled-of-round, lloyd-done}
+use Rattle.lloyd.proofs.Rounds.{Few, plus, few-turn, GoesOn, goes-on, stops, runs-out, labelled-of-round}
 use borrow.Author.Needs.{needs}
 use Rattle.lloyd.proofs.lloyd.Statement.{statement}
 use Rattle.lloyd.proofs.lloyd.Tie as tie
@@ -18,7 +18,7 @@ abbrev Inv-loop : tie.InvT-loop
 Inv-loop work₀ marks₀ weights coords m k d rounds c₀ it₀ work marks c it =
     (it ≤ rounds) × Sized (length work) (length marks) (length coords) m k d × (length work ≡ length work₀) × (length marks ≡ length marks₀)
     × Labelled m k (stateIn m k d work marks) × Few it c
-    × (roundsFrom weights coords m k d (rounds - it) it (running it (stateIn m k d work marks) c) ≡ roundsFrom weights coords m k d rounds 0 (freshRun (stateIn m k d work₀ marks₀)))
+    × GoesOn weights coords m k d (roundsFrom weights coords m k d rounds 0 (freshRun (stateIn m k d work₀ marks₀))) (rounds - it) it (stateIn m k d work marks) c
 
 abbrev μ-loop : tie.MeasureT-loop
 μ-loop work₀ marks₀ weights coords m k d rounds c₀ it₀ work marks c it = rounds - it
@@ -26,13 +26,18 @@ abbrev μ-loop : tie.MeasureT-loop
 abbrev start : tie.At-loop Inv-loop μ-loop → tie.Start Inv-loop μ-loop
 start l = l .before .before .before .before .before
 
+abbrev whole : tie.Start Inv-loop μ-loop → Run
+whole b =
+    let a = b .args in
+    roundsFrom (a .weights .now) (a .coords .now) (a .m) (a .k) (a .d) (a .rounds) 0 (freshRun (stateIn (a .m) (a .k) (a .d) (a .work .now) (a .marks .now)))
+
 abbrev loop-at : tie.After-one-round Inv-loop μ-loop → tie.At-loop Inv-loop μ-loop
 loop-at g = g .before .before .before .before
 
 loop-holds : tie.Need-loop-holds Inv-loop μ-loop
 loop-holds c =
     let s = c .before .before .before .before in
-    (omega arith, s .pre .0, refl, refl, s .pre .1 .2, record { made = omega arith; saved = omega arith; doubled = omega arith }, rw sub-zero)
+    (omega arith, s .pre .0, refl, refl, s .pre .1 .2, record { made = omega arith; saved = omega arith }, record { doubled = 0; ends = rw sub-zero })
 
 one-round-requires : tie.Need-one-round-requires Inv-loop μ-loop
 one-round-requires c κs =
@@ -56,9 +61,6 @@ add-t17 c = let g = c .before .before .before .before .before .before in omega (
 add-t18 : tie.Need-add-t18 Inv-loop μ-loop
 add-t18 c = let g = c .before .before .before .before .before .before .before .before in omega (arith, few-at g .saved, few-rounds g)
 
-add-t19 : tie.Need-add-t19 Inv-loop μ-loop
-add-t19 c = let g = c .before .before .before .before .before .before .before .before .before .before in omega (arith, few-at g .doubled, few-rounds g)
-
 add-it : tie.Need-add-it Inv-loop μ-loop
 add-it c = omega (arith, few-rounds (c .before .before .before .before .before .before .before .before .before .before .before))
 
@@ -67,7 +69,7 @@ loop-less c = omega (arith, c .before .before .before .before .before .before .b
 
 loop-again : tie.Need-loop-again Inv-loop μ-loop
 loop-again c =
-    let g = c .before .before .before .before .before .before .before .before .before .before .before in
+    let g = c .before .before .before .before .before .before .before .before .before .before in
     let l = loop-at g .loop in
     let a = start (loop-at g) .args in
     let below = g .before .before .before .loop-test .taken in
@@ -79,11 +81,11 @@ loop-again c =
       sized-of _ _ _ _ (length (a .coords .now)) (a .m) (a .k) (a .d) ew eu (l .inv .1),
       ew ∙ l .inv .2,
       eu ∙ l .inv .3,
-      labelled-of-round (a .weights .now) (a .coords .now) (a .m) (a .k) (a .d) (a .rounds - l .it) (a .rounds - (l .it + 1)) (l .it) (running (l .it) s (l .c)) s' (g .one-round .result)
-          (omega (arith, below)) (g .one-round .ensures) (c .if1 .left) (l .inv .1 .k-some) (l .inv .4),
+      labelled-of-round (a .weights .now) (a .coords .now) (a .m) (a .k) (a .d) (l .it) s s' (g .one-round .result) (g .one-round .ensures) (c .if1 .left)
+          (l .inv .1 .k-some) (l .inv .4),
       few-at g,
-      run-turn (a .weights .now) (a .coords .now) (a .m) (a .k) (a .d) (a .rounds - l .it) (a .rounds - (l .it + 1)) (l .it) (running (l .it) s (l .c)) s' (g .one-round .result)
-          (omega (arith, below)) (g .one-round .ensures) (c .if1 .left) ∙ l .inv .6,
+      goes-on (a .weights .now) (a .coords .now) (a .m) (a .k) (a .d) (whole (start (loop-at g))) (a .rounds - l .it) (a .rounds - (l .it + 1)) (l .it) s s' (l .c)
+          (g .one-round .result) (omega (arith, below)) (g .one-round .ensures) (c .if1 .left) (l .inv .6),
     )
 
 same-length : tie.Need-same-length Inv-loop μ-loop
@@ -97,12 +99,8 @@ returns c =
     let l = c .before .loop in
     let b = start (c .before) in
     let a = b .args in
-    let s = stateIn (a .m) (a .k) (a .d) (l .work) (l .marks) in
-    let r = running (l .it) s (l .c) in
-    let whole = roundsFrom (a .weights .now) (a .coords .now) (a .m) (a .k) (a .d) (a .rounds) 0 (freshRun (stateIn (a .m) (a .k) (a .d) (a .work .now) (a .marks .now))) in
-    lloyd-done whole (l .it) s (l .c)
-    (run-end (a .weights .now) (a .coords .now) (a .m) (a .k) (a .d) (a .rounds - l .it) (l .it) r whole (omega (arith, c .loop-test .left)) (l .inv .6)) (l .inv .5)
-    (omega (arith, l .inv .0, b .pre .1 .1))
+    runs-out (a .weights .now) (a .coords .now) (a .m) (a .k) (a .d) (whole b) (a .rounds - l .it) (l .it) (stateIn (a .m) (a .k) (a .d) (l .work) (l .marks)) (l .c)
+    (omega (arith, c .loop-test .left)) (l .inv .6) (l .inv .5) (omega (arith, l .inv .0, b .pre .1 .1))
 
 same-length-3 : tie.Need-same-length-3 Inv-loop μ-loop
 same-length-3 c = let g = c .before .before .before .before .before .before .before .before .before .before .before in g .one-round .kept .0 ∙ loop-at g .loop .inv .2
@@ -112,15 +110,13 @@ same-length-4 c = let g = c .before .before .before .before .before .before .bef
 
 returns-2 : tie.Need-returns-2 Inv-loop μ-loop
 returns-2 c =
-    let g = c .before .before .before .before .before .before .before .before .before .before .before in
+    let g = c .before .before .before .before .before .before .before .before .before .before in
     let l = loop-at g .loop in
     let a = start (loop-at g) .args in
     let s = stateIn (a .m) (a .k) (a .d) (l .work) (l .marks) in
     let s' = stateIn (a .m) (a .k) (a .d) (g .one-round .last .0) (g .one-round .last .1 .0) in
-    let whole = roundsFrom (a .weights .now) (a .coords .now) (a .m) (a .k) (a .d) (a .rounds) 0 (freshRun (stateIn (a .m) (a .k) (a .d) (a .work .now) (a .marks .now))) in
-    lloyd-done whole (l .it + 1) s' (plus (l .c) (g .one-round .result))
-    (run-stop (a .weights .now) (a .coords .now) (a .m) (a .k) (a .d) (a .rounds - l .it) (a .rounds - (l .it + 1)) (l .it) (running (l .it) s (l .c)) s' (g .one-round .result)
-    (omega (arith, g .before .before .before .loop-test .taken)) (g .one-round .ensures) (c .if1 .taken) ∙ l .inv .6) (few-at g) (few-rounds g)
+    stops (a .weights .now) (a .coords .now) (a .m) (a .k) (a .d) (whole (start (loop-at g))) (a .rounds - l .it) (a .rounds - (l .it + 1)) (l .it) s s' (l .c)
+    (g .one-round .result) (omega (arith, g .before .before .before .loop-test .taken)) (g .one-round .ensures) (c .if1 .taken) (l .inv .6) (few-at g) (few-rounds g)
 
 pub lloyd-spec : {M : Type 1} → statement M
 lloyd-spec =
@@ -132,7 +128,6 @@ lloyd-spec =
     one-round-requires
     add-t17
     add-t18
-    add-t19
     add-it
     loop-less
     loop-again

@@ -12,9 +12,6 @@ add-made c = search needs
 add-saved : tie.Need-add-saved
 add-saved c = search needs
 
-add-doubled : tie.Need-add-doubled
-add-doubled c = search needs
-
 returns : tie.Need-returns
 returns c =
     let a = c .before .before .before .before .before .before .before .before .before .args in
@@ -26,4 +23,4 @@ returns-2 c =
     ap (λ (t : Bool). keptBy t (a .h) (a .r)) (sym (c .before .if1 .left))
 
 pub keep-spec : {M : Type 1} → statement M
-keep-spec = tie.close (tie.spec add-made add-saved add-doubled returns returns-2)
+keep-spec = tie.close (tie.spec add-made add-saved returns returns-2)

@@ -41,7 +41,7 @@ loop-holds c =
       refl,
       numbers-start (found s) (a .weights .now) (a .coords .now) (a .d) (a .s) (a .lo) _ refl,
       tails-start (length (a .weights .now)) (a .lo) (a .d) (found s),
-      record { made = omega arith; saved = omega arith; doubled = omega arith },
+      record { made = omega arith; saved = omega arith },
     )
 
 try-number-requires : tie.Need-try-number-requires Inv-loop μ-loop

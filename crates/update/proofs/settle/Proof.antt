@@ -72,14 +72,12 @@ update-requires c κs =
     let j = c .before .before in
     let g = accumulated j in
     let s = start g in
-    let a = s .args in (
-      sized-of _ _ _ _ (length (a .coords .now)) (a .m) (a .k) (a .d) (refreshed-at j .0 ∙ g .accumulate .kept .0) (g .accumulate .kept .1 .0) (s .pre .0),
-      g .accumulate .ensures .most,
-    )
+    let a = s .args in
+    sized-of _ _ _ _ (length (a .coords .now)) (a .m) (a .k) (a .d) (refreshed-at j .0 ∙ g .accumulate .kept .0) (g .accumulate .kept .1 .0) (s .pre .0)
 
 same-length : tie.Need-same-length
 same-length c =
-    let f = c .before .before .before .before in
+    let f = c .before .before in
     let j = f .before .before .before in
     f .update .kept .0 ∙ refreshed-at j .0 ∙ accumulated j .accumulate .kept .0
 
@@ -88,12 +86,12 @@ same-length-2 c = search needs
 
 returns : tie.Need-returns
 returns c =
-    let f = c .before .before .before .before in
+    let f = c .before .before in
     let j = f .before .before .before in
     let g = accumulated j in
     let a = start g .args in
-    settle-done (a .weights .now) (a .coords .now) (a .m) (a .k) (a .d) (a .work .now) (g .accumulate .last .0) (j .if1 .work) (f .update .last .0) (a .marks .now)
-    (g .accumulate .last .1 .0) (f .update .last .1 .0) (f .update .result) (g .accumulate .ensures) (refreshed-at j .1) (refreshed-at j .2) (f .update .ensures)
+    settle-done (a .weights .now) (a .coords .now) (a .m) (a .k) (a .d) (a .work .now) (g .accumulate .last .0) (j .if1 .work) (a .marks .now) (g .accumulate .last .1 .0) _
+    (g .accumulate .ensures) (refreshed-at j .1) (refreshed-at j .2) (f .update .ensures)
 
 pub settle-spec : {M : Type 1} → statement M
 settle-spec =

@@ -1,0 +1,27 @@
+-- A call of `movmf_auto_with` that is not refused doubles none: each number tried is at least 1 and at most the leaves, which are within the limits.
+-- Assumes nothing.
+use Prim.Native.Nat.{ℕ, _+_, _-_, _≤_}
+use mathlib.Core.Path.{refl}
+use native.Mathlib.Omega.{arith}
+use lib.ListN.{length}
+use Rattle.choice.specs.Choice.{highest, lowest}
+use Rattle.limits.proofs.Limits.{sizes-met}
+use Rattle.lloyd.proofs.Doubled.{none-over}
+use Rattle.runs.proofs.Doubled.{fit-never-doubled}
+use Rattle.auto.specs.Doubled.{CallsNeverDoubled}
+use Rattle.auto.proofs.Refusals.{leaves-ok}
+use Rattle.auto.proofs.Outcomes.{highest-some, lowest-some}
+
+-- the last number tried is at most the leaves
+in-range : (kMin kMax m k : ℕ) → 1 ≤ m → k + 1 ≤ lowest kMin (highest kMax m) + (highest kMax m + 1 - lowest kMin (highest kMax m)) → k ≤ m
+in-range kMin kMax m k h l = omega arith
+
+pub calls-never-doubled : CallsNeverDoubled
+calls-never-doubled weights coords d kMin kMax s l e =
+    let m = length weights in
+    let hi = highest kMax m in
+    let lo = lowest kMin hi in
+    let ok = leaves-ok weights coords d hi (s .rounds) l e in
+    let some = sizes-met m d (length coords) (ok .sizes-ok) .0 in
+    let first = lowest-some kMin hi lo refl (highest-some kMax m hi refl) in
+    none-over _ lo (hi + 1 - lo) (λ (k : ℕ) least most. fit-never-doubled s weights coords d k ok (omega (arith, first)) (in-range kMin kMax m k some most))

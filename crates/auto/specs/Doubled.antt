@@ -1,0 +1,23 @@
+-- Document 01's count doubled, of the automatic fit, and document 02, #110, as a caller of `movmf_auto_with` reads it. Definitions only.
+use mathlib.Core.Path.{_≡_}
+use mathlib.Core.List.{List}
+use Prim.Native.Nat.{ℕ, _+_, _-_}
+use lib.ListN.{length}
+use lib.Ieee.{Float}
+use Rattle.groups.specs.declared.Settings.{Settings}
+use Rattle.outputs.specs.declared.Lengths.{Lengths}
+use Rattle.lloyd.specs.Totals.{sumOver}
+use Rattle.runs.specs.Doubled.{doubledInFit}
+use Rattle.choice.specs.Choice.{highest, lowest}
+use Rattle.auto.specs.Refusals.{refusalOf}
+
+-- over all numbers tried, from lo to hi
+abbrev pub doubledInRange : Settings → List Float → List Float → ℕ → ℕ → ℕ → ℕ → ℕ
+doubledInRange s weights coords m d lo hi = sumOver (λ (k : ℕ). doubledInFit s weights coords m k d) lo (hi + 1 - lo)
+
+-- in a call that is not refused doubled is zero, over all restarts and all numbers tried; so it is with 7
+abbrev pub CallsNeverDoubled : Type 0
+CallsNeverDoubled =
+    (weights coords : List Float) (d kMin kMax : ℕ) (s : Settings) (l : Lengths)
+    → refusalOf weights coords d (highest kMax (length weights)) (s .rounds) l ≡ 0
+    → doubledInRange s weights coords (length weights) d (lowest kMin (highest kMax (length weights))) (highest kMax (length weights)) ≡ 0
