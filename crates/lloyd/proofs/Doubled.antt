@@ -1,6 +1,6 @@
 -- No reseed of a run picks a leaf already picked in the same update. The invariant over the rounds: the centres' coordinates are within ±2, and none is
 -- doubled so far; a pass leaves both, and an update of such centres keeps both (`update-clean`). By recursion on the rounds. Assumes nothing.
-use mathlib.Core.Path.{_≡_, refl, sym, ap, _∙_, subst}
+use mathlib.Core.Path.{_≡_, refl, sym, subst}
 use mathlib.Core.List.{List}
 use mathlib.Core.Bool.{Bool, true, false, cond}
 use Prim.Native.Nat.{ℕ, zero, suc, _+_, _≤_, _<_}
@@ -21,7 +21,7 @@ use Rattle.update.proofs.Reseeds.{Clean, update-clean}
 use Rattle.lloyd.specs.Lloyd.{Run, startedFrom, roundsFrom, endsAt, afterPass, afterUpdate}
 use Rattle.lloyd.specs.Runs.{freshRun}
 use Rattle.lloyd.specs.Totals.{sumOver}
-use Rattle.lloyd.specs.Doubled.{runOf, NeverDoubled}
+use Rattle.lloyd.specs.Doubled.{runOf, pickedBefore, NoneDoubled, NeverDoubled}
 
 module _ (weights coords : List Float) (m k d : ℕ) (hw : All (Within 1099511627776 1) weights) (hc : All (Within 2 1) coords) (lw : length weights ≡ m)
     (lm : m ≤ 4096) (lk : k ≤ m) (hd : d ≤ 256) where
@@ -49,7 +49,7 @@ module _ (weights coords : List Float) (m k d : ℕ) (hw : All (Within 109951162
       let next = afterUpdate (afterPass r p) u in
       either-kept (endsAt it p) (afterPass r p) (roundsFrom weights coords m k d n (it + 1) next)
       (record { centers = subst (All (Within 2 1)) (sym (pass-centers coords m k d it (r .state))) (h .centers); none = h .none })
-      (rounds-kept n (it + 1) next (record { centers = q .centers; none = ap (λ (x : ℕ). x + u .doubled) (h .none) ∙ q .none }))
+      (rounds-kept n (it + 1) next (record { centers = q .centers; none = omega (arith, h .none, q .none) }))
 
   run-kept : (rounds state : ℕ) → Kept (runOf weights coords m k d rounds state)
   unfolding startedFrom
@@ -57,20 +57,23 @@ module _ (weights coords : List Float) (m k d : ℕ) (hw : All (Within 109951162
       rounds-kept rounds 0 (freshRun (startedFrom coords m k d (seedsOf weights coords m k d state .centers)))
       (record { centers = seeds-within weights coords m d hd hc state k; none = refl })
 
+  picked-few : (state it c : ℕ) → c < k → length (pickedBefore weights coords m k d state it c) ≤ c
+  picked-few state it c h = round-clean it (runOf weights coords m k d it state .state) (run-kept it state .centers) c (omega arith) .few
+
+  none-doubled : (rounds state : ℕ) → NoneDoubled weights coords m k d rounds state
+  none-doubled rounds state =
+      record {
+        centers = within-coordinates (runOf weights coords m k d rounds state .state .centers) (run-kept rounds state .centers);
+        most = picked-few state;
+        fewer = λ it c h. omega (arith, picked-few state it c h);
+        none = run-kept rounds state .none;
+      }
+
 pub never-doubled : NeverDoubled
 never-doubled weights coords d k rounds state ok some below =
     let s = sizes-met (length weights) d (length coords) (ok .sizes-ok) in
-    let hw = weights-within weights (ok .weights-ok) in
-    let hc = coordinates-within coords (ok .coords-ok) in
-    let m = length weights in
-    let run = λ (rounds : ℕ). run-kept weights coords m k d hw hc refl (s .1) below (s .3) rounds state in
-    let few = λ (it c : ℕ). round-clean weights coords m k d hw hc refl (s .1) below (s .3) it (runOf weights coords m k d it state .state) (run it .centers) c in
-    record {
-      centers = within-coordinates (runOf weights coords m k d rounds state .state .centers) (run rounds .centers);
-      most = λ it c h. few it c (omega arith) .few;
-      fewer = λ it c h. let f = few it c (omega arith) .few in omega (arith, f);
-      none = run rounds .none;
-    }
+    none-doubled weights coords (length weights) k d (weights-within weights (ok .weights-ok)) (coordinates-within coords (ok .coords-ok)) refl (s .1) below (s .3)
+    rounds state
 
 -- a sum of zeros
 pub none-over : (f : ℕ → ℕ) (lo n : ℕ) → ((i : ℕ) → lo ≤ i → i < lo + n → f i ≡ 0) → sumOver f lo n ≡ 0

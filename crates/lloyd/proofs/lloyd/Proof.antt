@@ -34,6 +34,13 @@ whole b =
 abbrev loop-at : tie.After-one-round Inv-loop μ-loop → tie.At-loop Inv-loop μ-loop
 loop-at g = g .before .before .before .before
 
+-- the round behind each way
+abbrev went-on : tie.Else1 Inv-loop μ-loop → tie.After-one-round Inv-loop μ-loop
+went-on c = c .before .before .before .before .before .before .before .before .before
+
+abbrev ended : tie.Then1 Inv-loop μ-loop → tie.After-one-round Inv-loop μ-loop
+ended c = c .before .before .before .before .before .before .before .before .before
+
 loop-holds : tie.Need-loop-holds Inv-loop μ-loop
 loop-holds c =
     let s = c .before .before .before .before in
@@ -61,15 +68,9 @@ add-t17 c = let g = c .before .before .before .before .before .before in omega (
 add-t18 : tie.Need-add-t18 Inv-loop μ-loop
 add-t18 c = let g = c .before .before .before .before .before .before .before .before in omega (arith, few-at g .saved, few-rounds g)
 
-add-it : tie.Need-add-it Inv-loop μ-loop
-add-it c = omega (arith, few-rounds (c .before .before .before .before .before .before .before .before .before .before .before))
-
-loop-less : tie.Need-loop-less Inv-loop μ-loop
-loop-less c = omega (arith, c .before .before .before .before .before .before .before .before .before .before .before .before .before .before .loop-test .taken)
-
 loop-again : tie.Need-loop-again Inv-loop μ-loop
 loop-again c =
-    let g = c .before .before .before .before .before .before .before .before .before .before in
+    let g = went-on c in
     let l = loop-at g .loop in
     let a = start (loop-at g) .args in
     let below = g .before .before .before .loop-test .taken in
@@ -88,12 +89,6 @@ loop-again c =
           (g .one-round .result) (omega (arith, below)) (g .one-round .ensures) (c .if1 .left) (l .inv .6),
     )
 
-same-length : tie.Need-same-length Inv-loop μ-loop
-same-length c = search needs
-
-same-length-2 : tie.Need-same-length-2 Inv-loop μ-loop
-same-length-2 c = search needs
-
 returns : tie.Need-returns Inv-loop μ-loop
 returns c =
     let l = c .before .loop in
@@ -102,15 +97,9 @@ returns c =
     runs-out (a .weights .now) (a .coords .now) (a .m) (a .k) (a .d) (whole b) (a .rounds - l .it) (l .it) (stateIn (a .m) (a .k) (a .d) (l .work) (l .marks)) (l .c)
     (omega (arith, c .loop-test .left)) (l .inv .6) (l .inv .5) (omega (arith, l .inv .0, b .pre .1 .1))
 
-same-length-3 : tie.Need-same-length-3 Inv-loop μ-loop
-same-length-3 c = let g = c .before .before .before .before .before .before .before .before .before .before .before in g .one-round .kept .0 ∙ loop-at g .loop .inv .2
-
-same-length-4 : tie.Need-same-length-4 Inv-loop μ-loop
-same-length-4 c = let g = c .before .before .before .before .before .before .before .before .before .before .before in g .one-round .kept .1 .0 ∙ loop-at g .loop .inv .3
-
 returns-2 : tie.Need-returns-2 Inv-loop μ-loop
 returns-2 c =
-    let g = c .before .before .before .before .before .before .before .before .before .before in
+    let g = ended c in
     let l = loop-at g .loop in
     let a = start (loop-at g) .args in
     let s = stateIn (a .m) (a .k) (a .d) (l .work) (l .marks) in
@@ -128,12 +117,12 @@ lloyd-spec =
     one-round-requires
     add-t17
     add-t18
-    add-it
-    loop-less
+    (λ c. omega (arith, few-rounds (went-on c)))
+    (λ c. omega (arith, went-on c .before .before .before .loop-test .taken))
     loop-again
-    same-length
-    same-length-2
+    (λ c. search needs)
+    (λ c. search needs)
     returns
-    same-length-3
-    same-length-4
+    (λ c. ended c .one-round .kept .0 ∙ loop-at (ended c) .loop .inv .2)
+    (λ c. ended c .one-round .kept .1 .0 ∙ loop-at (ended c) .loop .inv .3)
     returns-2)
