@@ -27,7 +27,10 @@ module _ (weights coords : List Float) (d hi rounds : ℕ) (l : Lengths) where
 
   pub leaves-ok : refusalOf weights coords d hi rounds l ≡ 0 → LeavesOk weights coords d
   unfolding refusalOf
-  leaves-ok e = let t = admitted _ _ _ _ _ _ e in record { sizes-ok = t .sizes-ok; weights-ok = t .weights-ok; coords-ok = t .coords-ok }
+  leaves-ok e =
+      let m = length weights in
+      let t = admitted (sizesOk m d (length coords)) (leb hi 64) (roundsOk rounds) (arraysOk m hi d l) (every weightOk weights) (every coordinateOk coords) e in
+      record { sizes-ok = t .sizes-ok; weights-ok = t .weights-ok; coords-ok = t .coords-ok }
 
   -- the first refusal by what each test answered
   pub refusal-by : (sizes groups within arrays ws xs : Bool) → sizesOk (length weights) d (length coords) ≡ sizes → leb hi 64 ≡ groups

@@ -19,6 +19,8 @@ use Rattle.movmf.specs.Refusals.{refusalOf}
 pub record Ready (weights coords : List Float) (d k rounds : ℕ) (l : Lengths) : Type 0 where
   pub roomy : Roomy (l .work) (l .marks) (length weights) (length coords) (length weights) k d rounds
   pub arrays : Arrays (length weights) k d l
+  pub leaves : LeavesOk weights coords d
+  pub k-below : k ≤ length weights
 
 module _ (weights coords : List Float) (d k rounds : ℕ) (l : Lengths) where
   pub ready : (code : ℕ) → code ≡ refusalOf weights coords d k rounds l → code ≡ 0 → Ready weights coords d k rounds l
@@ -31,14 +33,9 @@ module _ (weights coords : List Float) (d k rounds : ℕ) (l : Lengths) where
       record {
         roomy = roomy-by m k d rounds (length coords) l (sizes-met m d (length coords) (t .sizes-ok)) (g .0) (g .1) (leb-true _ _ (t .settings-ok)) a;
         arrays = a;
+        leaves = record { sizes-ok = t .sizes-ok; weights-ok = t .weights-ok; coords-ok = t .coords-ok };
+        k-below = g .2;
       }
-
-  pub leaves-ok : refusalOf weights coords d k rounds l ≡ 0 → LeavesOk weights coords d × (1 ≤ k) × (k ≤ length weights)
-  unfolding refusalOf
-  leaves-ok e =
-      let t = admitted _ _ _ _ _ _ e in
-      let g = groups-met k (length weights) (t .groups-ok) in
-      (record { sizes-ok = t .sizes-ok; weights-ok = t .weights-ok; coords-ok = t .coords-ok }, g .0, g .2)
 
   -- the first refusal by what each test answered
   pub refusal-by : (sizes groups within arrays ws xs : Bool) → sizesOk (length weights) d (length coords) ≡ sizes → groupsOk k (length weights) ≡ groups

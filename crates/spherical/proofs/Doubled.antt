@@ -3,12 +3,11 @@ use lib.ListN.{length}
 use Prim.Native.Nat.{ℕ, max}
 use Rattle.lloyd.proofs.Doubled.{never-doubled, none-over}
 use Rattle.spherical.specs.Doubled.{stateBefore, CallsNeverDoubled}
-use Rattle.spherical.proofs.Refusals.{ready, leaves-ok}
+use Rattle.spherical.proofs.Refusals.{ready}
 
 pub calls-never-doubled : CallsNeverDoubled
 calls-never-doubled weights coords d k rounds restarts seed labels directions work marks e =
     let r = ready weights coords d k rounds restarts labels directions work marks e in
-    let ok = leaves-ok weights coords d k rounds restarts labels directions work marks e in
     none-over _ 0 (max restarts 1)
     (λ (t : ℕ) below above.
-    never-doubled weights coords d k rounds (stateBefore weights coords (length weights) k d rounds seed t) ok (r .k-some) (r .k-below) .none)
+    never-doubled weights coords d k rounds (stateBefore weights coords (length weights) k d rounds seed t) (r .leaves) (r .k-some) (r .k-below) .none)

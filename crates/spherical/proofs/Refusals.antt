@@ -27,8 +27,7 @@ pub record Ready (weights coords : List Float) (d k rounds restarts labels direc
   pub directions-long : k * d ≤ directions
   pub work-long : workLength (length weights) k d ≤ work
   pub marks-long : marksLength (length weights) k ≤ marks
-  pub weights-ok : every weightOk weights ≡ true
-  pub coords-ok : every coordinateOk coords ≡ true
+  pub leaves : LeavesOk weights coords d
 
 module _ (weights coords : List Float) (d k rounds restarts labels directions work marks : ℕ) where
   pub ready : refusalOf weights coords d k rounds restarts labels directions work marks ≡ 0 → Ready weights coords d k rounds restarts labels directions work marks
@@ -57,13 +56,8 @@ module _ (weights coords : List Float) (d k rounds restarts labels directions wo
         directions-long = leb-true _ _ (a2 .0);
         work-long = leb-true _ _ (a3 .0);
         marks-long = leb-true _ _ (a3 .1);
-        weights-ok = t .weights-ok;
-        coords-ok = t .coords-ok;
+        leaves = record { sizes-ok = t .sizes-ok; weights-ok = t .weights-ok; coords-ok = t .coords-ok };
       }
-
-  pub leaves-ok : refusalOf weights coords d k rounds restarts labels directions work marks ≡ 0 → LeavesOk weights coords d
-  unfolding refusalOf
-  leaves-ok e = let t = admitted _ _ _ _ _ _ e in record { sizes-ok = t .sizes-ok; weights-ok = t .weights-ok; coords-ok = t .coords-ok }
 
   -- the first refusal by what each test answered
   pub refusal-by : (sizes groups within again arrays ws xs : Bool) → sizesOk (length weights) d (length coords) ≡ sizes → groupsOk k (length weights) ≡ groups

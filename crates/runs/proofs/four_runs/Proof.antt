@@ -8,48 +8,46 @@ use borrow.Author.Needs.{needs}
 use Rattle.runs.proofs.four_runs.Statement.{statement}
 use Rattle.runs.proofs.four_runs.Tie as tie
 
-first-runs-requires : tie.Need-first-runs-requires
-first-runs-requires c κs = search needs
+abbrev first : tie.After-run-beside → tie.After-first-runs
+first r = r .before .before .before .before .before .before .before
+
+abbrev start : tie.After-first-runs → tie.Start
+start f = f .before .before .before .before .before .before .before
 
 run-beside-requires : tie.Need-run-beside-requires
 run-beside-requires c κs =
-    let s = c .before .before .before .before .before .before .before .before .before .before .before .before .before in
+    let f = c .before .before .before .before .before .before in
+    let s = start f in
     let a = s .args in
-    let f = c .before .before .before .before .before .before .first-runs in
-    roomy-of (length (a .work .now)) _ (length (a .marks .now)) _ (length (a .weights .now)) (length (a .coords .now)) (a .m) (a .k) (a .d) (a .s .rounds) (f .kept .0) (f .kept .1 .0) (s .pre)
+    roomy-of (length (a .work .now)) _ (length (a .marks .now)) _ (length (a .weights .now)) (length (a .coords .now)) (a .m) (a .k) (a .d) (a .s .rounds)
+    (f .first-runs .kept .0) (f .first-runs .kept .1 .0) (s .pre)
 
 add-t19 : tie.Need-add-t19
-add-t19 c = omega (arith, c .before .before .before .before .before .before .run-beside .ensures .made-small, c .before .before .before .before .before .before .before .before .before .before .before .before .before .first-runs .ensures .made-small)
+add-t19 c =
+    let r = c .before .before .before .before .before .before in
+    omega (arith, r .run-beside .ensures .made-small, first r .first-runs .ensures .made-small)
 
-add-t20 : tie.Need-add-t20
-add-t20 c = omega (arith, c .before .before .before .before .before .before .before .before .run-beside .ensures .saved-small, c .before .before .before .before .before .before .before .before .before .before .before .before .before .before .before .first-runs .ensures .saved-small)
-
-add-t21 : tie.Need-add-t21
-add-t21 c = omega (arith, c .before .before .before .before .before .before .before .before .before .before .run-beside .ensures .doubled-small, c .before .before .before .before .before .before .before .before .before .before .before .before .before .before .before .before .before .first-runs .ensures .doubled-small)
-
-same-length : tie.Need-same-length
-same-length c = c .before .before .before .before .before .before .before .before .before .before .run-beside .kept .0 ∙ c .before .before .before .before .before .before .before .before .before .before .before .before .before .before .before .before .before .first-runs .kept .0
-
-same-length-2 : tie.Need-same-length-2
-same-length-2 c = c .before .before .before .before .before .before .before .before .before .before .run-beside .kept .1 .0 ∙ c .before .before .before .before .before .before .before .before .before .before .before .before .before .before .before .before .before .first-runs .kept .1 .0
+-- the last run, from where its counts are added
+abbrev last : tie.After-struct-known4 → tie.After-run-beside
+last c = c .before .before .before .before .before .before .before .before
 
 returns : tie.Need-returns
 returns c =
-    let a = c .before .before .before .before .before .before .before .before .before .before .before .before .before .before .before .before .before .before .before .before .before .before .before .before .args in
-    let f = c .before .before .before .before .before .before .before .before .before .before .before .before .before .before .before .before .before .first-runs in
-    let r = c .before .before .before .before .before .before .before .before .before .before .run-beside in
-    both-done (a .m) (a .k) (a .d) (f .last .0) (r .last .0) (runOf (a .s) (a .weights .now) (a .coords .now) (a .m) (a .k) (a .d) 3) (r .result)
-    (runsUpTo (a .s) (a .weights .now) (a .coords .now) (a .m) (a .k) (a .d) 2) (f .result) (f .ensures) (r .ensures)
+    let r = last c in
+    let f = first r in
+    let a = start f .args in
+    both-done (a .m) (a .k) (a .d) (f .first-runs .last .0) (r .run-beside .last .0) (runOf (a .s) (a .weights .now) (a .coords .now) (a .m) (a .k) (a .d) 3)
+    (r .run-beside .result) (runsUpTo (a .s) (a .weights .now) (a .coords .now) (a .m) (a .k) (a .d) 2) (f .first-runs .result) (f .first-runs .ensures)
+    (r .run-beside .ensures)
 
 pub four-runs-spec : {M : Type 1} → statement M
 four-runs-spec =
     tie.close
     (tie.spec
-    first-runs-requires
+    (λ c κs. search needs)
     run-beside-requires
     add-t19
-    add-t20
-    add-t21
-    same-length
-    same-length-2
+    (λ c. omega (arith, last c .run-beside .ensures .saved-small, first (last c) .first-runs .ensures .saved-small))
+    (λ c. last c .run-beside .kept .0 ∙ first (last c) .first-runs .kept .0)
+    (λ c. last c .run-beside .kept .1 .0 ∙ first (last c) .first-runs .kept .1 .0)
     returns)
