@@ -92,8 +92,8 @@ fn small_shares() -> Vec<(u64, Case)> {
         for kappa in [Kappa::Free, Kappa::Shared] {
             for rounds in [1, 100] {
                 let c = case(&leaves, &Settings { k: 5, rounds, seed: 7, kappa });
-                // behind four numbers and five labels, five shares a leaf
-                let shares = &c.1 .1[9..34];
+                // behind three numbers and five labels, five shares a leaf
+                let shares = &c.1 .1[8..33];
                 assert_eq!(shares.iter().filter(|&&w| f64::from_bits(w).is_subnormal()).count(), small);
                 all.push(c);
             }

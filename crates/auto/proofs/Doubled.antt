@@ -1,6 +1,6 @@
 -- A call of `movmf_auto_with` that is not refused doubles none: each number tried is at least 1 and at most the leaves, which are within the limits.
 -- Assumes nothing.
-use Prim.Native.Nat.{ℕ, _+_, _-_, _≤_}
+use Prim.Native.Nat.{ℕ, _+_, _-_, _≤_, _<_}
 use mathlib.Core.Path.{refl}
 use native.Mathlib.Omega.{arith}
 use lib.ListN.{length}
@@ -13,7 +13,7 @@ use Rattle.auto.proofs.Refusals.{leaves-ok}
 use Rattle.auto.proofs.Outcomes.{highest-some, lowest-some}
 
 -- the last number tried is at most the leaves
-in-range : (kMin kMax m k : ℕ) → 1 ≤ m → k + 1 ≤ lowest kMin (highest kMax m) + (highest kMax m + 1 - lowest kMin (highest kMax m)) → k ≤ m
+in-range : (kMin kMax m k : ℕ) → 1 ≤ m → k < lowest kMin (highest kMax m) + (highest kMax m + 1 - lowest kMin (highest kMax m)) → k ≤ m
 in-range kMin kMax m k h l = omega arith
 
 pub calls-never-doubled : CallsNeverDoubled

@@ -8,7 +8,7 @@ use lib.ListN.{length}
 use lib.Ieee.{Float}
 use borrow.Author.Tests.{leb-true}
 use Rattle.limits.specs.Limits.{need, weightOk, coordinateOk, every, sizesOk, roundsOk, LeavesOk}
-use Rattle.limits.proofs.Limits.{admitted, sizes-met}
+use Rattle.limits.proofs.Limits.{Admitted, admitted, sizes-met}
 use Rattle.outputs.specs.Refusals.{arraysOk}
 use Rattle.outputs.specs.declared.Lengths.{Lengths}
 use Rattle.outputs.proofs.Refusals.{arrays-met, roomy-by, fillable}
@@ -16,21 +16,22 @@ use Rattle.auto.specs.Refusals.{refusalOf}
 use Rattle.tries.specs.Ready.{Ready}
 
 module _ (weights coords : List Float) (d hi rounds : ℕ) (l : Lengths) where
-  pub ready : refusalOf weights coords d hi rounds l ≡ 0 → 1 ≤ hi → Ready (length weights) (length coords) (length weights) hi d rounds l
+  tests : refusalOf weights coords d hi rounds l ≡ 0
+      → Admitted (sizesOk (length weights) d (length coords)) (leb hi 64) (roundsOk rounds) (arraysOk (length weights) hi d l) (every weightOk weights)
+      (every coordinateOk coords)
   unfolding refusalOf
+  tests e = admitted _ _ _ _ _ _ e
+
+  pub ready : refusalOf weights coords d hi rounds l ≡ 0 → 1 ≤ hi → Ready (length weights) (length coords) (length weights) hi d rounds l
   ready e some =
       let m = length weights in
-      let t = admitted _ _ _ _ _ _ e in
+      let t = tests e in
       let a = arrays-met m hi d l (t .arrays-ok) in
       let r = roomy-by m hi d rounds (length coords) l (sizes-met m d (length coords) (t .sizes-ok)) some (leb-true _ _ (t .groups-ok)) (leb-true _ _ (t .settings-ok)) a in
       record { roomy = r; fillable = fillable (l .work) m (length coords) m hi d rounds l refl r a }
 
   pub leaves-ok : refusalOf weights coords d hi rounds l ≡ 0 → LeavesOk weights coords d
-  unfolding refusalOf
-  leaves-ok e =
-      let m = length weights in
-      let t = admitted (sizesOk m d (length coords)) (leb hi 64) (roundsOk rounds) (arraysOk m hi d l) (every weightOk weights) (every coordinateOk coords) e in
-      record { sizes-ok = t .sizes-ok; weights-ok = t .weights-ok; coords-ok = t .coords-ok }
+  leaves-ok e = let t = tests e in record { sizes-ok = t .sizes-ok; weights-ok = t .weights-ok; coords-ok = t .coords-ok }
 
   -- the first refusal by what each test answered
   pub refusal-by : (sizes groups within arrays ws xs : Bool) → sizesOk (length weights) d (length coords) ≡ sizes → leb hi 64 ≡ groups

@@ -85,12 +85,12 @@ module _ (weights coords : List Float) (d k : ℕ) (s : Settings) (w : List Floa
     kept-is : keptTally k x loglik r t ≡ tallyBy true k (score o weights coords d s k) (lone o weights coords d s k) t
     kept-is =
         let n = fit-counts s weights coords m k d w r b in
-        rw (score-is, loglik-is, n .0, n .1, n .2)
+        rw (score-is, loglik-is, n .0, n .1)
 
     left-is : leftTally r t ≡ tallyBy false k (score o weights coords d s k) (lone o weights coords d s k) t
     left-is =
         let n = fit-counts s weights coords m k d w r b in
-        rw (n .0, n .1, n .2)
+        rw (n .0, n .1)
 
     pub tried-kept : (labels resp ws directions kappas logw : ℕ) → Fillable labels resp ws directions kappas logw (length w) m k d → beats ≡ true
         → o' ≡ written m k d (keptEm m k d w r) o → q ≡ keptTally k x loglik r t → TriedNumber weights coords d k s t q o o'
