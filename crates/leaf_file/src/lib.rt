@@ -249,10 +249,7 @@ fn put_answer(out: &mut [u8], r: auto::Chosen, labels: &[u32]) -> usize
 {
     match r {
         auto::Chosen::Refused(code) => put_refused(out, code),
-        auto::Chosen::Unscored {
-            made: _,
-            saved: _,
-        } => put_refused(out, 7),
+        auto::Chosen::Unscored { made: _, saved: _ } => put_refused(out, 7),
         auto::Chosen::Done {
             k,
             loglik: _,

@@ -229,9 +229,11 @@ module _ (m d : ℕ) (coords : List Float) (hc : All (Within 2 1) coords) (hd : 
   served-within s h (suc n) =
       let x = rowOf coords d n in
       let y = rowOf (s .centers) d (getD (s .labels) n 0) in
-      all-append (Within 1024 1) (servedUpTo coords d s n) (dotOf x y ∷ []) (served-within s h n)
-      (dot-256 minusZero x y (omega (arith, row-length coords d n)) (lit≤ tt) (all-row (Within 2 1) coords d n hc)
-      (all-row (Within 2 1) (s .centers) d (getD (s .labels) n 0) h), tt)
+      all-append (Within 1024 1) (servedUpTo coords d s n) (dotOf x y ∷ []) (served-within s h n) (
+        dot-256 minusZero x y (omega (arith, row-length coords d n)) (lit≤ tt) (all-row (Within 2 1) coords d n hc)
+            (all-row (Within 2 1) (s .centers) d (getD (s .labels) n 0) h),
+        tt,
+      )
 
   begun-clean : (s : State) → All (Within 2 1) (s .centers) → Clean 0 (begun s)
   begun-clean s h = record { centers = h; few = omega arith; none = refl }
