@@ -1,6 +1,7 @@
-// Kind 24: the original's `movmf_auto_with`. In: m, d, k_min, k_max, rounds, seed, Kappa (0 Free, 1 Shared), the weights, the coordinates. Out: the number kept, or 0
-// where the original finds none and panics, its log-likelihood and score, made, saved, and a digest of each of the six outputs. The score is not in the
-// original's answer; it is worked out here by the original's expression.
+// Kind 24: the original's `movmf_auto_with`. In: m, d, k_min, k_max, rounds, seed, Kappa (0 Free, 1 Shared), the
+// weights, the coordinates. Out: the number kept, or 0 where the original finds none and panics, its log-likelihood and
+// score, made, saved, and a digest of each of the six outputs. The score is not in the original's answer; it is worked
+// out here by the original's expression.
 use crate::cases::{bits, Case, List};
 use crate::counts;
 use crate::document;

@@ -1,5 +1,5 @@
-// Document 01's counts and the rounds begun, counted beside the original's own lines. Doubled is proved to be zero and is in no answer: it is counted here
-// all the same, and has to be.
+// Document 01's counts and the rounds begun, counted beside the original's own lines. Doubled is proved to be zero and
+// is in no answer: it is counted here all the same, and has to be.
 use std::cell::Cell;
 
 thread_local! {

@@ -1,6 +1,6 @@
-// Kinds 22 and 23: the original's `movmf_with`. In: m, d, k, rounds, seed, Kappa (0 Free, 1 Shared), the weights, the coordinates. Out: log-likelihood, made, saved,
-// then the six outputs: labels, responsibilities, weights, directions, concentrations, logw. Kind 23 has a digest of each output in its place, for cases
-// that would have too many words.
+// Kinds 22 and 23: the original's `movmf_with`. In: m, d, k, rounds, seed, Kappa (0 Free, 1 Shared), the weights, the
+// coordinates. Out: log-likelihood, made, saved, then the six outputs: labels, responsibilities, weights, directions,
+// concentrations, logw. Kind 23 has a digest of each output in its place, for cases that would have too many words.
 use crate::cases::{bits, Case, List};
 use crate::counts;
 use crate::leaves::{leaves, words, SORTS};

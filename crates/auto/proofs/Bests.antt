@@ -114,7 +114,8 @@ module _ (o : Outputs) (weights coords : List Float) (d : ℕ) (s : Settings) wh
         record {
           kept-is-best = λ j y z e. subst (BestOf scores lo hi) (ap numberIn (e .is)) best;
           best-is-kept = λ j b.
-              subst (λ (i : ℕ). Keeps (Done k (t .loglik) x (t .made) (t .saved)) i (scores i) (fits i .em .loglik)) (one-best scores lo hi k j best b)
+              subst (λ (i : ℕ). Keeps (Done k (t .loglik) x (t .made) (t .saved)) i (scores i) (fits i .em .loglik))
+              (one-best scores lo hi k j best b)
               (record {
                 counts = (t .made, t .saved);
                 is = ap (λ (y : Float). Done k y x (t .made) (t .saved)) (h .0)

@@ -1,5 +1,5 @@
--- A call of `movmf_auto_with` that is not refused doubles none: each number tried is at least 1 and at most the leaves, which are within the limits.
--- Assumes nothing.
+-- A call of `movmf_auto_with` that is not refused doubles none: each number tried is at least 1 and at most the leaves, which are within
+-- the limits. Assumes nothing.
 use Prim.Native.Nat.{ℕ, _+_, _-_, _≤_, _<_}
 use mathlib.Core.Path.{refl}
 use native.Mathlib.Omega.{arith}
@@ -24,4 +24,5 @@ calls-never-doubled weights coords d kMin kMax s l e =
     let ok = leaves-ok weights coords d hi (s .rounds) l e in
     let some = sizes-met m d (length coords) (ok .sizes-ok) .0 in
     let first = lowest-some kMin hi lo refl (highest-some kMax m hi refl) in
-    none-over _ lo (hi + 1 - lo) (λ (k : ℕ) least most. fit-never-doubled s weights coords d k ok (omega (arith, first)) (in-range kMin kMax m k some most))
+    none-over _ lo (hi + 1 - lo)
+    (λ (k : ℕ) least most. fit-never-doubled s weights coords d k ok (omega (arith, first)) (in-range kMin kMax m k some most))

@@ -17,7 +17,8 @@ use Rattle.tries.specs.Ready.{Ready}
 
 module _ (weights coords : List Float) (d hi rounds : ℕ) (l : Lengths) where
   tests : refusalOf weights coords d hi rounds l ≡ 0
-      → Admitted (sizesOk (length weights) d (length coords)) (leb hi 64) (roundsOk rounds) (arraysOk (length weights) hi d l) (every weightOk weights)
+      → Admitted (sizesOk (length weights) d (length coords)) (leb hi 64) (roundsOk rounds) (arraysOk (length weights) hi d l)
+      (every weightOk weights)
       (every coordinateOk coords)
   unfolding refusalOf
   tests e = admitted _ _ _ _ _ _ e
@@ -27,7 +28,8 @@ module _ (weights coords : List Float) (d hi rounds : ℕ) (l : Lengths) where
       let m = length weights in
       let t = tests e in
       let a = arrays-met m hi d l (t .arrays-ok) in
-      let r = roomy-by m hi d rounds (length coords) l (sizes-met m d (length coords) (t .sizes-ok)) some (leb-true _ _ (t .groups-ok)) (leb-true _ _ (t .settings-ok)) a in
+      let r = roomy-by m hi d rounds (length coords) l (sizes-met m d (length coords) (t .sizes-ok)) some (leb-true _ _ (t .groups-ok))
+      (leb-true _ _ (t .settings-ok)) a in
       record { roomy = r; fillable = fillable (l .work) m (length coords) m hi d rounds l refl r a }
 
   pub leaves-ok : refusalOf weights coords d hi rounds l ≡ 0 → LeavesOk weights coords d

@@ -1,4 +1,5 @@
--- Document 01's count doubled, of the automatic fit, and document 02, #110, as a caller of `movmf_auto_with` reads it. Definitions only.
+-- Document 01's count doubled, of the automatic fit, and document 02, #110, as a caller of `movmf_auto_with` reads it.
+-- Definitions only.
 use mathlib.Core.Path.{_≡_}
 use mathlib.Core.List.{List}
 use Prim.Native.Nat.{ℕ, _+_, _-_}
@@ -19,5 +20,6 @@ doubledInRange s weights coords m d lo hi = sumOver (λ (k : ℕ). doubledInFit 
 abbrev pub CallsNeverDoubled : Type 0
 CallsNeverDoubled =
     (weights coords : List Float) (d kMin kMax : ℕ) (s : Settings) (l : Lengths)
-    → refusalOf weights coords d (highest kMax (length weights)) (s .rounds) l ≡ 0
-    → doubledInRange s weights coords (length weights) d (lowest kMin (highest kMax (length weights))) (highest kMax (length weights)) ≡ 0
+    → let hi = highest kMax (length weights) in
+    refusalOf weights coords d hi (s .rounds) l ≡ 0
+    → doubledInRange s weights coords (length weights) d (lowest kMin hi) hi ≡ 0

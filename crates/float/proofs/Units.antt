@@ -1,11 +1,12 @@
--- Every finite float is a whole multiple of the smallest value, and rounding leaves it as it is; so a sum of two that are not negative is at
--- least each, and a sum of squares at least each square. Assumes nothing.
+-- Every finite float is a whole multiple of the smallest value, and rounding leaves it as it is; so a sum of two that are not negative is
+-- at least each, and a sum of squares at least each square. Assumes nothing.
 use mathlib.Core.Path.{_≡_, refl, sym, ap, _∙_, subst}
 use mathlib.Core.Logic.{_⊎_, inl, inr}
 use mathlib.Core.List.{List, [], _∷_}
 use Prim.Native.Nat.{ℕ, zero, suc, _+_, _-_, _*_, _%_, _^_, _≤_, _<_}
 use native.Mathlib.Nat.{le-trans, le-of-eq, lt-of-lt-of-le, lt-of-le-of-lt, not-le-of-lt, mul-one, one-mul, add-mul, zero-mul, mul-comm}
-use native.Mathlib.Nat.{mul-assoc, mul-left-comm, mul-le-mul-right, mul-lt-mul-of-pos-right, mul-pos, lt-of-mul-lt-mul-right, eq-zero-or-pos}
+use native.Mathlib.Nat.{mul-assoc, mul-left-comm, mul-le-mul-right, mul-lt-mul-of-pos-right, mul-pos, lt-of-mul-lt-mul-right}
+use native.Mathlib.Nat.{eq-zero-or-pos}
 use borrow.Author.Tests.{lt-ltb, le-ltb}
 use native.Mathlib.Omega.{arith}
 use mathlib.Core.Bool.{Bool, true, false, not, _&&_, true≢false}
@@ -237,7 +238,12 @@ module _ (A N : ℕ) (held : (n : ℕ) → n ≤ N → Held binary64 (n * (A * A
   squares-from : (S : ℕ) (s : Float) (xs : List Float) → S + length xs ≤ N → Good s → Within (S * (A * A)) 1 s → All (Within A 1) xs
       → Summed s xs ((S + length xs) * (A * A)) (squaresFrom s xs)
   squares-from S s [] l g w h =
-      record { good = g; most = within-more (S * (A * A)) ((S + 0) * (A * A)) 1 s (mul-le-mul-right (A * A) (here S)) w; start = self s g; each = tt }
+      record {
+        good = g;
+        most = within-more (S * (A * A)) ((S + 0) * (A * A)) 1 s (mul-le-mul-right (A * A) (here S)) w;
+        start = self s g;
+        each = tt;
+      }
     where
       here : (S : ℕ) → S ≤ S + 0
       here S = omega arith
@@ -259,7 +265,8 @@ module _ (A N : ℕ) (held : (n : ℕ) → n ≤ N → Held binary64 (n * (A * A
         each = (at-most-trans y z (squaresFrom z xs) gz (more-right s y g (q .1)) (r .start), r .each);
       }
 
-  pub squares-each : (xs : List Float) → length xs ≤ N → All (Within A 1) xs → Summed plusZero xs ((0 + length xs) * (A * A)) (squaresFrom plusZero xs)
+  pub squares-each : (xs : List Float) → length xs ≤ N → All (Within A 1) xs
+      → Summed plusZero xs ((0 + length xs) * (A * A)) (squaresFrom plusZero xs)
   unfolding fits
   squares-each xs l h = squares-from 0 plusZero xs (omega arith) tt (le-of-eq (sym (ap (λ (z : ℕ). z * 1) (zero-mul (A * A))))) h
 

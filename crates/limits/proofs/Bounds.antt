@@ -1,5 +1,5 @@
--- What the limits of weights and coordinates say as bounds: a weight that passes is within 2^40, a coordinate within ±2, and what is within ±2
--- passes as a coordinate. By cases on the number. Assumes nothing.
+-- What the limits of weights and coordinates say as bounds: a weight that passes is within 2^40, a coordinate within ±2, and what is within
+-- ±2 passes as a coordinate. By cases on the number. Assumes nothing.
 use mathlib.Core.Path.{_≡_, refl, sym, subst}
 use mathlib.Core.List.{List, [], _∷_}
 use mathlib.Core.Bool.{Bool, true, false}
@@ -22,20 +22,26 @@ unfolding lt
 between k nan a b = absurd (unfold le in b)
 between k (inf true) a b = absurd (unfold le in a)
 between k (inf false) a b = absurd (unfold le in b)
-between k (fin true m e) a b = nltb→le (1 * 2 ^ k * down e) (m * up e * 1) (not-T (ltb (1 * 2 ^ k * down e) (m * up e * 1)) (nlt-of-le (fin true m e) (fin true 1 (pos k)) a))
-between k (fin false m e) a b = nltb→le (1 * 2 ^ k * down e) (m * up e * 1) (not-T (ltb (1 * 2 ^ k * down e) (m * up e * 1)) (nlt-of-le (fin false 1 (pos k)) (fin false m e) b))
+between k (fin true m e) a b =
+    nltb→le (1 * 2 ^ k * down e) (m * up e * 1)
+    (not-T (ltb (1 * 2 ^ k * down e) (m * up e * 1)) (nlt-of-le (fin true m e) (fin true 1 (pos k)) a))
+between k (fin false m e) a b =
+    nltb→le (1 * 2 ^ k * down e) (m * up e * 1)
+    (not-T (ltb (1 * 2 ^ k * down e) (m * up e * 1)) (nlt-of-le (fin false 1 (pos k)) (fin false m e) b))
 
 under : (k : ℕ) (x : Float) → Within (1 * 2 ^ k) 1 x → T (le (fin true 1 (pos k)) x) × T (le x (fin false 1 (pos k)))
 unfolding isNan lt
 under k nan h = absurd h
 under k (inf s) h = absurd h
 under k (fin true m e) h = (
-  le-of-nlt (fin true m e) (fin true 1 (pos k)) tt tt (not-T (ltb (1 * 2 ^ k * down e) (m * up e * 1)) (λ q. not-le-of-lt (ltb→lt _ _ q) h)),
+  le-of-nlt (fin true m e) (fin true 1 (pos k)) tt tt
+      (not-T (ltb (1 * 2 ^ k * down e) (m * up e * 1)) (λ q. not-le-of-lt (ltb→lt _ _ q) h)),
   le-of-nlt (fin false 1 (pos k)) (fin true m e) tt tt tt,
 )
 under k (fin false m e) h = (
   le-of-nlt (fin false m e) (fin true 1 (pos k)) tt tt tt,
-  le-of-nlt (fin false 1 (pos k)) (fin false m e) tt tt (not-T (ltb (1 * 2 ^ k * down e) (m * up e * 1)) (λ q. not-le-of-lt (ltb→lt _ _ q) h)),
+  le-of-nlt (fin false 1 (pos k)) (fin false m e) tt tt
+      (not-T (ltb (1 * 2 ^ k * down e) (m * up e * 1)) (λ q. not-le-of-lt (ltb→lt _ _ q) h)),
 )
 
 -- ---- a weight: from 0 to 2^40
@@ -61,7 +67,8 @@ coordinate-within : (x : Float) → T (coordinateOk x) → Within 2 1 x
 unfolding neg
 coordinate-within x h =
     let t : Two (fin false 1 (pos 1)) x =
-    subst (λ (y : Float). Two y x) two-is (and-l (le (neg (number 2)) x) (le x (number 2)) h, and-r (le (neg (number 2)) x) (le x (number 2)) h) in
+    subst (λ (y : Float). Two y x) two-is
+    (and-l (le (neg (number 2)) x) (le x (number 2)) h, and-r (le (neg (number 2)) x) (le x (number 2)) h) in
     between 1 x (t .0) (t .1)
 
 within-coordinate : (x : Float) → Within 2 1 x → T (coordinateOk x)

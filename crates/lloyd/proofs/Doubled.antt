@@ -1,5 +1,6 @@
--- No reseed of a run picks a leaf already picked in the same update. The invariant over the rounds: the centres' coordinates are within ±2, and none is
--- doubled so far; a pass leaves both, and an update of such centres keeps both (`update-clean`). By recursion on the rounds. Assumes nothing.
+-- No reseed of a run picks a leaf already picked in the same update. The invariant over the rounds: the centres' coordinates are within ±2,
+-- and none is doubled so far; a pass leaves both, and an update of such centres keeps both (`update-clean`). By recursion on the rounds.
+-- Assumes nothing.
 use mathlib.Core.Path.{_≡_, refl, sym, subst}
 use mathlib.Core.List.{List}
 use mathlib.Core.Bool.{Bool, true, false, cond}
@@ -23,7 +24,8 @@ use Rattle.lloyd.specs.Runs.{freshRun}
 use Rattle.lloyd.specs.Totals.{sumOver}
 use Rattle.lloyd.specs.Doubled.{runOf, pickedBefore, NoneDoubled, NeverDoubled}
 
-module _ (weights coords : List Float) (m k d : ℕ) (hw : All (Within 1099511627776 1) weights) (hc : All (Within 2 1) coords) (lw : length weights ≡ m)
+module _ (weights coords : List Float) (m k d : ℕ) (hw : All (Within 1099511627776 1) weights) (hc : All (Within 2 1) coords)
+    (lw : length weights ≡ m)
     (lm : m ≤ 4096) (lk : k ≤ m) (hd : d ≤ 256) where
   record Kept (r : Run) : Type 0 where
     pub centers : All (Within 2 1) (r .state .centers)
@@ -33,7 +35,8 @@ module _ (weights coords : List Float) (m k d : ℕ) (hw : All (Within 109951162
   round-clean : (it : ℕ) (s : State) → All (Within 2 1) (s .centers) → (c : ℕ) → c ≤ k
       → Clean c (updateTo weights coords m k d (passOf coords m k d it s .state) c)
   round-clean it s h =
-      update-clean m d coords hc hd weights k (passOf coords m k d it s .state) hw lw lm lk (subst (All (Within 2 1)) (sym (pass-centers coords m k d it s)) h)
+      update-clean m d coords hc hd weights k (passOf coords m k d it s .state) hw lw lm lk
+      (subst (All (Within 2 1)) (sym (pass-centers coords m k d it s)) h)
 
   either-kept : (b : Bool) (x y : Run) → Kept x → Kept y → Kept (cond b x y)
   either-kept true x y f g = f
@@ -72,7 +75,8 @@ module _ (weights coords : List Float) (m k d : ℕ) (hw : All (Within 109951162
 pub never-doubled : NeverDoubled
 never-doubled weights coords d k rounds state ok some below =
     let s = sizes-met (length weights) d (length coords) (ok .sizes-ok) in
-    none-doubled weights coords (length weights) k d (weights-within weights (ok .weights-ok)) (coordinates-within coords (ok .coords-ok)) refl (s .1) below (s .3)
+    none-doubled weights coords (length weights) k d (weights-within weights (ok .weights-ok)) (coordinates-within coords (ok .coords-ok))
+    refl (s .1) below (s .3)
     rounds state
 
 -- a sum of zeros

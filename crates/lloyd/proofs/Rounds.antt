@@ -21,7 +21,8 @@ use Rattle.update.proofs.Settles.{labelled-of-update}
 -- ---- a round, by its pass p
 module _ (weights coords : List Float) (m k d it : ℕ) (p : Pass) (x : State) (q : Passed) (is : passed x q ≡ p)
     (small : (q .made ≤ 262144) × (q .saved ≤ 262144)) where
-  pub round-ended : endsAt it (passed x q) ≡ true → RoundBy weights coords m k d it p x (record { ended = true; made = q .made; saved = q .saved })
+  pub round-ended : endsAt it (passed x q) ≡ true
+      → RoundBy weights coords m k d it p x (record { ended = true; made = q .made; saved = q .saved })
   round-ended t =
       rw (← is) (record {
         ended = sym t;
@@ -57,7 +58,8 @@ module _ (weights coords : List Float) (m k d : ℕ) where
 
   module _ (n n' it : ℕ) (r : Run) (s : State) (q : Round) (more : n ≡ suc n') (done : RoundDone weights coords m k d it (r .state) s q) where
     run-turn : q .ended ≡ false
-        → roundsFrom weights coords m k d n' (it + 1) (counted r s q (r .doubled + anew it (r .state))) ≡ roundsFrom weights coords m k d n it r
+        → roundsFrom weights coords m k d n' (it + 1) (counted r s q (r .doubled + anew it (r .state)))
+        ≡ roundsFrom weights coords m k d n it r
     unfolding roundsFrom
     run-turn t =
         let e : endsAt it (passOf coords m k d it (r .state)) ≡ false = sym (done .ended) ∙ t in
@@ -69,7 +71,8 @@ module _ (weights coords : List Float) (m k d : ℕ) where
         let e : endsAt it (passOf coords m k d it (r .state)) ≡ true = sym (done .ended) ∙ t in
         rw (more, e, done .made, done .saved, done .last e)
 
-  pub labelled-of-round : (it : ℕ) (s s' : State) (q : Round) → RoundDone weights coords m k d it s s' q → q .ended ≡ false → 0 < k → Labelled m k s → Labelled m k s'
+  pub labelled-of-round : (it : ℕ) (s s' : State) (q : Round) → RoundDone weights coords m k d it s s' q → q .ended ≡ false → 0 < k
+      → Labelled m k s → Labelled m k s'
   labelled-of-round it s s' q done t h l =
       rw (done .state (sym (done .ended) ∙ t))
       (labelled-of-update m k (passOf coords m k d it s .state) weights coords d (labelled-of-pass m k s coords d it h l))
@@ -105,9 +108,11 @@ pub record Few (it : ℕ) (c : Counts) : Type 0 where
   pub made : c .made ≤ it * 262144
   pub saved : c .saved ≤ it * 262144
 
-pub few-turn : (weights coords : List Float) (m k d it : ℕ) (s s' : State) (c : Counts) (q : Round) → RoundDone weights coords m k d it s s' q → Few it c
+pub few-turn : (weights coords : List Float) (m k d it : ℕ) (s s' : State) (c : Counts) (q : Round)
+    → RoundDone weights coords m k d it s s' q → Few it c
     → Few (it + 1) (plus c q)
-few-turn weights coords m k d it s s' c q r f = record { made = omega (arith, f .made, r .made-small); saved = omega (arith, f .saved, r .saved-small) }
+few-turn weights coords m k d it s s' c q r f =
+    record { made = omega (arith, f .made, r .made-small); saved = omega (arith, f .saved, r .saved-small) }
 
 -- the rest of the definition's run, n rounds at most from round `it` on, ends as the whole one does
 module _ (weights coords : List Float) (m k d : ℕ) (whole : Run) where
@@ -125,16 +130,22 @@ module _ (weights coords : List Float) (m k d : ℕ) (whole : Run) where
         saved-small = omega (arith, f .saved);
       }
 
-  pub goes-on : (n n' it : ℕ) (s s' : State) (c : Counts) (q : Round) → n ≡ suc n' → RoundDone weights coords m k d it s s' q → q .ended ≡ false → GoesOn n it s c
+  pub goes-on : (n n' it : ℕ) (s s' : State) (c : Counts) (q : Round) → n ≡ suc n' → RoundDone weights coords m k d it s s' q
+      → q .ended ≡ false → GoesOn n it s c
       → GoesOn n' (it + 1) s' (plus c q)
   goes-on n n' it s s' c q more done t g =
       let r = running it s c (g .doubled) in
-      record { doubled = g .doubled + anew weights coords m k d it s; ends = run-turn weights coords m k d n n' it r s' q more done t ∙ g .ends }
+      record {
+        doubled = g .doubled + anew weights coords m k d it s;
+        ends = run-turn weights coords m k d n n' it r s' q more done t ∙ g .ends;
+      }
 
-  pub stops : (n n' it : ℕ) (s s' : State) (c : Counts) (q : Round) → n ≡ suc n' → RoundDone weights coords m k d it s s' q → q .ended ≡ true → GoesOn n it s c
+  pub stops : (n n' it : ℕ) (s s' : State) (c : Counts) (q : Round) → n ≡ suc n' → RoundDone weights coords m k d it s s' q
+      → q .ended ≡ true → GoesOn n it s c
       → Few (it + 1) (plus c q) → it + 1 ≤ 10000 → Lloyded whole s' (plus c q)
   stops n n' it s s' c q more done t g =
-      lloyd-done (it + 1) (g .doubled) s' (plus c q) (run-stop weights coords m k d n n' it (running it s c (g .doubled)) s' q more done t ∙ g .ends)
+      lloyd-done (it + 1) (g .doubled) s' (plus c q)
+      (run-stop weights coords m k d n n' it (running it s c (g .doubled)) s' q more done t ∙ g .ends)
 
   pub runs-out : (n it : ℕ) (s : State) (c : Counts) → n ≡ 0 → GoesOn n it s c → Few it c → it ≤ 10000 → Lloyded whole s c
   runs-out n it s c e g = lloyd-done it (g .doubled) s c (run-end weights coords m k d n it (running it s c (g .doubled)) whole e (g .ends))

@@ -1,4 +1,5 @@
--- Document 01's count doubled, of one run, and document 02, #110: for all leaves within the limits it is zero. Definitions only.
+-- Document 01's count doubled, of one run, and document 02, #110: for all leaves within the limits it is zero.
+-- Definitions only.
 use mathlib.Core.Path.{_≡_}
 use mathlib.Core.List.{List}
 use mathlib.Core.Bool.{true}
@@ -6,7 +7,6 @@ use Prim.Native.Nat.{ℕ, _≤_, _<_}
 use lib.ListN.{length}
 use lib.Ieee.{Float}
 use Rattle.limits.specs.Limits.{coordinateOk, every, LeavesOk}
-use Rattle.areas.specs.State.{State}
 use Rattle.seeding.specs.Seeding.{seedsOf}
 use Rattle.pass.specs.Pass.{passOf}
 use Rattle.update.specs.Update.{updateTo}
@@ -14,7 +14,8 @@ use Rattle.lloyd.specs.Lloyd.{Run, lloydOf}
 
 -- a run of at most so many rounds, with the generator in this state before its seeds: any seed, any restart
 abbrev pub runOf : List Float → List Float → ℕ → ℕ → ℕ → ℕ → ℕ → Run
-runOf weights coords m k d rounds state = lloydOf weights coords m k d rounds (seedsOf weights coords m k d state .centers)
+runOf weights coords m k d rounds state =
+    lloydOf weights coords m k d rounds (seedsOf weights coords m k d state .centers)
 
 -- doubled: reseeds that pick a leaf already picked in the same update
 abbrev pub doubledOf : List Float → List Float → ℕ → ℕ → ℕ → ℕ → ℕ → ℕ

@@ -31,7 +31,8 @@ module _ (weights coords : List Float) (d k rounds : ℕ) (l : Lengths) where
       let g = groups-met k m (t .groups-ok) in
       let a = arrays-met m k d l (t .arrays-ok) in
       record {
-        roomy = roomy-by m k d rounds (length coords) l (sizes-met m d (length coords) (t .sizes-ok)) (g .0) (g .1) (leb-true _ _ (t .settings-ok)) a;
+        roomy = roomy-by m k d rounds (length coords) l (sizes-met m d (length coords) (t .sizes-ok)) (g .0) (g .1)
+            (leb-true _ _ (t .settings-ok)) a;
         arrays = a;
         leaves = record { sizes-ok = t .sizes-ok; weights-ok = t .weights-ok; coords-ok = t .coords-ok };
         k-below = g .2;

@@ -19,7 +19,10 @@ pub record Outcome : Type 0 where
 module _ (o : Outputs) (weights coords : List Float) (d k : ℕ) (s : Settings) (work marks : ℕ) where
   abbrev pub doneWith : Once → Outcome
   doneWith fit =
-      record { answer = Done k (fit .em .loglik) (fit .made) (fit .saved); outputs = written (length weights) k d (fit .em) o }
+      record {
+        answer = Done k (fit .em .loglik) (fit .made) (fit .saved);
+        outputs = written (length weights) k d (fit .em) o;
+      }
 
   -- a refusal changes no output array
   abbrev pub outcomeBy : ℕ → Outcome

@@ -1,5 +1,6 @@
--- What the calls of a leaf's turn in a shift and in a pass ensure is the definition's step, over plain lists; a shift leaves labels, a pass keeps
--- labels below k, both leave the centres, and a pass's counts are small. By the laws of the regions, and by recursion on the leaves done. Assumes nothing.
+-- What the calls of a leaf's turn in a shift and in a pass ensure is the definition's step, over plain lists; a shift leaves labels, a pass
+-- keeps labels below k, both leave the centres, and a pass's counts are small. By the laws of the regions, and by recursion on the leaves
+-- done. Assumes nothing.
 use mathlib.Core.Path.{_≡_, refl, ap, sym, _∙_}
 use mathlib.Core.List.{List, [], _∷_}
 use mathlib.Core.Bool.{Bool, true, false, not, _&&_, _||_, cond}

@@ -81,8 +81,13 @@ module _ (v : List Float) (numbers : (i : ℕ) → i < length v → T (not (isNa
       → (j < n → T (le (getD v b nan) (getD v j nan))) → T (le (getD v (cond t n b) nan) (getD v j nan))
   unfolding le
   least-by true n b j e hn hb l h =
-      ⊎-elim (λ (g : j < n). le-trans (getD v n nan) (getD v b nan) (getD v j nan) (subst (λ (t : Bool). T (t || eq (getD v n nan) (getD v b nan))) (sym e) tt) (h g))
-      (λ (g : n ≤ j). let q : n ≡ j = omega arith in subst (λ (z : ℕ). T (le (getD v n nan) (getD v z nan))) q (le-refl (getD v n nan) (numbers n hn)))
+      ⊎-elim
+      (λ (g : j < n).
+      le-trans (getD v n nan) (getD v b nan) (getD v j nan)
+      (subst (λ (t : Bool). T (t || eq (getD v n nan) (getD v b nan))) (sym e) tt) (h g))
+      (λ (g : n ≤ j).
+      let q : n ≡ j = omega arith in
+      subst (λ (z : ℕ). T (le (getD v n nan) (getD v z nan))) q (le-refl (getD v n nan) (numbers n hn)))
       (lt-or-ge j n)
   least-by false n b j e hn hb l h =
       ⊎-elim h
@@ -97,7 +102,8 @@ module _ (v : List Float) (numbers : (i : ℕ) → i < length v → T (not (isNa
   least-to zero l j g = absurd (omega arith)
   least-to (suc n) l j g =
       let b = argminUpTo v n in
-      least-by (lt (getD v n nan) (getD v b nan)) n b j refl l (argmin-within v n (omega arith) (omega arith)) (omega arith) (least-to n (omega arith) j)
+      least-by (lt (getD v n nan) (getD v b nan)) n b j refl l (argmin-within v n (omega arith) (omega arith)) (omega arith)
+      (least-to n (omega arith) j)
 
   pub argmin-least : (j : ℕ) → j < length v → T (le (getD v (argminOf v) nan) (getD v j nan))
   argmin-least j h = least-to (length v) (omega arith) j h

@@ -10,4 +10,5 @@ use Rattle.mixture.specs.Fits.{warmRounds}
 
 -- over the four restarts
 abbrev pub doubledInFit : Settings → List Float → List Float → ℕ → ℕ → ℕ → ℕ
-doubledInFit s weights coords m k d = sumOver (λ (t : ℕ). doubledOf weights coords m k d warmRounds (restartSeedOf (s .seed) t)) 0 4
+doubledInFit s weights coords m k d =
+    sumOver (λ (t : ℕ). doubledOf weights coords m k d warmRounds (restartSeedOf (s .seed) t)) 0 4

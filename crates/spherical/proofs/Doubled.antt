@@ -1,4 +1,5 @@
--- A call of `spherical_kmeans` that is not refused doubles none: its leaves are within the limits, and no run of such leaves does. Assumes nothing.
+-- A call of `spherical_kmeans` that is not refused doubles none: its leaves are within the limits, and no run of such leaves does. Assumes
+-- nothing.
 use lib.ListN.{length}
 use Prim.Native.Nat.{ℕ, max}
 use Rattle.lloyd.proofs.Doubled.{never-doubled, none-over}
@@ -10,4 +11,5 @@ calls-never-doubled weights coords d k rounds restarts seed labels directions wo
     let r = ready weights coords d k rounds restarts labels directions work marks e in
     none-over _ 0 (max restarts 1)
     (λ (t : ℕ) below above.
-    never-doubled weights coords d k rounds (stateBefore weights coords (length weights) k d rounds seed t) (r .leaves) (r .k-some) (r .k-below) .none)
+    never-doubled weights coords d k rounds (stateBefore weights coords (length weights) k d rounds seed t) (r .leaves) (r .k-some)
+    (r .k-below) .none)

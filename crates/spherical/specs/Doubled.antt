@@ -1,4 +1,5 @@
--- Document 01's count doubled, of a call of `spherical_kmeans`, and document 02, #110, as a caller reads it. Definitions only.
+-- Document 01's count doubled, of a call of `spherical_kmeans`, and document 02, #110, as a caller reads it.
+-- Definitions only.
 use mathlib.Core.Path.{_≡_}
 use mathlib.Core.List.{List}
 use Prim.Native.Nat.{ℕ, zero, suc, max}
@@ -17,7 +18,8 @@ stateBefore weights coords m k d rounds seed (suc t) = restartsUpTo weights coor
 -- doubled, over all restarts; 0 restarts act as 1
 abbrev pub doubledIn : List Float → List Float → ℕ → ℕ → ℕ → ℕ → ℕ → ℕ → ℕ
 doubledIn weights coords m k d rounds restarts seed =
-    sumOver (λ (t : ℕ). doubledOf weights coords m k d rounds (stateBefore weights coords m k d rounds seed t)) 0 (max restarts 1)
+    sumOver (λ (t : ℕ). doubledOf weights coords m k d rounds (stateBefore weights coords m k d rounds seed t)) 0
+    (max restarts 1)
 
 -- in a call that is not refused it is zero
 abbrev pub CallsNeverDoubled : Type 0

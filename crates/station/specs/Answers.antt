@@ -34,7 +34,8 @@ pub record ClusteredNumbers : Type 0 where
 
 abbrev pub clusteredNumbers : Float → List ℕ → Clustered → ClusteredNumbers
 clusteredNumbers cohesion counts (NotClustered code) = record { refusal = code; cohesion = cohesion; counts = counts }
-clusteredNumbers cohesion counts (ClusteredDone found made saved) = record { refusal = 0; cohesion = found; counts = two made saved }
+clusteredNumbers cohesion counts (ClusteredDone found made saved) =
+    record { refusal = 0; cohesion = found; counts = two made saved }
 
 pub record ClusteredCall : Type 0 where
   pub numbers : ClusteredNumbers
@@ -53,7 +54,8 @@ pub record FittedNumbers : Type 0 where
 
 abbrev pub fittedNumbers : ℕ → Float → List ℕ → Fitted → FittedNumbers
 fittedNumbers groups loglik counts (NotFitted code) = record { refusal = code; groups = groups; loglik = loglik; counts = counts }
-fittedNumbers groups loglik counts (FittedDone k found made saved) = record { refusal = 0; groups = k; loglik = found; counts = two made saved }
+fittedNumbers groups loglik counts (FittedDone k found made saved) =
+    record { refusal = 0; groups = k; loglik = found; counts = two made saved }
 
 pub record FittedCall : Type 0 where
   pub numbers : FittedNumbers

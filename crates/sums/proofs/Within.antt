@@ -1,5 +1,5 @@
--- The sums of the groups within bounds: weights up to 2^40 and coordinates within ±2 sum up to 2^41 a leaf, of at most 4,096 leaves to 2^53; and a centre
--- by such a sum lies within ±2. By recursion on the leaves. Assumes nothing.
+-- The sums of the groups within bounds: weights up to 2^40 and coordinates within ±2 sum up to 2^41 a leaf, of at most 4,096 leaves to
+-- 2^53; and a centre by such a sum lies within ±2. By recursion on the leaves. Assumes nothing.
 use mathlib.Core.Path.{_≡_, subst}
 use mathlib.Core.List.{List}
 use Prim.Native.Nat.{ℕ, zero, suc, _+_, _*_, _≤_}
@@ -15,7 +15,8 @@ use Rattle.float.proofs.Ranges.{All}
 use Rattle.vector.proofs.Within.{all-put, all-row, all-get, all-same, all-more, row-length, add-scaled-within, normal-within}
 use Rattle.sums.specs.Sums.{sumsUpTo, centerBy}
 
-module _ (weights coords : List Float) (labels : List ℕ) (k d : ℕ) (hw : All (Within 1099511627776 1) weights) (hc : All (Within 2 1) coords) where
+module _ (weights coords : List Float) (labels : List ℕ) (k d : ℕ) (hw : All (Within 1099511627776 1) weights)
+    (hc : All (Within 2 1) coords) where
   sums-to : (i : ℕ) → i ≤ length weights → i ≤ 4096 → All (Within (i * 2199023255552) 1) (sumsUpTo weights coords labels k d i)
   unfolding sumsUpTo
   sums-to zero l g = all-same (Within 0 1) (k * d) plusZero (lit≤ tt)
@@ -27,8 +28,10 @@ module _ (weights coords : List Float) (labels : List ℕ) (k d : ℕ) (hw : All
       let h = sums-to i (omega arith) (omega arith) in
       let e : i * C + C ≡ suc i * C = omega arith in
       subst (λ (z : ℕ). All (Within z 1) (sumsUpTo weights coords labels k d (suc i))) e
-      (all-put (Within (i * C + C) 1) s (c * d) d (addScaled w (rowOf s d c) (rowOf coords d i)) (all-more (i * C) (i * C + C) 1 s (omega arith) h)
-      (add-scaled-within (i * C) w (rowOf s d c) (rowOf coords d i) (omega arith) (all-get (Within 1099511627776 1) weights i hw (omega arith))
+      (all-put (Within (i * C + C) 1) s (c * d) d (addScaled w (rowOf s d c) (rowOf coords d i))
+      (all-more (i * C) (i * C + C) 1 s (omega arith) h)
+      (add-scaled-within (i * C) w (rowOf s d c) (rowOf coords d i) (omega arith)
+      (all-get (Within 1099511627776 1) weights i hw (omega arith))
       (all-row (Within (i * C) 1) s d c h) (all-row (Within 2 1) coords d i hc)))
 
   pub sums-within : (m : ℕ) → m ≤ length weights → m ≤ 4096 → All (Within 9007199254740992 1) (sumsUpTo weights coords labels k d m)

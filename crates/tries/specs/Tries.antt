@@ -19,7 +19,12 @@ pub record Auto : Type 0 where
 
 abbrev pub tallyBy : Bool → ℕ → Float → Once → Tally → Tally
 tallyBy true k score fit t =
-    record { choice = Number k score; loglik = fit .em .loglik; made = t .made + fit .made; saved = t .saved + fit .saved }
+    record {
+      choice = Number k score;
+      loglik = fit .em .loglik;
+      made = t .made + fit .made;
+      saved = t .saved + fit .saved;
+    }
 tallyBy false k score fit t =
     record { choice = t .choice; loglik = t .loglik; made = t .made + fit .made; saved = t .saved + fit .saved }
 

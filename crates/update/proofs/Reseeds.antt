@@ -1,6 +1,7 @@
--- No reseed picks a leaf twice in one update. Group after group (`Clean`): the centres' coordinates are within ±2, no more leaves are picked than groups
--- are done, and none anew. Where a group is empty, served is refreshed, so each leaf's is a finite dot (`Sound`): a leaf that is picked is served best of
--- all, another is not, and there is another, since fewer are picked than there are; so the worst-served leaf is not among those picked. Assumes nothing.
+-- No reseed picks a leaf twice in one update. Group after group (`Clean`): the centres' coordinates are within ±2, no more leaves are
+-- picked than groups are done, and none anew. Where a group is empty, served is refreshed, so each leaf's is a finite dot (`Sound`): a leaf
+-- that is picked is served best of all, another is not, and there is another, since fewer are picked than there are; so the worst-served
+-- leaf is not among those picked. Assumes nothing.
 use mathlib.Core.Path.{_≡_, refl, sym, ap, _∙_, subst}
 use mathlib.Core.List.{List, [], _∷_}
 use mathlib.Core.Logic.{inl, inr}
@@ -24,7 +25,8 @@ use Rattle.float.proofs.Ranges.{All, dot-256}
 use Rattle.vector.proofs.Within.{all-put, all-append, all-row, all-get, row-length, unit-within}
 use Rattle.pick.proofs.Places.{argmin-below, argmin-least}
 use Rattle.sums.proofs.Within.{sums-within, center-within}
-use Rattle.update.specs.Update.{Update, begun, putServed, moveCenter, emptyUpTo, among, servedUpTo, bestServed, reseedFrom, recenter, updateUpTo, updateTo}
+use Rattle.update.specs.Update.{Update, begun, putServed, moveCenter, emptyUpTo, among, servedUpTo, bestServed, reseedFrom, recenter}
+use Rattle.update.specs.Update.{updateUpTo, updateTo}
 
 -- ---- of more leaves than are listed, one is not listed
 without : ℕ → List ℕ → List ℕ
@@ -36,7 +38,8 @@ unfolding among without
 kept-other x j [] n = refl
 kept-other x j (p ∷ ps) n = go (eqb x p) refl (kept-other x j ps n)
   where
-    go : (b : Bool) → eqb x p ≡ b → among j (without x ps) ≡ among j ps → among j (cond b (without x ps) (p ∷ without x ps)) ≡ (eqb j p || among j ps)
+    go : (b : Bool) → eqb x p ≡ b → among j (without x ps) ≡ among j ps
+        → among j (cond b (without x ps) (p ∷ without x ps)) ≡ (eqb j p || among j ps)
     go true e r = rw (ne-eqb j p (λ (h : j ≡ p). n (h ∙ sym (eqb-true x p e)))) r
     go false e r = ap (λ (t : Bool). eqb j p || t) r
 
@@ -158,7 +161,8 @@ module _ (m d : ℕ) (coords : List Float) (hc : All (Within 2 1) coords) (hd : 
           clean =
               record {
                 centers = all-put (Within 2 1) (u .state .centers) (c * d) d (unitVector (rowOf coords d worst)) (s .clean .centers)
-                    (unit-within (rowOf coords d worst) (omega (arith, row-length coords d worst)) (all-row (Within 2 1) coords d worst hc));
+                    (unit-within (rowOf coords d worst) (omega (arith, row-length coords d worst))
+                    (all-row (Within 2 1) coords d worst hc));
                 few = omega (arith, s .clean .few);
                 none = ap (λ (n : ℕ). n + cond (among worst (u .picked)) 1 0) (s .clean .none) ∙ ap (λ (b : Bool). 0 + cond b 1 0) fresh;
               };
@@ -182,7 +186,8 @@ module _ (m d : ℕ) (coords : List Float) (hc : All (Within 2 1) coords) (hd : 
     unfolding moveCenter
     recenter-clean c u h =
         record {
-          centers = all-put (Within 2 1) (u .state .centers) (c * d) d (centerBy (rowOf sums d c) (rowOf (u .state .centers) d c)) (h .centers)
+          centers = all-put (Within 2 1) (u .state .centers) (c * d) d (centerBy (rowOf sums d c) (rowOf (u .state .centers) d c))
+              (h .centers)
               (center-within sums (u .state .centers) d c hd hs (h .centers));
           few = omega (arith, h .few);
           none = h .none;
@@ -201,7 +206,8 @@ module _ (m d : ℕ) (coords : List Float) (hc : All (Within 2 1) coords) (hd : 
         b : Update
         b = updateUpTo coords d sums counts s c
 
-        go : (e : Bool) → Sound m c b → Sound m (suc c) (cond e (reseedFrom coords d c (argminOf (b .state .served)) b) (recenter d sums c b))
+        go : (e : Bool) → Sound m c b → Sound m (suc c)
+            (cond e (reseedFrom coords d c (argminOf (b .state .served)) b) (recenter d sums c b))
         go true t = reseed-sound c b l t
         go false t = recenter-sound c b t
 
@@ -212,7 +218,8 @@ module _ (m d : ℕ) (coords : List Float) (hc : All (Within 2 1) coords) (hd : 
     updates-full h (suc c) e =
         let o = neither (emptyUpTo counts c) (eqb (getD counts c 0) 0) e in
         let b = updateUpTo coords d sums counts s c in
-        subst (λ (t : Bool). Clean (suc c) (cond t (reseedFrom coords d c (argminOf (b .state .served)) b) (recenter d sums c b))) (sym (o .1))
+        subst (λ (t : Bool). Clean (suc c) (cond t (reseedFrom coords d c (argminOf (b .state .served)) b) (recenter d sums c b)))
+        (sym (o .1))
         (recenter-clean c b (updates-full h c (o .0)))
 
   -- ---- served refreshed: each a dot of two rows within ±2
@@ -249,7 +256,8 @@ module _ (m d : ℕ) (coords : List Float) (hc : All (Within 2 1) coords) (hd : 
       }
 
   -- ---- the whole update, after c of its k groups
-  pub update-clean : (weights : List Float) (k : ℕ) (s : State) → All (Within 1099511627776 1) weights → length weights ≡ m → m ≤ 4096 → k ≤ m
+  pub update-clean : (weights : List Float) (k : ℕ) (s : State) → All (Within 1099511627776 1) weights → length weights ≡ m → m ≤ 4096
+      → k ≤ m
       → All (Within 2 1) (s .centers) → (c : ℕ) → c ≤ k → Clean c (updateTo weights coords m k d s c)
   update-clean weights k s hw lw lm lk h c l = go (emptyUpTo counts k) refl
     where

@@ -1,5 +1,5 @@
 -- The update as a whole, over plain lists: what its calls ensure is the definition's update, and labels stay below k. By the way each test went. Assumes nothing.
-use mathlib.Core.Path.{_≡_, refl, ap, _∙_}
+use mathlib.Core.Path.{_≡_, refl, _∙_}
 use mathlib.Core.List.{List}
 use mathlib.Core.Bool.{Bool, true, false, cond}
 use Prim.Native.Nat.{ℕ}
@@ -33,7 +33,8 @@ module _ (coords : List Float) (m k d : ℕ) (counts : List ℕ) (s x : State) (
   pub refresh-left : b ≡ emptyUpTo counts k → b ≡ false → s ≡ refreshed coords m k d counts s
   refresh-left e t = rw (← e, t)
 
-pub settle-done : (weights coords : List Float) (m k d : ℕ) (w w₁ w₂ : List Float) (u u₁ : List ℕ) (s' : State) → Accumulated weights coords m k d w w₁ u u₁
+pub settle-done : (weights coords : List Float) (m k d : ℕ) (w w₁ w₂ : List Float) (u u₁ : List ℕ) (s' : State)
+    → Accumulated weights coords m k d w w₁ u u₁
     → stateIn m k d w₂ u₁ ≡ refreshed coords m k d (countsIn m k u₁) (stateIn m k d w₁ u₁) → sumsIn k d w₂ ≡ sumsIn k d w₁
     → s' ≡ updateUpTo coords d (sumsIn k d w₂) (countsIn m k u₁) (stateIn m k d w₂ u₁) k .state
     → s' ≡ updateOf weights coords m k d (stateIn m k d w u) .state

@@ -1,6 +1,6 @@
--- The update over plain lists: what the stores of each of its functions do to the state and the sums, by the laws of the regions, and that group
--- after group they make what the definition says. Assumes nothing.
-use mathlib.Core.Path.{_≡_, refl, ap, sym, subst, _∙_}
+-- The update over plain lists: what the stores of each of its functions do to the state and the sums, by the laws of the regions, and that
+-- group after group they make what the definition says. Assumes nothing.
+use mathlib.Core.Path.{_≡_, refl, ap, sym, _∙_}
 use mathlib.Core.List.{List}
 use mathlib.Core.Bool.{Bool, true, false, cond}
 use Prim.Native.Nat.{ℕ, zero, suc, _+_, _*_, _-_, _≤_, _<_}
@@ -19,7 +19,8 @@ use Rattle.rows.proofs.Rows.{row-within, length-part, part-put, drop-put, put-s
 use Rattle.pick.proofs.Places.{argmin-below}
 use Rattle.bounds.specs.Shifts.{cosine}
 use Rattle.areas.specs.State.{State}
-use Rattle.update.specs.Update.{Update, begun, putServed, moveCenter, bestServed, reseeded, reseedFrom, recentered, recenter, updateGroup, updateUpTo}
+use Rattle.update.specs.Update.{Update, begun, putServed, moveCenter, bestServed, reseeded, reseedFrom, recentered, recenter}
+use Rattle.update.specs.Update.{updateGroup, updateUpTo}
 use Rattle.sums.specs.Sums.{centerBy}
 use Rattle.areas.specs.Areas.{stateIn, sumsIn, countsIn, total, sumsAt, servedAt, driftAt, LeafOf, GroupOf}
 use Rattle.update.specs.Groups.{LaterRows}
@@ -148,7 +149,8 @@ module _ (m k d : ℕ) (w : List Float) (worst : ℕ) (is : worst ≡ argminOf (
       leaf-of worst m d (omega (arith, argmin-below (part w (servedAt m k d) m) (omega (arith, l)), l, worst-part))
 
 -- group c reseeded from the worst-served leaf
-module _ (m k d : ℕ) (coords w : List Float) (c worst : ℕ) (r w' : List Float) (group : GroupOf c k d) (some : 0 < m) (long : total m k d ≤ length w)
+module _ (m k d : ℕ) (coords w : List Float) (c worst : ℕ) (r w' : List Float) (group : GroupOf c k d) (some : 0 < m)
+    (long : total m k d ≤ length w)
     (full : length r ≡ d) (is : worst ≡ argminOf (take (servedAt m k d + m - servedAt m k d) (drop (servedAt m k d) w))) where
   abbrev marked : List Float
   marked = set (written m k d w c r group long full) (servedAt m k d + worst) bestServed
@@ -218,13 +220,15 @@ module _ (coords : List Float) (m k d : ℕ) (w₀ w : List Float) (u : List ℕ
   abbrev upTo : ℕ → Update
   upTo n = updateUpTo coords d (sumsIn k d w₀) (countsIn m k u) (stateIn m k d w₀ u) n
 
-  pub update-turn : (w' : List Float) → c < k → stateIn m k d w' u ≡ updateGroup coords d (sumsIn k d w) (countsIn m k u) c (begun (stateIn m k d w u)) .state
+  pub update-turn : (w' : List Float) → c < k
+      → stateIn m k d w' u ≡ updateGroup coords d (sumsIn k d w) (countsIn m k u) c (begun (stateIn m k d w u)) .state
       → LaterRows c k d w w' → UpdatedTo coords m k d w₀ w' u (c + 1)
   unfolding updateUpTo
   update-turn w' below g later =
       record {
         state = rw add-one
-            (g ∙ same-group coords d (sumsIn k d w) (sumsIn k d w₀) (countsIn m k u) c (stateIn m k d w u) (upTo c) (done .state) (done .rows c (omega arith) below));
+            (g ∙ same-group coords d (sumsIn k d w) (sumsIn k d w₀) (countsIn m k u) c (stateIn m k d w u) (upTo c) (done .state)
+            (done .rows c (omega arith) below));
         rows = λ j h l. later j (omega arith) l ∙ done .rows j (omega arith) l;
       }
 

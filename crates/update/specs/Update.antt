@@ -1,5 +1,5 @@
--- Document 01, 'Spherical k-means': the update of a round of `spherical_lloyd`: new centres, and reseeds of empty groups.
--- Definitions only.
+-- Document 01, 'Spherical k-means': the update of a round of `spherical_lloyd`: new centres, and reseeds of empty
+-- groups. Definitions only.
 use mathlib.Core.List.{List, [], _∷_, _++_}
 use mathlib.Core.Bool.{Bool, false, _||_, cond}
 use Prim.Native.Nat.{ℕ, zero, suc, _+_, _*_}
@@ -75,7 +75,8 @@ bestServed = inf false
 
 -- an empty group is reseeded from the worst-served leaf
 abbrev pub reseeded : List Float → ℕ → ℕ → ℕ → State → State
-reseeded coords d c worst s = moveCenter d c (unitVector (rowOf coords d worst)) (putServed (set (s .served) worst bestServed) s)
+reseeded coords d c worst s =
+    moveCenter d c (unitVector (rowOf coords d worst)) (putServed (set (s .served) worst bestServed) s)
 
 abbrev pub reseedFrom : List Float → ℕ → ℕ → ℕ → Update → Update
 reseedFrom coords d c worst u =

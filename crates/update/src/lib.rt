@@ -6,7 +6,8 @@ ghost use Prim.Native.Nat.{ℕ, _+_, _*_, _<_, _≤_};
 ghost use lib.ListN.{length, getD};
 ghost use Rattle.rows.specs.Rows.{part, rowOf};
 ghost use Rattle.bounds.specs.Shifts.{cosine};
-ghost use Rattle.update.specs.Update.{emptyUpTo, servedUpTo, putServed, moveCenter, reseeded, recentered, begun, updateGroup, updateUpTo, updateOf};
+ghost use Rattle.update.specs.Update.{emptyUpTo, servedUpTo, putServed, moveCenter, reseeded, recentered, begun};
+ghost use Rattle.update.specs.Update.{updateGroup, updateUpTo, updateOf};
 ghost use Rattle.pick.specs.Places.{argminOf};
 ghost use Rattle.vector.specs.Vectors.{dotOf};
 ghost use Rattle.areas.specs.Areas.{stateIn, sumsIn, countsIn, Sized, LeafOf, GroupOf, Labelled, Area};
@@ -133,7 +134,8 @@ fn reseed(work: &mut [f64], coords: &[f64], c: usize, m: usize, k: usize, d: usi
     requires { ⌜ Leafed (length (now work)) (length (now coords)) m k d ⌝ }
     requires { ⌜ GroupOf c k d ⌝ }
     ensures { λ _. ⌜ ((u : List ℕ) → stateIn m k d (now (work .exit)) u
-        ≡ reseeded (now (coords .entry)) d c (argminOf (stateIn m k d (now (work .entry)) u .served)) (stateIn m k d (now (work .entry)) u)) ⌝ }
+        ≡ reseeded (now (coords .entry)) d c (argminOf (stateIn m k d (now (work .entry)) u .served))
+        (stateIn m k d (now (work .entry)) u)) ⌝ }
     ensures { λ _. ⌜ LaterRows c k d (now (work .entry)) (now (work .exit)) ⌝ }
 {
     let kd = k * d;
@@ -198,7 +200,8 @@ pub fn settle(
     requires { ⌜ Sized (length (now work)) (length (now marks)) (length (now coords)) m k d ⌝ }
     requires { ⌜ (length (now weights) ≡ m) × Labelled m k (stateIn m k d (now work) (now marks)) ⌝ }
     ensures { λ _. ⌜ stateIn m k d (now (work .exit)) (now (marks .exit))
-        ≡ updateOf (now (weights .entry)) (now (coords .entry)) m k d (stateIn m k d (now (work .entry)) (now (marks .entry))) .state ⌝ }
+        ≡ updateOf (now (weights .entry)) (now (coords .entry)) m k d
+        (stateIn m k d (now (work .entry)) (now (marks .entry))) .state ⌝ }
 {
     sums::accumulate(work, marks, weights, coords, m, k, d);
     if has_empty(marks, m, k) {

@@ -1,5 +1,6 @@
--- Rows whose elements are all within a bound: their parts, a weighted row added to another, and a row divided by its norm, which lies within ±2. Assumes nothing.
-use mathlib.Core.Path.{_≡_, refl, sym, ap, _∙_, subst}
+-- Rows whose elements are all within a bound: their parts, a weighted row added to another, and a row divided by its norm, which lies
+-- within ±2. Assumes nothing.
+use mathlib.Core.Path.{_≡_, refl, sym, subst}
 use mathlib.Core.List.{List, [], _∷_, _++_}
 use mathlib.Core.Bool.{Bool, true, false, cond}
 use Prim.Native.Nat.{ℕ, zero, suc, _+_, _*_, _≤_, _<_, min}
@@ -34,7 +35,8 @@ module _ (R : Float → Type 0) where
 
   pub all-put : (l : List Float) (at n : ℕ) (r : List Float) → All R l → All R r → All R (putPart l at n r)
   all-put l at n r h k =
-      all-append (take at l) (r ++ drop n (drop at l)) (all-take at l h) (all-append r (drop n (drop at l)) k (all-drop n (drop at l) (all-drop at l h)))
+      all-append (take at l) (r ++ drop n (drop at l)) (all-take at l h)
+      (all-append r (drop n (drop at l)) k (all-drop n (drop at l) (all-drop at l h)))
 
   pub all-row : (l : List Float) (d c : ℕ) → All R l → All R (rowOf l d c)
   all-row l d c h = all-take d (drop (c * d) l) (all-drop (c * d) l h)
@@ -59,14 +61,16 @@ row-length l d c = small d (length (drop (c * d) l)) (length (rowOf l d c)) (len
     small d n x e = omega arith
 
 -- ---- a row within ±B, and w times one within ±2 added: w up to 2^40, all of it below 2^53
-pub add-scaled-within : (B : ℕ) (w : Float) (r x : List Float) → B + 2199023255552 ≤ 9007199254740992 → Within 1099511627776 1 w → All (Within B 1) r
+pub add-scaled-within : (B : ℕ) (w : Float) (r x : List Float) → B + 2199023255552 ≤ 9007199254740992 → Within 1099511627776 1 w
+    → All (Within B 1) r
     → All (Within 2 1) x → All (Within (B + 2199023255552) 1) (addScaled w r x)
 add-scaled-within B w [] x l hw hr hx = tt
 add-scaled-within B w (r ∷ rs) [] l hw hr hx = all-more B (B + 2199023255552) 1 (r ∷ rs) (omega arith) hr
 add-scaled-within B w (r ∷ rs) (y ∷ ys) l hw hr hx =
     let p : Within 2199023255552 1 (mul binary64 w y) =
     mul-within binary64 1099511627776 1 2 1 w y (lit< tt) (lit< tt) (held-whole binary64 2199023255552 (lit≤ tt)) hw (hx .0) in (
-      add-within binary64 B 2199023255552 1 r (mul binary64 w y) (lit< tt) (held-whole binary64 (B + 2199023255552) (omega arith)) (hr .0) p,
+      add-within binary64 B 2199023255552 1 r (mul binary64 w y) (lit< tt) (held-whole binary64 (B + 2199023255552) (omega arith))
+          (hr .0) p,
       add-scaled-within B w rs ys l hw (hr .1) (hx .1),
     )
 

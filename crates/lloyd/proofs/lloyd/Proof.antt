@@ -1,5 +1,6 @@
--- `lloyd::lloyd` meets its contract. The loop's invariant: the definition's run from the state and counts as they are, with the rounds that are left,
--- ends as the whole run does (`GoesOn`); labels are below k, and the counts are small. The measure is what is left of the rounds. Assumes nothing.
+-- `lloyd::lloyd` meets its contract. The loop's invariant: the definition's run from the state and counts as they are, with the rounds that
+-- are left, ends as the whole run does (`GoesOn`); labels are below k, and the counts are small. The measure is what is left of the rounds.
+-- Assumes nothing.
 use mathlib.Core.Path.{_≡_, refl, _∙_}
 use Prim.Native.Nat.{_≤_, _+_, _-_}
 use native.Mathlib.Nat.{sub-zero}
@@ -18,7 +19,8 @@ abbrev Inv-loop : tie.InvT-loop
 Inv-loop work₀ marks₀ weights coords m k d rounds c₀ it₀ work marks c it =
     (it ≤ rounds) × Sized (length work) (length marks) (length coords) m k d × (length work ≡ length work₀) × (length marks ≡ length marks₀)
     × Labelled m k (stateIn m k d work marks) × Few it c
-    × GoesOn weights coords m k d (roundsFrom weights coords m k d rounds 0 (freshRun (stateIn m k d work₀ marks₀))) (rounds - it) it (stateIn m k d work marks) c
+    × GoesOn weights coords m k d (roundsFrom weights coords m k d rounds 0 (freshRun (stateIn m k d work₀ marks₀))) (rounds - it) it
+    (stateIn m k d work marks) c
 
 abbrev μ-loop : tie.MeasureT-loop
 μ-loop work₀ marks₀ weights coords m k d rounds c₀ it₀ work marks c it = rounds - it
@@ -29,7 +31,8 @@ start l = l .before .before .before .before .before
 abbrev whole : tie.Start Inv-loop μ-loop → Run
 whole b =
     let a = b .args in
-    roundsFrom (a .weights .now) (a .coords .now) (a .m) (a .k) (a .d) (a .rounds) 0 (freshRun (stateIn (a .m) (a .k) (a .d) (a .work .now) (a .marks .now)))
+    roundsFrom (a .weights .now) (a .coords .now) (a .m) (a .k) (a .d) (a .rounds) 0
+    (freshRun (stateIn (a .m) (a .k) (a .d) (a .work .now) (a .marks .now)))
 
 abbrev loop-at : tie.After-one-round Inv-loop μ-loop → tie.At-loop Inv-loop μ-loop
 loop-at g = g .before .before .before .before
@@ -43,8 +46,15 @@ ended c = c .before .before .before .before .before .before .before .before .bef
 
 loop-holds : tie.Need-loop-holds Inv-loop μ-loop
 loop-holds c =
-    let s = c .before .before .before .before in
-    (omega arith, s .pre .0, refl, refl, s .pre .1 .2, record { made = omega arith; saved = omega arith }, record { doubled = 0; ends = rw sub-zero })
+    let s = c .before .before .before .before in (
+      omega arith,
+      s .pre .0,
+      refl,
+      refl,
+      s .pre .1 .2,
+      record { made = omega arith; saved = omega arith },
+      record { doubled = 0; ends = rw sub-zero },
+    )
 
 one-round-requires : tie.Need-one-round-requires Inv-loop μ-loop
 one-round-requires c κs =
@@ -82,10 +92,12 @@ loop-again c =
       sized-of _ _ _ _ (length (a .coords .now)) (a .m) (a .k) (a .d) ew eu (l .inv .1),
       ew ∙ l .inv .2,
       eu ∙ l .inv .3,
-      labelled-of-round (a .weights .now) (a .coords .now) (a .m) (a .k) (a .d) (l .it) s s' (g .one-round .result) (g .one-round .ensures) (c .if1 .left)
+      labelled-of-round (a .weights .now) (a .coords .now) (a .m) (a .k) (a .d) (l .it) s s' (g .one-round .result) (g .one-round .ensures)
+          (c .if1 .left)
           (l .inv .1 .k-some) (l .inv .4),
       few-at g,
-      goes-on (a .weights .now) (a .coords .now) (a .m) (a .k) (a .d) (whole (start (loop-at g))) (a .rounds - l .it) (a .rounds - (l .it + 1)) (l .it) s s' (l .c)
+      goes-on (a .weights .now) (a .coords .now) (a .m) (a .k) (a .d) (whole (start (loop-at g))) (a .rounds - l .it)
+          (a .rounds - (l .it + 1)) (l .it) s s' (l .c)
           (g .one-round .result) (omega (arith, below)) (g .one-round .ensures) (c .if1 .left) (l .inv .6),
     )
 
@@ -94,7 +106,8 @@ returns c =
     let l = c .before .loop in
     let b = start (c .before) in
     let a = b .args in
-    runs-out (a .weights .now) (a .coords .now) (a .m) (a .k) (a .d) (whole b) (a .rounds - l .it) (l .it) (stateIn (a .m) (a .k) (a .d) (l .work) (l .marks)) (l .c)
+    runs-out (a .weights .now) (a .coords .now) (a .m) (a .k) (a .d) (whole b) (a .rounds - l .it) (l .it)
+    (stateIn (a .m) (a .k) (a .d) (l .work) (l .marks)) (l .c)
     (omega (arith, c .loop-test .left)) (l .inv .6) (l .inv .5) (omega (arith, l .inv .0, b .pre .1 .1))
 
 returns-2 : tie.Need-returns-2 Inv-loop μ-loop
@@ -104,8 +117,9 @@ returns-2 c =
     let a = start (loop-at g) .args in
     let s = stateIn (a .m) (a .k) (a .d) (l .work) (l .marks) in
     let s' = stateIn (a .m) (a .k) (a .d) (g .one-round .last .0) (g .one-round .last .1 .0) in
-    stops (a .weights .now) (a .coords .now) (a .m) (a .k) (a .d) (whole (start (loop-at g))) (a .rounds - l .it) (a .rounds - (l .it + 1)) (l .it) s s' (l .c)
-    (g .one-round .result) (omega (arith, g .before .before .before .loop-test .taken)) (g .one-round .ensures) (c .if1 .taken) (l .inv .6) (few-at g) (few-rounds g)
+    stops (a .weights .now) (a .coords .now) (a .m) (a .k) (a .d) (whole (start (loop-at g))) (a .rounds - l .it) (a .rounds - (l .it + 1))
+    (l .it) s s' (l .c) (g .one-round .result) (omega (arith, g .before .before .before .loop-test .taken)) (g .one-round .ensures)
+    (c .if1 .taken) (l .inv .6) (few-at g) (few-rounds g)
 
 pub lloyd-spec : {M : Type 1} → statement M
 lloyd-spec =

@@ -30,7 +30,8 @@ returns c =
     let a = start p .args in
     let s = stateIn (a .m) (a .k) (a .d) (a .work .now) (a .marks .now) in
     let x = stateIn (a .m) (a .k) (a .d) (p .pass .last .0) (p .pass .last .1 .0) in
-    round-ended (a .weights .now) (a .coords .now) (a .m) (a .k) (a .d) (a .it) (passOf (a .coords .now) (a .m) (a .k) (a .d) (a .it) s) x (p .pass .result) (p .pass .ensures .0) (p .pass .ensures .1) (c .if1 .taken)
+    round-ended (a .weights .now) (a .coords .now) (a .m) (a .k) (a .d) (a .it) (passOf (a .coords .now) (a .m) (a .k) (a .d) (a .it) s) x
+    (p .pass .result) (p .pass .ensures .0) (p .pass .ensures .1) (c .if1 .taken)
 
 settle-requires : tie.Need-settle-requires
 settle-requires c κs =
@@ -61,7 +62,8 @@ returns-2 c =
     let s = stateIn (a .m) (a .k) (a .d) (a .work .now) (a .marks .now) in
     let x = stateIn (a .m) (a .k) (a .d) (p .pass .last .0) (p .pass .last .1 .0) in
     let x' = stateIn (a .m) (a .k) (a .d) (g .settle .last .0) (g .settle .last .1 .0) in
-    round-settled (a .weights .now) (a .coords .now) (a .m) (a .k) (a .d) (a .it) (passOf (a .coords .now) (a .m) (a .k) (a .d) (a .it) s) x (p .pass .result) (p .pass .ensures .0)
+    round-settled (a .weights .now) (a .coords .now) (a .m) (a .k) (a .d) (a .it) (passOf (a .coords .now) (a .m) (a .k) (a .d) (a .it) s) x
+    (p .pass .result) (p .pass .ensures .0)
     (p .pass .ensures .1) x' (g .before .before .before .if1 .left) (g .settle .ensures)
 
 pub one-round-spec : {M : Type 1} → statement M

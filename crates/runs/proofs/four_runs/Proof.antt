@@ -19,7 +19,8 @@ run-beside-requires c κs =
     let f = c .before .before .before .before .before .before in
     let s = start f in
     let a = s .args in
-    roomy-of (length (a .work .now)) _ (length (a .marks .now)) _ (length (a .weights .now)) (length (a .coords .now)) (a .m) (a .k) (a .d) (a .s .rounds)
+    roomy-of (length (a .work .now)) _ (length (a .marks .now)) _ (length (a .weights .now)) (length (a .coords .now)) (a .m) (a .k) (a .d)
+    (a .s .rounds)
     (f .first-runs .kept .0) (f .first-runs .kept .1 .0) (s .pre)
 
 add-t19 : tie.Need-add-t19
@@ -36,8 +37,10 @@ returns c =
     let r = last c in
     let f = first r in
     let a = start f .args in
-    both-done (a .m) (a .k) (a .d) (f .first-runs .last .0) (r .run-beside .last .0) (runOf (a .s) (a .weights .now) (a .coords .now) (a .m) (a .k) (a .d) 3)
-    (r .run-beside .result) (runsUpTo (a .s) (a .weights .now) (a .coords .now) (a .m) (a .k) (a .d) 2) (f .first-runs .result) (f .first-runs .ensures)
+    both-done (a .m) (a .k) (a .d) (f .first-runs .last .0) (r .run-beside .last .0)
+    (runOf (a .s) (a .weights .now) (a .coords .now) (a .m) (a .k) (a .d) 3)
+    (r .run-beside .result) (runsUpTo (a .s) (a .weights .now) (a .coords .now) (a .m) (a .k) (a .d) 2) (f .first-runs .result)
+    (f .first-runs .ensures)
     (r .run-beside .ensures)
 
 pub four-runs-spec : {M : Type 1} → statement M

@@ -1,5 +1,5 @@
--- `update::reseed` meets its contract, by what `argmin`, `unit` and `move_center` ensure: the worst-served leaf is one of the m leaves, and the promise is a law
--- over plain lists. Assumes nothing.
+-- `update::reseed` meets its contract, by what `argmin`, `unit` and `move_center` ensure: the worst-served leaf is one of the m leaves, and
+-- the promise is a law over plain lists. Assumes nothing.
 use mathlib.Core.Path.{_≡_, _∙_}
 use native.Mathlib.Omega.{arith}
 use borrow.Author.Needs.{needs}
@@ -30,7 +30,8 @@ full-at q =
 
 -- the area after the unit row was written is as long as it was
 kept-at : (q : tie.After-unit) → let s = start (argmin-at q) in let a = s .args in
-    length (written (a .m) (a .k) (a .d) (a .work .now) (a .c) (q .unit .last .0) (s .pre .1) (s .pre .0 .area .work-long) (full-at q)) ≡ length (a .work .now)
+    length (written (a .m) (a .k) (a .d) (a .work .now) (a .c) (q .unit .last .0) (s .pre .1) (s .pre .0 .area .work-long) (full-at q))
+    ≡ length (a .work .now)
 kept-at q =
     let s = start (argmin-at q) in
     let a = s .args in
@@ -46,8 +47,15 @@ move-center-requires : tie.Need-move-center-requires
 move-center-requires c κs =
     let q = c .before .before .before in
     let s = start (argmin-at q) in
-    let z = s .pre .0 .area in
-    (record { m-small = z .m-small; k-small = z .k-small; kd-small = z .kd-small; work-long = simp length-set (omega (arith, z .work-long, kept-at q)) }, s .pre .1)
+    let z = s .pre .0 .area in (
+      record {
+        m-small = z .m-small;
+        k-small = z .k-small;
+        kd-small = z .kd-small;
+        work-long = simp length-set (omega (arith, z .work-long, kept-at q));
+      },
+      s .pre .1,
+    )
 
 same-length : tie.Need-same-length
 same-length c =
@@ -64,10 +72,10 @@ returns c =
     let a = s .args in
     let r = q .unit .last .0 in
     let z = s .pre .0 in (
-      reseed-done (a .m) (a .k) (a .d) (a .coords .now) (a .work .now) (a .c) (p .argmin .result) r (f .move-center .last .0) (s .pre .1) (z .m-some)
-          (z .area .work-long) (full-at q) (p .argmin .ensures) (q .unit .ensures) (f .move-center .ensures .0),
-      reseed-later (a .m) (a .k) (a .d) (a .coords .now) (a .work .now) (a .c) (p .argmin .result) r (f .move-center .last .0) (s .pre .1) (z .m-some)
-          (z .area .work-long) (full-at q) (p .argmin .ensures) (f .move-center .ensures .1),
+      reseed-done (a .m) (a .k) (a .d) (a .coords .now) (a .work .now) (a .c) (p .argmin .result) r (f .move-center .last .0) (s .pre .1)
+          (z .m-some) (z .area .work-long) (full-at q) (p .argmin .ensures) (q .unit .ensures) (f .move-center .ensures .0),
+      reseed-later (a .m) (a .k) (a .d) (a .coords .now) (a .work .now) (a .c) (p .argmin .result) r (f .move-center .last .0) (s .pre .1)
+          (z .m-some) (z .area .work-long) (full-at q) (p .argmin .ensures) (f .move-center .ensures .1),
     )
 
 pub reseed-spec : {M : Type 1} → statement M
@@ -99,8 +107,14 @@ reseed-spec =
     (λ c. search needs)
     (λ c. omega (arith, leaf-at (c .before) .row, start (c .before) .pre .0 .coords-long))
     (λ c κs. search needs)
-    (λ c. let p = argmin-at (c .before .before) in omega (arith, leaf-at p .below, start p .pre .0 .area .kd-small, start p .pre .0 .area .m-small))
-    (λ c. let p = argmin-at (c .before .before) in omega (arith, leaf-at p .below, start p .pre .0 .area .kd-small, start p .pre .0 .area .m-small))
+    (λ c.
+    let p = argmin-at (c .before .before) in
+    let z = start p .pre .0 .area in
+    omega (arith, leaf-at p .below, z .kd-small, z .m-small))
+    (λ c.
+    let p = argmin-at (c .before .before) in
+    let z = start p .pre .0 .area in
+    omega (arith, leaf-at p .below, z .kd-small, z .m-small))
     slice-write-work
     move-center-requires
     same-length

@@ -73,7 +73,8 @@ update-requires c κs =
     let g = accumulated j in
     let s = start g in
     let a = s .args in
-    sized-of _ _ _ _ (length (a .coords .now)) (a .m) (a .k) (a .d) (refreshed-at j .0 ∙ g .accumulate .kept .0) (g .accumulate .kept .1 .0) (s .pre .0)
+    sized-of _ _ _ _ (length (a .coords .now)) (a .m) (a .k) (a .d) (refreshed-at j .0 ∙ g .accumulate .kept .0) (g .accumulate .kept .1 .0)
+    (s .pre .0)
 
 same-length : tie.Need-same-length
 same-length c =
@@ -90,7 +91,8 @@ returns c =
     let j = f .before .before .before in
     let g = accumulated j in
     let a = start g .args in
-    settle-done (a .weights .now) (a .coords .now) (a .m) (a .k) (a .d) (a .work .now) (g .accumulate .last .0) (j .if1 .work) (a .marks .now) (g .accumulate .last .1 .0) _
+    settle-done (a .weights .now) (a .coords .now) (a .m) (a .k) (a .d) (a .work .now) (g .accumulate .last .0) (j .if1 .work)
+    (a .marks .now) (g .accumulate .last .1 .0) _
     (g .accumulate .ensures) (refreshed-at j .1) (refreshed-at j .2) (f .update .ensures)
 
 pub settle-spec : {M : Type 1} → statement M

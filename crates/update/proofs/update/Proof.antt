@@ -1,5 +1,5 @@
--- `update::update` meets its contract. The loop's invariant: the state is the definition's after c groups, and the sums of the other groups are as they were
--- (`UpdatedTo`). The measure is what is left of the groups. Assumes nothing.
+-- `update::update` meets its contract. The loop's invariant: the state is the definition's after c groups, and the sums of the other groups
+-- are as they were (`UpdatedTo`). The measure is what is left of the groups. Assumes nothing.
 use mathlib.Core.Path.{_≡_, refl, _∙_}
 use Prim.Native.Nat.{_≤_, _-_}
 use native.Mathlib.Omega.{arith}
@@ -13,7 +13,8 @@ use Rattle.update.proofs.update.Tie as tie
 
 abbrev Inv-loop : tie.InvT-loop
 Inv-loop work₀ marks coords m k d c₀ work c =
-    (c ≤ k) × Sized (length work) (length marks) (length coords) m k d × (length work ≡ length work₀) × UpdatedTo coords m k d work₀ work marks c
+    (c ≤ k) × Sized (length work) (length marks) (length coords) m k d × (length work ≡ length work₀)
+    × UpdatedTo coords m k d work₀ work marks c
 
 abbrev μ-loop : tie.MeasureT-loop
 μ-loop work₀ marks coords m k d c₀ work c = k - c
@@ -39,7 +40,8 @@ loop-again c =
       omega arith,
       sized-of _ _ _ _ (length (a .coords .now)) (a .m) (a .k) (a .d) (g .kept .0) refl (l .loop .inv .1),
       g .kept .0 ∙ l .loop .inv .2,
-      update-turn (a .coords .now) (a .m) (a .k) (a .d) (a .work .now) (l .loop .work) (a .marks .now) (l .loop .c) (l .loop .inv .3) (g .last .0) (omega arith)
+      update-turn (a .coords .now) (a .m) (a .k) (a .d) (a .work .now) (l .loop .work) (a .marks .now) (l .loop .c) (l .loop .inv .3)
+          (g .last .0) (omega arith)
           (g .ensures .0) (g .ensures .1),
     )
 
@@ -47,7 +49,8 @@ returns : tie.Need-returns Inv-loop μ-loop
 returns c =
     let l = c .before in
     let a = l .before .before .before .before .args in
-    update-end (a .coords .now) (a .m) (a .k) (a .d) (a .work .now) (l .loop .work) (a .marks .now) (l .loop .c) (l .loop .inv .3) (omega arith)
+    update-end (a .coords .now) (a .m) (a .k) (a .d) (a .work .now) (l .loop .work) (a .marks .now) (l .loop .c) (l .loop .inv .3)
+    (omega arith)
 
 pub update-spec : {M : Type 1} → statement M
 update-spec =
