@@ -25,8 +25,8 @@ use Rattle.float.proofs.Ranges.{All, dot-256}
 use Rattle.vector.proofs.Within.{all-put, all-append, all-row, all-get, row-length, unit-within}
 use Rattle.pick.proofs.Places.{argmin-below, argmin-least}
 use Rattle.sums.proofs.Within.{sums-within, center-within}
-use Rattle.update.specs.Update.{Update, begun, putServed, moveCenter, emptyUpTo, among, servedUpTo, bestServed, reseedFrom, recenter}
-use Rattle.update.specs.Update.{updateUpTo, updateTo}
+use Rattle.update.specs.Update.{Update, freshUpdate, putServed, moveCenter, emptyUpTo, among, servedUpTo, bestServed, reseedFrom}
+use Rattle.update.specs.Update.{recenter, updateUpTo, updateTo}
 
 -- ---- of more leaves than are listed, one is not listed
 without : ℕ → List ℕ → List ℕ
@@ -198,7 +198,7 @@ module _ (m d : ℕ) (coords : List Float) (hc : All (Within 2 1) coords) (hd : 
     recenter-sound c u h = record { clean = recenter-clean c u (h .clean); long = h .long; high = h .high; low = h .low }
 
     -- where served is refreshed
-    updates-sound : Sound m 0 (begun s) → (c : ℕ) → c ≤ m → Sound m c (updateUpTo coords d sums counts s c)
+    updates-sound : Sound m 0 (freshUpdate s) → (c : ℕ) → c ≤ m → Sound m c (updateUpTo coords d sums counts s c)
     unfolding updateUpTo
     updates-sound h zero l = h
     updates-sound h (suc c) l = go (eqb (getD counts c 0) 0) (updates-sound h c (omega arith))
@@ -212,7 +212,7 @@ module _ (m d : ℕ) (coords : List Float) (hc : All (Within 2 1) coords) (hd : 
         go false t = recenter-sound c b t
 
     -- without an empty group nothing is picked
-    updates-full : Clean 0 (begun s) → (c : ℕ) → emptyUpTo counts c ≡ false → Clean c (updateUpTo coords d sums counts s c)
+    updates-full : Clean 0 (freshUpdate s) → (c : ℕ) → emptyUpTo counts c ≡ false → Clean c (updateUpTo coords d sums counts s c)
     unfolding updateUpTo emptyUpTo
     updates-full h zero e = h
     updates-full h (suc c) e =
@@ -242,14 +242,14 @@ module _ (m d : ℕ) (coords : List Float) (hc : All (Within 2 1) coords) (hd : 
         tt,
       )
 
-  begun-clean : (s : State) → All (Within 2 1) (s .centers) → Clean 0 (begun s)
-  begun-clean s h = record { centers = h; few = omega arith; none = refl }
+  fresh-clean : (s : State) → All (Within 2 1) (s .centers) → Clean 0 (freshUpdate s)
+  fresh-clean s h = record { centers = h; few = omega arith; none = refl }
 
-  refreshed-sound : (s : State) → All (Within 2 1) (s .centers) → Sound m 0 (begun (putServed (servedUpTo coords d s m) s))
+  refreshed-sound : (s : State) → All (Within 2 1) (s .centers) → Sound m 0 (freshUpdate (putServed (servedUpTo coords d s m) s))
   unfolding putServed among
   refreshed-sound s h =
       record {
-        clean = begun-clean _ h;
+        clean = fresh-clean _ h;
         long = served-length s m;
         high = λ i l e. absurd (true≢false (sym e));
         low = λ i l e. all-get (Within 1024 1) (servedUpTo coords d s m) i (served-within s h m) (omega (arith, served-length s m, l));
@@ -275,4 +275,4 @@ module _ (m d : ℕ) (coords : List Float) (hc : All (Within 2 1) coords) (hd : 
 
       go : (b : Bool) → emptyUpTo counts k ≡ b → Clean c (updateUpTo coords d sums counts (cond b again s) c)
       go true e = updates-sound sums counts hs again (refreshed-sound s h) c (omega arith) .clean
-      go false e = updates-full sums counts hs s (begun-clean s h) c (none-before counts k c l e)
+      go false e = updates-full sums counts hs s (fresh-clean s h) c (none-before counts k c l e)

@@ -19,7 +19,7 @@ use Rattle.rows.proofs.Rows.{row-within, length-part, part-put, drop-put, put-s
 use Rattle.pick.proofs.Places.{argmin-below}
 use Rattle.bounds.specs.Shifts.{cosine}
 use Rattle.areas.specs.State.{State}
-use Rattle.update.specs.Update.{Update, begun, putServed, moveCenter, bestServed, reseeded, reseedFrom, recentered, recenter}
+use Rattle.update.specs.Update.{Update, freshUpdate, putServed, moveCenter, bestServed, reseeded, reseedFrom, recentered, recenter}
 use Rattle.update.specs.Update.{updateGroup, updateUpTo}
 use Rattle.sums.specs.Sums.{centerBy}
 use Rattle.areas.specs.Areas.{stateIn, sumsIn, countsIn, total, sumsAt, servedAt, driftAt, LeafOf, GroupOf}
@@ -185,10 +185,11 @@ module _ (coords : List Float) (c m k d : ℕ) (w : List Float) (u : List ℕ) (
   state = stateIn m k d w u
 
   abbrev by : Bool → State
-  by empty = cond empty (reseedFrom coords d c (argminOf (state .served)) (begun state)) (recenter d (sumsIn k d w) c (begun state)) .state
+  by empty =
+      cond empty (reseedFrom coords d c (argminOf (state .served)) (freshUpdate state)) (recenter d (sumsIn k d w) c (freshUpdate state)) .state
 
   abbrev updated : State
-  updated = updateGroup coords d (sumsIn k d w) (countsIn m k u) c (begun state) .state
+  updated = updateGroup coords d (sumsIn k d w) (countsIn m k u) c (freshUpdate state) .state
 
   pub group-empty : getD u (m + c) 0 ≡ 0 → s' ≡ reseeded coords d c (argminOf (state .served)) state → s' ≡ updated
   group-empty e g = g ∙ sym (ap by (eq-eqb (getD (countsIn m k u) c 0) 0 (sym (get-counts m k u c 0 below) ∙ e)))
@@ -207,10 +208,11 @@ update-start coords m k d w u = record { state = refl; rows = λ e h g. refl }
 
 -- the state after a group goes by the state before it and by the row of its sum, not by the leaves picked
 same-group : (coords : List Float) (d : ℕ) (sums sums' : List Float) (counts : List ℕ) (c : ℕ) (s : State) (b : Update) → s ≡ b .state
-    → rowOf sums d c ≡ rowOf sums' d c → updateGroup coords d sums counts c (begun s) .state ≡ updateGroup coords d sums' counts c b .state
+    → rowOf sums d c ≡ rowOf sums' d c
+    → updateGroup coords d sums counts c (freshUpdate s) .state ≡ updateGroup coords d sums' counts c b .state
 same-group coords d sums sums' counts c s b e f = go (eqb (getD counts c 0) 0)
   where
-    go : (t : Bool) → cond t (reseedFrom coords d c (argminOf (s .served)) (begun s)) (recenter d sums c (begun s)) .state
+    go : (t : Bool) → cond t (reseedFrom coords d c (argminOf (s .served)) (freshUpdate s)) (recenter d sums c (freshUpdate s)) .state
         ≡ cond t (reseedFrom coords d c (argminOf (b .state .served)) b) (recenter d sums' c b) .state
     go true = ap (λ (x : State). reseeded coords d c (argminOf (x .served)) x) e
     go false =
@@ -221,7 +223,7 @@ module _ (coords : List Float) (m k d : ℕ) (w₀ w : List Float) (u : List ℕ
   upTo n = updateUpTo coords d (sumsIn k d w₀) (countsIn m k u) (stateIn m k d w₀ u) n
 
   pub update-turn : (w' : List Float) → c < k
-      → stateIn m k d w' u ≡ updateGroup coords d (sumsIn k d w) (countsIn m k u) c (begun (stateIn m k d w u)) .state
+      → stateIn m k d w' u ≡ updateGroup coords d (sumsIn k d w) (countsIn m k u) c (freshUpdate (stateIn m k d w u)) .state
       → LaterRows c k d w w' → UpdatedTo coords m k d w₀ w' u (c + 1)
   unfolding updateUpTo
   update-turn w' below g later =

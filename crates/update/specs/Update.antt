@@ -56,8 +56,8 @@ pub record Update : Type 0 where
   pub doubled : ℕ
 
 -- before its first group
-abbrev pub begun : State → Update
-begun s = record { state = s; picked = []; doubled = 0 }
+abbrev pub freshUpdate : State → Update
+freshUpdate s = record { state = s; picked = []; doubled = 0 }
 
 -- how well the first n leaves are served by the centres of their labels
 unfoldable pub servedUpTo : List Float → ℕ → State → ℕ → List Float
@@ -98,7 +98,7 @@ updateGroup coords d sums counts c u =
     cond (eqb (getD counts c 0) 0) (reseedFrom coords d c (argminOf (u .state .served)) u) (recenter d sums c u)
 
 unfoldable pub updateUpTo : List Float → ℕ → List Float → List ℕ → State → ℕ → Update
-updateUpTo coords d sums counts s zero = begun s
+updateUpTo coords d sums counts s zero = freshUpdate s
 updateUpTo coords d sums counts s (suc c) = updateGroup coords d sums counts c (updateUpTo coords d sums counts s c)
 
 -- sums and counts, served refreshed where a group is empty, and new centres of the first n groups

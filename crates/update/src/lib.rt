@@ -6,8 +6,8 @@ ghost use Prim.Native.Nat.{ℕ, _+_, _*_, _<_, _≤_};
 ghost use lib.ListN.{length, getD};
 ghost use Rattle.rows.specs.Rows.{part, rowOf};
 ghost use Rattle.bounds.specs.Shifts.{cosine};
-ghost use Rattle.update.specs.Update.{emptyUpTo, servedUpTo, putServed, moveCenter, reseeded, recentered, begun};
-ghost use Rattle.update.specs.Update.{updateGroup, updateUpTo, updateOf};
+ghost use Rattle.update.specs.Update.{emptyUpTo, servedUpTo, putServed, moveCenter, reseeded, recentered};
+ghost use Rattle.update.specs.Update.{freshUpdate, updateGroup, updateUpTo, updateOf};
 ghost use Rattle.pick.specs.Places.{argminOf};
 ghost use Rattle.vector.specs.Vectors.{dotOf};
 ghost use Rattle.areas.specs.Areas.{stateIn, sumsIn, countsIn, Sized, LeafOf, GroupOf, Labelled, Area};
@@ -163,7 +163,7 @@ fn update_group(
     requires { ⌜ GroupOf c k d ⌝ }
     ensures { λ _. ⌜ stateIn m k d (now (work .exit)) (now (marks .entry))
         ≡ updateGroup (now (coords .entry)) d (sumsIn k d (now (work .entry))) (countsIn m k (now (marks .entry))) c
-        (begun (stateIn m k d (now (work .entry)) (now (marks .entry)))) .state ⌝ }
+        (freshUpdate (stateIn m k d (now (work .entry)) (now (marks .entry)))) .state ⌝ }
     ensures { λ _. ⌜ LaterRows c k d (now (work .entry)) (now (work .exit)) ⌝ }
 {
     if marks[m + c] == 0 {
