@@ -186,7 +186,8 @@ module _ (coords : List Float) (c m k d : ℕ) (w : List Float) (u : List ℕ) (
 
   abbrev by : Bool → State
   by empty =
-      cond empty (reseedFrom coords d c (argminOf (state .served)) (freshUpdate state)) (recenter d (sumsIn k d w) c (freshUpdate state)) .state
+      cond empty (reseedFrom coords d c (argminOf (state .served)) (freshUpdate state))
+      (recenter d (sumsIn k d w) c (freshUpdate state)) .state
 
   abbrev updated : State
   updated = updateGroup coords d (sumsIn k d w) (countsIn m k u) c (freshUpdate state) .state
