@@ -305,6 +305,3 @@ module _ (m k : ℕ) (u : List ℕ) where
 
   pub put-counts-all : (v : List ℕ) → length v ≡ k → m + k ≤ length u → countsIn m k (putPart u m k v) ≡ v
   put-counts-all v e g = in-counts (cut-put-whole (markLengths m k) u 1 m k v (omega arith) refl e (omega arith))
-
-  pub length-counts : m + k ≤ length u → length (countsIn m k u) ≡ k
-  length-counts g = cut-length (markLengths m k) u 1 (omega arith)

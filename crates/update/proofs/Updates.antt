@@ -140,7 +140,7 @@ module _ (m k d : ℕ) (w : List Float) (worst : ℕ) (is : worst ≡ argminOf (
   worst-part : worst ≡ argminOf (part w (servedAt m k d) m)
   worst-part = let f : servedAt m k d + m - servedAt m k d ≡ m = omega arith in rw f at is
 
-  pub worst-is : (u : List ℕ) → worst ≡ argminOf (stateIn m k d w u .served)
+  worst-is : (u : List ℕ) → worst ≡ argminOf (stateIn m k d w u .served)
   worst-is u = worst-part ∙ ap argminOf (served-are m k d w u)
 
   pub worst-leaf : 0 < m → total m k d ≤ length w → LeafOf worst m d
