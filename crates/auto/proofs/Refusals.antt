@@ -18,8 +18,7 @@ use Rattle.tries.specs.Ready.{Ready}
 module _ (weights coords : List Float) (d hi rounds : ℕ) (l : Lengths) where
   tests : refusalOf weights coords d hi rounds l ≡ 0
       → Admitted (sizesOk (length weights) d (length coords)) (leb hi 64) (roundsOk rounds) (arraysOk (length weights) hi d l)
-      (every weightOk weights)
-      (every coordinateOk coords)
+      (every weightOk weights) (every coordinateOk coords)
   unfolding refusalOf
   tests e = admitted _ _ _ _ _ _ e
 

@@ -25,8 +25,7 @@ use Rattle.lloyd.specs.Totals.{sumOver}
 use Rattle.lloyd.specs.Doubled.{runOf, pickedBefore, NoneDoubled, NeverDoubled}
 
 module _ (weights coords : List Float) (m k d : ℕ) (hw : All (Within 1099511627776 1) weights) (hc : All (Within 2 1) coords)
-    (lw : length weights ≡ m)
-    (lm : m ≤ 4096) (lk : k ≤ m) (hd : d ≤ 256) where
+    (lw : length weights ≡ m) (lm : m ≤ 4096) (lk : k ≤ m) (hd : d ≤ 256) where
   record Kept (r : Run) : Type 0 where
     pub centers : All (Within 2 1) (r .state .centers)
     pub none : r .doubled ≡ 0
@@ -76,8 +75,7 @@ pub never-doubled : NeverDoubled
 never-doubled weights coords d k rounds state ok some below =
     let s = sizes-met (length weights) d (length coords) (ok .sizes-ok) in
     none-doubled weights coords (length weights) k d (weights-within weights (ok .weights-ok)) (coordinates-within coords (ok .coords-ok))
-    refl (s .1) below (s .3)
-    rounds state
+    refl (s .1) below (s .3) rounds state
 
 -- a sum of zeros
 pub none-over : (f : ℕ → ℕ) (lo n : ℕ) → ((i : ℕ) → lo ≤ i → i < lo + n → f i ≡ 0) → sumOver f lo n ≡ 0

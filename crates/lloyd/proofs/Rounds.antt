@@ -109,8 +109,7 @@ pub record Few (it : ℕ) (c : Counts) : Type 0 where
   pub saved : c .saved ≤ it * 262144
 
 pub few-turn : (weights coords : List Float) (m k d it : ℕ) (s s' : State) (c : Counts) (q : Round)
-    → RoundDone weights coords m k d it s s' q → Few it c
-    → Few (it + 1) (plus c q)
+    → RoundDone weights coords m k d it s s' q → Few it c → Few (it + 1) (plus c q)
 few-turn weights coords m k d it s s' c q r f =
     record { made = omega (arith, f .made, r .made-small); saved = omega (arith, f .saved, r .saved-small) }
 
@@ -131,8 +130,7 @@ module _ (weights coords : List Float) (m k d : ℕ) (whole : Run) where
       }
 
   pub goes-on : (n n' it : ℕ) (s s' : State) (c : Counts) (q : Round) → n ≡ suc n' → RoundDone weights coords m k d it s s' q
-      → q .ended ≡ false → GoesOn n it s c
-      → GoesOn n' (it + 1) s' (plus c q)
+      → q .ended ≡ false → GoesOn n it s c → GoesOn n' (it + 1) s' (plus c q)
   goes-on n n' it s s' c q more done t g =
       let r = running it s c (g .doubled) in
       record {
@@ -141,8 +139,7 @@ module _ (weights coords : List Float) (m k d : ℕ) (whole : Run) where
       }
 
   pub stops : (n n' it : ℕ) (s s' : State) (c : Counts) (q : Round) → n ≡ suc n' → RoundDone weights coords m k d it s s' q
-      → q .ended ≡ true → GoesOn n it s c
-      → Few (it + 1) (plus c q) → it + 1 ≤ 10000 → Lloyded whole s' (plus c q)
+      → q .ended ≡ true → GoesOn n it s c → Few (it + 1) (plus c q) → it + 1 ≤ 10000 → Lloyded whole s' (plus c q)
   stops n n' it s s' c q more done t g =
       lloyd-done (it + 1) (g .doubled) s' (plus c q)
       (run-stop weights coords m k d n n' it (running it s c (g .doubled)) s' q more done t ∙ g .ends)

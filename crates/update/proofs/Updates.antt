@@ -150,8 +150,8 @@ module _ (m k d : ℕ) (w : List Float) (worst : ℕ) (is : worst ≡ argminOf (
 
 -- group c reseeded from the worst-served leaf
 module _ (m k d : ℕ) (coords w : List Float) (c worst : ℕ) (r w' : List Float) (group : GroupOf c k d) (some : 0 < m)
-    (long : total m k d ≤ length w)
-    (full : length r ≡ d) (is : worst ≡ argminOf (take (servedAt m k d + m - servedAt m k d) (drop (servedAt m k d) w))) where
+    (long : total m k d ≤ length w) (full : length r ≡ d)
+    (is : worst ≡ argminOf (take (servedAt m k d + m - servedAt m k d) (drop (servedAt m k d) w))) where
   abbrev marked : List Float
   marked = set (written m k d w c r group long full) (servedAt m k d + worst) bestServed
 
