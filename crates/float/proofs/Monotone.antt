@@ -3,7 +3,8 @@
 use mathlib.Core.Path.{_≡_, refl, sym, ap, _∙_, subst}
 use mathlib.Core.Logic.{⊎-elim}
 use Prim.Native.Nat.{ℕ, zero, suc, _+_, _-_, _*_, _^_, _≤_, _<_, zero-le}
-use native.Mathlib.Nat.{le-refl, mul-comm, mul-assoc, mul-left-comm, add-mul, mul-pos, mul-le-mul-right, add-comm, zero-mul, zero-lt-suc}
+use native.Mathlib.Nat.{le-refl, not-le-of-lt, mul-comm, mul-assoc, mul-left-comm, add-mul, mul-pos, mul-le-mul-right, add-comm, zero-mul}
+use native.Mathlib.Nat.{zero-lt-suc}
 use native.Mathlib.Omega.{arith}
 use mathlib.Core.Bool.{Bool, true, false, not, cond, true≢false}
 use lib.Dec.{T, not-T, ltb, ltb→lt, nltb→le, lit<, lit≤}
@@ -345,30 +346,41 @@ round-not-negative a c C = subst (λ (z : Float). T (le z (round binary64 false 
     at-zero : round binary64 false 0 1 ≡ plusZero
     at-zero = unfold round in refl
 
--- ---- within ±1
-abbrev pub Unit-in : Float → Type 0
-Unit-in x = In (neg (number 1)) (number 1) x
-
-pub unit-in : (x : Float) → Within 1 1 x → Unit-in x
-unfolding ofInt neg lt isNan
-unit-in nan h = absurd h
-unit-in (inf s) h = absurd h
-unit-in (fin true m e) h = (
-  le-of-nlt (fin true m e) (neg (number 1)) tt tt (not-T (ltb (1 * down e) (m * up e * 1)) (λ k. let l = ltb→lt (1 * down e) (m * up e * 1) k in omega arith)),
-  le-of-nlt (number 1) (fin true m e) tt tt tt,
+-- ---- within ±2^k, and so within ±1
+pub power-in : (k : ℕ) (x : Float) → Within (1 * 2 ^ k) 1 x → In (fin true 1 (pos k)) (fin false 1 (pos k)) x
+unfolding isNan lt
+power-in k nan h = absurd h
+power-in k (inf s) h = absurd h
+power-in k (fin true m e) h = (
+  le-of-nlt (fin true m e) (fin true 1 (pos k)) tt tt
+      (not-T (ltb (1 * 2 ^ k * down e) (m * up e * 1)) (λ q. not-le-of-lt (ltb→lt _ _ q) h)),
+  le-of-nlt (fin false 1 (pos k)) (fin true m e) tt tt tt,
 )
-unit-in (fin false m e) h = (
-  le-of-nlt (fin false m e) (neg (number 1)) tt tt tt,
-  le-of-nlt (number 1) (fin false m e) tt tt (not-T (ltb (1 * down e) (m * up e * 1)) (λ k. let l = ltb→lt (1 * down e) (m * up e * 1) k in omega arith)),
+power-in k (fin false m e) h = (
+  le-of-nlt (fin false m e) (fin true 1 (pos k)) tt tt tt,
+  le-of-nlt (fin false 1 (pos k)) (fin false m e) tt tt
+      (not-T (ltb (1 * 2 ^ k * down e) (m * up e * 1)) (λ q. not-le-of-lt (ltb→lt _ _ q) h)),
 )
 
-in-unit : (x : Float) → Unit-in x → Within 1 1 x
-unfolding ofInt neg lt
-in-unit nan h = absurd (unfold le in (h .1))
-in-unit (inf true) h = absurd (unfold le in (h .0))
-in-unit (inf false) h = absurd (unfold le in (h .1))
-in-unit (fin true m e) h = nltb→le (1 * down e) (m * up e * 1) (not-T (ltb (1 * down e) (m * up e * 1)) (nlt-of-le (fin true m e) (neg (number 1)) (h .0)))
-in-unit (fin false m e) h = nltb→le (1 * down e) (m * up e * 1) (not-T (ltb (1 * down e) (m * up e * 1)) (nlt-of-le (number 1) (fin false m e) (h .1)))
+pub in-power : (k : ℕ) (x : Float) → In (fin true 1 (pos k)) (fin false 1 (pos k)) x → Within (1 * 2 ^ k) 1 x
+unfolding lt
+in-power k nan h = absurd (unfold le in (h .1))
+in-power k (inf true) h = absurd (unfold le in (h .0))
+in-power k (inf false) h = absurd (unfold le in (h .1))
+in-power k (fin true m e) h =
+    nltb→le (1 * 2 ^ k * down e) (m * up e * 1)
+    (not-T (ltb (1 * 2 ^ k * down e) (m * up e * 1)) (nlt-of-le (fin true m e) (fin true 1 (pos k)) (h .0)))
+in-power k (fin false m e) h =
+    nltb→le (1 * 2 ^ k * down e) (m * up e * 1)
+    (not-T (ltb (1 * 2 ^ k * down e) (m * up e * 1)) (nlt-of-le (fin false 1 (pos k)) (fin false m e) (h .1)))
+
+pub unit-in : (x : Float) → Within 1 1 x → In (neg (number 1)) (number 1) x
+unfolding ofInt neg
+unit-in x h = power-in 0 x h
+
+in-unit : (x : Float) → In (neg (number 1)) (number 1) x → Within 1 1 x
+unfolding ofInt neg
+in-unit x h = in-power 0 x h
 
 -- x held to ±1
 pub unit-clamp : (x : Float) → T (not (isNan (clampOf x (neg (number 1)) (number 1)))) → Within 1 1 (clampOf x (neg (number 1)) (number 1))
