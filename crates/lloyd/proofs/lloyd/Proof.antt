@@ -37,12 +37,15 @@ whole b =
 abbrev loop-at : tie.After-one-round Inv-loop μ-loop → tie.At-loop Inv-loop μ-loop
 loop-at g = g .before .before .before .before
 
--- the round behind each way
+-- the round, from where its counts are added and behind each way that its test went
+abbrev round-at : tie.After-struct-known2 Inv-loop μ-loop → tie.After-one-round Inv-loop μ-loop
+round-at c = c .before .before .before .before .before .before
+
 abbrev went-on : tie.Else1 Inv-loop μ-loop → tie.After-one-round Inv-loop μ-loop
-went-on c = c .before .before .before .before .before .before .before .before .before
+went-on c = round-at (c .before .before .before)
 
 abbrev ended : tie.Then1 Inv-loop μ-loop → tie.After-one-round Inv-loop μ-loop
-ended c = c .before .before .before .before .before .before .before .before .before
+ended c = round-at (c .before .before .before)
 
 loop-holds : tie.Need-loop-holds Inv-loop μ-loop
 loop-holds c =
@@ -71,12 +74,6 @@ few-at g =
 
 few-rounds : (g : tie.After-one-round Inv-loop μ-loop) → loop-at g .loop .it + 1 ≤ 10000
 few-rounds g = omega (arith, g .before .before .before .loop-test .taken, start (loop-at g) .pre .1 .1)
-
-add-t17 : tie.Need-add-t17 Inv-loop μ-loop
-add-t17 c = let g = c .before .before .before .before .before .before in omega (arith, few-at g .made, few-rounds g)
-
-add-t18 : tie.Need-add-t18 Inv-loop μ-loop
-add-t18 c = let g = c .before .before .before .before .before .before .before .before in omega (arith, few-at g .saved, few-rounds g)
 
 loop-again : tie.Need-loop-again Inv-loop μ-loop
 loop-again c =
@@ -129,8 +126,8 @@ lloyd-spec =
     μ-loop
     loop-holds
     one-round-requires
-    add-t17
-    add-t18
+    (λ c. let g = round-at c in omega (arith, few-at g .made, few-rounds g))
+    (λ c. let g = round-at (c .before .before) in omega (arith, few-at g .saved, few-rounds g))
     (λ c. omega (arith, few-rounds (went-on c)))
     (λ c. omega (arith, went-on c .before .before .before .loop-test .taken))
     loop-again

@@ -20,28 +20,21 @@ run-beside-requires c κs =
     let s = start f in
     let a = s .args in
     roomy-of (length (a .work .now)) _ (length (a .marks .now)) _ (length (a .weights .now)) (length (a .coords .now)) (a .m) (a .k) (a .d)
-    (a .s .rounds)
-    (f .first-runs .kept .0) (f .first-runs .kept .1 .0) (s .pre)
-
-add-t19 : tie.Need-add-t19
-add-t19 c =
-    let r = c .before .before .before .before .before .before in
-    omega (arith, r .run-beside .ensures .made-small, first r .first-runs .ensures .made-small)
+    (a .s .rounds) (f .first-runs .kept .0) (f .first-runs .kept .1 .0) (s .pre)
 
 -- the last run, from where its counts are added
-abbrev last : tie.After-struct-known4 → tie.After-run-beside
-last c = c .before .before .before .before .before .before .before .before
+abbrev last : tie.After-struct-known2 → tie.After-run-beside
+last c = c .before .before .before .before .before .before
 
 returns : tie.Need-returns
 returns c =
-    let r = last c in
+    let r = last (c .before .before) in
     let f = first r in
     let a = start f .args in
     both-done (a .m) (a .k) (a .d) (f .first-runs .last .0) (r .run-beside .last .0)
     (runOf (a .s) (a .weights .now) (a .coords .now) (a .m) (a .k) (a .d) 3)
     (r .run-beside .result) (runsUpTo (a .s) (a .weights .now) (a .coords .now) (a .m) (a .k) (a .d) 2) (f .first-runs .result)
-    (f .first-runs .ensures)
-    (r .run-beside .ensures)
+    (f .first-runs .ensures) (r .run-beside .ensures)
 
 pub four-runs-spec : {M : Type 1} → statement M
 four-runs-spec =
@@ -49,8 +42,8 @@ four-runs-spec =
     (tie.spec
     (λ c κs. search needs)
     run-beside-requires
-    add-t19
-    (λ c. omega (arith, last c .run-beside .ensures .saved-small, first (last c) .first-runs .ensures .saved-small))
-    (λ c. last c .run-beside .kept .0 ∙ first (last c) .first-runs .kept .0)
-    (λ c. last c .run-beside .kept .1 .0 ∙ first (last c) .first-runs .kept .1 .0)
+    (λ c. omega (arith, last c .run-beside .ensures .made-small, first (last c) .first-runs .ensures .made-small))
+    (λ c. let r = last (c .before .before) in omega (arith, r .run-beside .ensures .saved-small, first r .first-runs .ensures .saved-small))
+    (λ c. let r = last (c .before .before) in r .run-beside .kept .0 ∙ first r .first-runs .kept .0)
+    (λ c. let r = last (c .before .before) in r .run-beside .kept .1 .0 ∙ first r .first-runs .kept .1 .0)
     returns)
