@@ -4,27 +4,6 @@ use borrow.Author.Needs.{needs}
 use Rattle.areas.proofs.fill_at.Statement.{statement}
 use Rattle.areas.proofs.fill_at.Tie as tie
 
-add-fill : tie.Need-add-fill
-add-fill c = search needs
-
-mul-fill : tie.Need-mul-fill
-mul-fill c = search needs
-
-sub-fill : tie.Need-sub-fill
-sub-fill c = search needs
-
-part-fill-start : tie.Need-part-fill-start
-part-fill-start c = search needs
-
-part-fill-end : tie.Need-part-fill-end
-part-fill-end c = search needs
-
-fill-requires : tie.Need-fill-requires
-fill-requires c κs = search needs
-
-same-length : tie.Need-same-length
-same-length c = search needs
-
 returns : tie.Need-returns
 returns c =
     let b = c .before .before .before .before .before in
@@ -35,11 +14,11 @@ pub fill-at-spec : {M : Type 1} → statement M
 fill-at-spec =
     tie.close
     (tie.spec
-    add-fill
-    mul-fill
-    sub-fill
-    part-fill-start
-    part-fill-end
-    fill-requires
-    same-length
+    (λ c. search needs)
+    (λ c. search needs)
+    (λ c. search needs)
+    (λ c. search needs)
+    (λ c. search needs)
+    (λ c κs. search needs)
+    (λ c. search needs)
     returns)

@@ -3,9 +3,6 @@ use borrow.Author.Needs.{needs}
 use Rattle.auto.proofs.movmf_auto.Statement.{statement}
 use Rattle.auto.proofs.movmf_auto.Tie as tie
 
-movmf-auto-with-requires : tie.Need-movmf-auto-with-requires
-movmf-auto-with-requires c κs = search needs
-
 same-length : tie.Need-same-length
 same-length c = c .before .before .before .before .before .before .before .before .before .before .before .before .before .before .before .before .movmf-auto-with .kept .1 .1 .1 .1 .1 .1 .0
 
@@ -37,7 +34,7 @@ pub movmf-auto-spec : {M : Type 1} → statement M
 movmf-auto-spec =
     tie.close
     (tie.spec
-    movmf-auto-with-requires
+    (λ c κs. search needs)
     same-length
     same-length-2
     same-length-3

@@ -17,15 +17,6 @@ found s =
     let a = s .args in
     arrays (a .labels .now) (a .responsibilities .now) (a .group-weights .now) (a .directions .now) (a .concentrations .now) (a .logw .now)
 
-highest-number-requires : tie.Need-highest-number-requires
-highest-number-requires c κs = search needs
-
-lowest-number-requires : tie.Need-lowest-number-requires
-lowest-number-requires c κs = search needs
-
-refusal-requires : tie.Need-refusal-requires
-refusal-requires c κs = search needs
-
 returns : tie.Need-returns
 returns c =
     let s = c .before .before .before .before .before .before .before .before .before .before .before .before .before .before in
@@ -40,12 +31,6 @@ returns c =
           (not-refused (found s) (a .weights .now) (a .coords .now) (a .d) (a .k-min) (a .k-max) (a .s) (length (a .work .now)) (length (a .marks .now))
           (l .result) (h .result) (h .ensures) (l .ensures) (r .result) (r .ensures) z)),
     )
-
-sum-requires : tie.Need-sum-requires
-sum-requires c κs = search needs
-
-ln-requires : tie.Need-ln-requires
-ln-requires c κs = search needs
 
 try-numbers-requires : tie.Need-try-numbers-requires
 try-numbers-requires c κs =
@@ -63,9 +48,6 @@ try-numbers-requires c κs =
         c .before .before .before .before .before .before .before .before .ln .ensures ∙ ap lnOf (c .before .before .before .before .before .before .before .before .before .sum .ensures),
       ),
     )
-
-answer-requires : tie.Need-answer-requires
-answer-requires c κs = search needs
 
 same-length : tie.Need-same-length
 same-length c = c .before .before .before .before .before .before .before .before .before .before .before .before .before .before .before .before .before .try-numbers .kept .1 .1 .1 .1 .1 .1 .1 .0
@@ -115,14 +97,14 @@ pub movmf-auto-with-spec : {M : Type 1} → statement M
 movmf-auto-with-spec =
     tie.close
     (tie.spec
-    highest-number-requires
-    lowest-number-requires
-    refusal-requires
+    (λ c κs. search needs)
+    (λ c κs. search needs)
+    (λ c κs. search needs)
     returns
-    sum-requires
-    ln-requires
+    (λ c κs. search needs)
+    (λ c κs. search needs)
     try-numbers-requires
-    answer-requires
+    (λ c κs. search needs)
     same-length
     same-length-2
     same-length-3

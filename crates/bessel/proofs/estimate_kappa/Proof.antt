@@ -12,15 +12,6 @@ int-to-float-d : tie.Need-int-to-float-d
 unfolding inFloat
 int-to-float-d c = le→leb (c .before .args .dim) 9007199254740992 (omega (arith, c .before .pre .most))
 
-clamp-requires : tie.Need-clamp-requires
-clamp-requires c κs = search needs
-
-kappa-max-requires : tie.Need-kappa-max-requires
-kappa-max-requires c κs = search needs
-
-clamp-requires-2 : tie.Need-clamp-requires-2
-clamp-requires-2 c κs = search needs
-
 returns : tie.Need-returns
 unfolding estimateOf ofBits ofInt
 returns c =
@@ -29,4 +20,4 @@ returns c =
 
 pub estimate-kappa-spec : {M : Type 1} → statement M
 estimate-kappa-spec =
-    tie.close (tie.spec int-to-float-d clamp-requires kappa-max-requires clamp-requires-2 returns)
+    tie.close (tie.spec int-to-float-d (λ c κs. search needs) (λ c κs. search needs) (λ c κs. search needs) returns)

@@ -4,15 +4,9 @@ use lib.Ieee.{ofBits, ofInt}
 use Rattle.bessel.proofs.term_after.Statement.{statement}
 use Rattle.bessel.proofs.term_after.Tie as tie
 
-ln-requires : tie.Need-ln-requires
-ln-requires c κs = search needs
-
-ln-requires-2 : tie.Need-ln-requires-2
-ln-requires-2 c κs = search needs
-
 returns : tie.Need-returns
 unfolding ofBits ofInt
 returns c = rw (c .before .ln .ensures, c .ln2 .ensures)
 
 pub term-after-spec : {M : Type 1} → statement M
-term-after-spec = tie.close (tie.spec ln-requires ln-requires-2 returns)
+term-after-spec = tie.close (tie.spec (λ c κs. search needs) (λ c κs. search needs) returns)

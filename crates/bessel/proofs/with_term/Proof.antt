@@ -4,12 +4,6 @@ use lib.Ieee.{ofBits, ofInt}
 use Rattle.bessel.proofs.with_term.Statement.{statement}
 use Rattle.bessel.proofs.with_term.Tie as tie
 
-exp-requires : tie.Need-exp-requires
-exp-requires c κs = search needs
-
-exp-requires-2 : tie.Need-exp-requires-2
-exp-requires-2 c κs = search needs
-
 returns : tie.Need-returns
 unfolding ofBits ofInt
 returns c = rw (c .before .before .before .if1 .taken, c .before .exp .ensures)
@@ -18,4 +12,4 @@ returns-2 : tie.Need-returns-2
 returns-2 c = rw (c .before .before .before .if1 .left, c .before .exp2 .ensures)
 
 pub with-term-spec : {M : Type 1} → statement M
-with-term-spec = tie.close (tie.spec exp-requires exp-requires-2 returns returns-2)
+with-term-spec = tie.close (tie.spec (λ c κs. search needs) (λ c κs. search needs) returns returns-2)

@@ -7,35 +7,8 @@ use Rattle.bounds.proofs.Turns.{lower-within, upper-within, neither}
 use Rattle.bounds.proofs.both_shifted.Statement.{statement}
 use Rattle.bounds.proofs.both_shifted.Tie as tie
 
-clamp-requires : tie.Need-clamp-requires
-clamp-requires c κs = search needs
-
-clamp-requires-2 : tie.Need-clamp-requires-2
-clamp-requires-2 c κs = search needs
-
-clamp-requires-3 : tie.Need-clamp-requires-3
-clamp-requires-3 c κs = search needs
-
-clamp-requires-4 : tie.Need-clamp-requires-4
-clamp-requires-4 c κs = search needs
-
-shift-lower-requires : tie.Need-shift-lower-requires
-shift-lower-requires c κs = search needs
-
-shift-upper-requires : tie.Need-shift-upper-requires
-shift-upper-requires c κs = search needs
-
 returns : tie.Need-returns
 returns c = simp (c .before .shift-lower .ensures, c .shift-upper .ensures)
-
-squares-requires : tie.Need-squares-requires
-squares-requires c κs = search needs
-
-squares-requires-2 : tie.Need-squares-requires-2
-squares-requires-2 c κs = search needs
-
-root2-requires : tie.Need-root2-requires
-root2-requires c κs = search needs
 
 returns-2 : tie.Need-returns-2
 unfolding ofBits ofInt
@@ -58,14 +31,14 @@ pub both-shifted-spec : {M : Type 1} → statement M
 both-shifted-spec =
     tie.close
     (tie.spec
-    clamp-requires
-    clamp-requires-2
-    clamp-requires-3
-    clamp-requires-4
-    shift-lower-requires
-    shift-upper-requires
+    (λ c κs. search needs)
+    (λ c κs. search needs)
+    (λ c κs. search needs)
+    (λ c κs. search needs)
+    (λ c κs. search needs)
+    (λ c κs. search needs)
     returns
-    squares-requires
-    squares-requires-2
-    root2-requires
+    (λ c κs. search needs)
+    (λ c κs. search needs)
+    (λ c κs. search needs)
     returns-2)

@@ -4,12 +4,9 @@ use lib.Ieee.{ofBits}
 use Rattle.bounds.proofs.foot.Statement.{statement}
 use Rattle.bounds.proofs.foot.Tie as tie
 
-clamp-requires : tie.Need-clamp-requires
-clamp-requires c κs = search needs
-
 returns : tie.Need-returns
 unfolding ofBits
 returns c = c .clamp .ensures
 
 pub foot-spec : {M : Type 1} → statement M
-foot-spec = tie.close (tie.spec clamp-requires returns)
+foot-spec = tie.close (tie.spec (λ c κs. search needs) returns)

@@ -11,15 +11,6 @@ close-is : (x y a e c : Float) (r s : Bool) → c ≡ footOf (sub binary64 x y) 
     → ((r && s) && lt (sub binary64 (sub binary64 x c) (add binary64 y (sub binary64 (sub binary64 x y) c))) slack) ≡ closeOf x y a e
 close-is x y a e c r s p q t = rw (q, t) (ap (λ (z : Float). closeBy x y a e z (sub binary64 (sub binary64 x y) z)) p)
 
-foot-requires : tie.Need-foot-requires
-foot-requires c κs = search needs
-
-reaches-requires : tie.Need-reaches-requires
-reaches-requires c κs = search needs
-
-reaches-requires-2 : tie.Need-reaches-requires-2
-reaches-requires-2 c κs = search needs
-
 returns : tie.Need-returns
 returns c =
     let f = c .before .before in
@@ -27,4 +18,4 @@ returns c =
     close-is (x .x) (x .y) (x .a) (x .e) (f .foot .result) (c .before .reaches .result) (c .reaches2 .result) (f .foot .ensures) (c .before .reaches .ensures) (c .reaches2 .ensures)
 
 pub is-close-spec : {M : Type 1} → statement M
-is-close-spec = tie.close (tie.spec foot-requires reaches-requires reaches-requires-2 returns)
+is-close-spec = tie.close (tie.spec (λ c κs. search needs) (λ c κs. search needs) (λ c κs. search needs) returns)

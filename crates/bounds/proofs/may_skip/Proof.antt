@@ -21,18 +21,6 @@ module _ (b : Bounds) (own other l p u q : Float) (el : l ≡ cosine (b .low)) (
       → a ≡ squaresOf l p → e ≡ squaresOf u q → k ≡ closeOf (mul binary64 l p) (mul binary64 u q) a e → not k ≡ maySkip own other b
   close-or-not a e k t g sa se h = rw (← el, ← ep, ← eu, ← eq, t, g, h, sa, se)
 
-clamp-requires : tie.Need-clamp-requires
-clamp-requires c κs = search needs
-
-clamp-requires-2 : tie.Need-clamp-requires-2
-clamp-requires-2 c κs = search needs
-
-clamp-requires-3 : tie.Need-clamp-requires-3
-clamp-requires-3 c κs = search needs
-
-clamp-requires-4 : tie.Need-clamp-requires-4
-clamp-requires-4 c κs = search needs
-
 returns : tie.Need-returns
 unfolding ofBits ofInt
 returns c =
@@ -46,15 +34,6 @@ returns-2 c =
     let m = c .before .before in
     let x = m .before .before .before .before .args in
     past (x .b) (x .own) (x .other) _ _ _ _ (m .before .before .before .clamp .ensures) (m .before .before .clamp2 .ensures) (m .before .clamp3 .ensures) (m .clamp4 .ensures) (c .before .if1 .left) (c .if2 .taken)
-
-squares-requires : tie.Need-squares-requires
-squares-requires c κs = search needs
-
-squares-requires-2 : tie.Need-squares-requires-2
-squares-requires-2 c κs = search needs
-
-is-close-requires : tie.Need-is-close-requires
-is-close-requires c κs = search needs
 
 returns-3 : tie.Need-returns-3
 unfolding ofBits ofInt
@@ -70,13 +49,13 @@ pub may-skip-spec : {M : Type 1} → statement M
 may-skip-spec =
     tie.close
     (tie.spec
-    clamp-requires
-    clamp-requires-2
-    clamp-requires-3
-    clamp-requires-4
+    (λ c κs. search needs)
+    (λ c κs. search needs)
+    (λ c κs. search needs)
+    (λ c κs. search needs)
     returns
     returns-2
-    squares-requires
-    squares-requires-2
-    is-close-requires
+    (λ c κs. search needs)
+    (λ c κs. search needs)
+    (λ c κs. search needs)
     returns-3)

@@ -5,21 +5,12 @@ use Rattle.bounds.proofs.Turns.{upper-past, upper-within}
 use Rattle.bounds.proofs.shift_upper.Statement.{statement}
 use Rattle.bounds.proofs.shift_upper.Tie as tie
 
-clamp-requires : tie.Need-clamp-requires
-clamp-requires c κs = search needs
-
-clamp-requires-2 : tie.Need-clamp-requires-2
-clamp-requires-2 c κs = search needs
-
 returns : tie.Need-returns
 unfolding ofBits ofInt
 returns c =
     let m = c .before in
     let x = m .before .before .args in
     upper-past (x .u) (x .p) (m .before .clamp .result) (m .clamp2 .result) (m .before .clamp .ensures) (m .clamp2 .ensures) (c .if1 .taken)
-
-sines-requires : tie.Need-sines-requires
-sines-requires c κs = search needs
 
 returns-2 : tie.Need-returns-2
 unfolding ofBits ofInt
@@ -32,4 +23,4 @@ returns-2 c =
 
 pub shift-upper-spec : {M : Type 1} → statement M
 shift-upper-spec =
-    tie.close (tie.spec clamp-requires clamp-requires-2 returns sines-requires returns-2)
+    tie.close (tie.spec (λ c κs. search needs) (λ c κs. search needs) returns (λ c κs. search needs) returns-2)

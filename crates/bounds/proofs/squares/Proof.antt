@@ -4,12 +4,9 @@ use lib.Ieee.{ofBits, ofInt}
 use Rattle.bounds.proofs.squares.Statement.{statement}
 use Rattle.bounds.proofs.squares.Tie as tie
 
-max-requires : tie.Need-max-requires
-max-requires c κs = search needs
-
 returns : tie.Need-returns
 unfolding ofBits ofInt
 returns c = c .max .ensures
 
 pub squares-spec : {M : Type 1} → statement M
-squares-spec = tie.close (tie.spec max-requires returns)
+squares-spec = tie.close (tie.spec (λ c κs. search needs) returns)

@@ -21,21 +21,6 @@ loop-holds : tie.Need-loop-holds Inv-loop μ-loop
 unfolding div ofBits slowestUpTo
 loop-holds c = (search needs, refl)
 
-mul-slower : tie.Need-mul-slower Inv-loop μ-loop
-mul-slower c = search needs
-
-shared-slice-read-slower : tie.Need-shared-slice-read-slower Inv-loop μ-loop
-shared-slice-read-slower c = search needs
-
-slower-requires : tie.Need-slower-requires Inv-loop μ-loop
-slower-requires c κs = search needs
-
-add-c : tie.Need-add-c Inv-loop μ-loop
-add-c c = search needs
-
-loop-less : tie.Need-loop-less Inv-loop μ-loop
-loop-less c = search needs
-
 loop-again : tie.Need-loop-again Inv-loop μ-loop
 loop-again c =
     let l = c .before .before .before in
@@ -54,10 +39,10 @@ two-smallest-spec =
     Inv-loop
     μ-loop
     loop-holds
-    mul-slower
-    shared-slice-read-slower
-    slower-requires
-    add-c
-    loop-less
+    (λ c. search needs)
+    (λ c. search needs)
+    (λ c κs. search needs)
+    (λ c. search needs)
+    (λ c. search needs)
     loop-again
     returns)

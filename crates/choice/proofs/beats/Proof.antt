@@ -5,11 +5,8 @@ use borrow.Author.Needs.{needs}
 use Rattle.choice.proofs.beats.Statement.{statement}
 use Rattle.choice.proofs.beats.Tie as tie
 
-held-score-requires : tie.Need-held-score-requires
-held-score-requires c κs = search needs
-
 returns : tie.Need-returns
 returns c = ap (λ (h : Float). lt (c .before .args .score) h) (c .held-score .ensures)
 
 pub beats-spec : {M : Type 1} → statement M
-beats-spec = tie.close (tie.spec held-score-requires returns)
+beats-spec = tie.close (tie.spec (λ c κs. search needs) returns)

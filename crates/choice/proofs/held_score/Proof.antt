@@ -4,18 +4,9 @@ use borrow.Author.Needs.{needs}
 use Rattle.choice.proofs.held_score.Statement.{statement}
 use Rattle.choice.proofs.held_score.Tie as tie
 
-enum-known-c : tie.Need-enum-known-c
-enum-known-c c = search needs
-
-enum-told : tie.Need-enum-told
-enum-told c = search needs
-
-returns : tie.Need-returns
-returns c = search needs
-
 returns-2 : tie.Need-returns-2
 unfolding div ofBits
 returns-2 c = rw (c .enum-told .given .1)
 
 pub held-score-spec : {M : Type 1} → statement M
-held-score-spec = tie.close (tie.spec enum-known-c enum-told returns returns-2)
+held-score-spec = tie.close (tie.spec (λ c. search needs) (λ c. search needs) (λ c. search needs) returns-2)

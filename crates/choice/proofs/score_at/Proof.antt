@@ -17,9 +17,6 @@ few : (kappa : Kappa) (k d : ℕ) → k ≤ 64 → k * d ≤ 16384 → parameter
 few Free k d h g = omega arith
 few Shared k d h g = omega arith
 
-parameters-requires : tie.Need-parameters-requires
-parameters-requires c κs = search needs
-
 int-to-float-result : tie.Need-int-to-float-result
 unfolding inFloat
 int-to-float-result c =
@@ -35,4 +32,4 @@ returns c =
     ap (λ (p : ℕ). add binary64 (mul binary64 (neg (number 2)) (a .loglik)) (mul binary64 (number p) (a .ln-total))) (c .before .parameters .ensures)
 
 pub score-at-spec : {M : Type 1} → statement M
-score-at-spec = tie.close (tie.spec parameters-requires int-to-float-result returns)
+score-at-spec = tie.close (tie.spec (λ c κs. search needs) int-to-float-result returns)

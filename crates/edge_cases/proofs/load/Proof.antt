@@ -13,39 +13,6 @@ Inv-loop v₀ line at n j₀ v j = (length v ≡ length v₀) × (j ≤ n)
 abbrev μ-loop : tie.MeasureT-loop
 μ-loop v₀ line at n j₀ v j = n - j
 
-word-requires : tie.Need-word-requires Inv-loop μ-loop
-word-requires c κs = search needs
-
-least-requires : tie.Need-least-requires Inv-loop μ-loop
-least-requires c κs = search needs
-
-loop-holds : tie.Need-loop-holds Inv-loop μ-loop
-loop-holds c = search needs
-
-element-requires : tie.Need-element-requires Inv-loop μ-loop
-element-requires c κs = search needs
-
-of-bits-requires : tie.Need-of-bits-requires Inv-loop μ-loop
-of-bits-requires c κs = search needs
-
-mul-v : tie.Need-mul-v Inv-loop μ-loop
-mul-v c = search needs
-
-slice-write-v : tie.Need-slice-write-v Inv-loop μ-loop
-slice-write-v c = search needs
-
-add-j : tie.Need-add-j Inv-loop μ-loop
-add-j c = search needs
-
-loop-less : tie.Need-loop-less Inv-loop μ-loop
-loop-less c = search needs
-
-loop-again : tie.Need-loop-again Inv-loop μ-loop
-loop-again c = search needs
-
-same-length : tie.Need-same-length Inv-loop μ-loop
-same-length c = search needs
-
 returns : tie.Need-returns Inv-loop μ-loop
 returns c =
     let n = c .before .before .least .result in
@@ -59,15 +26,15 @@ load-spec =
     (tie.spec
     Inv-loop
     μ-loop
-    word-requires
-    least-requires
-    loop-holds
-    element-requires
-    of-bits-requires
-    mul-v
-    slice-write-v
-    add-j
-    loop-less
-    loop-again
-    same-length
+    (λ c κs. search needs)
+    (λ c κs. search needs)
+    (λ c. search needs)
+    (λ c κs. search needs)
+    (λ c κs. search needs)
+    (λ c. search needs)
+    (λ c. search needs)
+    (λ c. search needs)
+    (λ c. search needs)
+    (λ c. search needs)
+    (λ c. search needs)
     returns)

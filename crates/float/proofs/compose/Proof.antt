@@ -4,12 +4,6 @@ use borrow.Author.Needs.{needs}
 use Rattle.float.proofs.compose.Statement.{statement}
 use Rattle.float.proofs.compose.Tie as tie
 
-mul-result : tie.Need-mul-result
-mul-result c = search needs
-
-add-result : tie.Need-add-result
-add-result c = search needs
-
 float-from-bits-result : tie.Need-float-from-bits-result
 float-from-bits-result c = composed-no-nan (c .args .y) (c .args .k) (c .pre .0) (c .pre .1) (c .pre .2)
 
@@ -17,4 +11,4 @@ returns : tie.Need-returns
 returns c = composed (c .args .y) (c .args .k) (c .pre .0) (c .pre .1) (c .pre .2)
 
 pub compose-spec : {M : Type 1} → statement M
-compose-spec = tie.close (tie.spec mul-result add-result float-from-bits-result returns)
+compose-spec = tie.close (tie.spec (λ c. search needs) (λ c. search needs) float-from-bits-result returns)

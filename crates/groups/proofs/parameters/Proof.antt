@@ -3,24 +3,6 @@ use borrow.Author.Needs.{needs}
 use Rattle.groups.proofs.parameters.Statement.{statement}
 use Rattle.groups.proofs.parameters.Tie as tie
 
-enum-told : tie.Need-enum-told
-enum-told c = search needs
-
-mul-result : tie.Need-mul-result
-mul-result c = search needs
-
-add-result : tie.Need-add-result
-add-result c = search needs
-
-sub-result : tie.Need-sub-result
-sub-result c = search needs
-
-enum-told-2 : tie.Need-enum-told-2
-enum-told-2 c = search needs
-
-mul-result-2 : tie.Need-mul-result-2
-mul-result-2 c = search needs
-
 returns : tie.Need-returns
 returns c = rw (c .enum-told .given .1)
 
@@ -31,11 +13,11 @@ pub parameters-spec : {M : Type 1} → statement M
 parameters-spec =
     tie.close
     (tie.spec
-    enum-told
-    mul-result
-    add-result
-    sub-result
-    enum-told-2
-    mul-result-2
+    (λ c. search needs)
+    (λ c. search needs)
+    (λ c. search needs)
+    (λ c. search needs)
+    (λ c. search needs)
+    (λ c. search needs)
     returns
     returns-2)

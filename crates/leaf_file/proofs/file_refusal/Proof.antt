@@ -11,15 +11,6 @@ returns : tie.Need-returns
 unfolding fileRefusal
 returns c = search (le-leb, lt-leb, needs)
 
-u32-at-requires : tie.Need-u32-at-requires
-u32-at-requires c κs = search needs
-
-u32-at-requires-2 : tie.Need-u32-at-requires-2
-u32-at-requires-2 c κs = search needs
-
-sizes-refusal-requires : tie.Need-sizes-refusal-requires
-sizes-refusal-requires c κs = search needs
-
 returns-2 : tie.Need-returns-2
 returns-2 c =
     let a = c .before .before .before .before .before .args in
@@ -27,4 +18,4 @@ returns-2 c =
 
 pub file-refusal-spec : {M : Type 1} → statement M
 file-refusal-spec =
-    tie.close (tie.spec returns u32-at-requires u32-at-requires-2 sizes-refusal-requires returns-2)
+    tie.close (tie.spec returns (λ c κs. search needs) (λ c κs. search needs) (λ c κs. search needs) returns-2)

@@ -10,9 +10,6 @@ use borrow.Author.Needs.{needs}
 use Rattle.leaf_file.proofs.fit_file.Statement.{statement}
 use Rattle.leaf_file.proofs.fit_file.Tie as tie
 
-file-refusal-requires : tie.Need-file-refusal-requires
-file-refusal-requires c κs = search needs
-
 returns : tie.Need-returns
 returns c =
     let a = c .before .before .before .before .args in
@@ -32,17 +29,8 @@ u32-at-requires c κs = omega (arith, headed c)
 u32-at-requires-2 : tie.Need-u32-at-requires-2
 u32-at-requires-2 c κs = omega (arith, headed (c .before))
 
-slice-aggregate-fit-sized : tie.Need-slice-aggregate-fit-sized
-slice-aggregate-fit-sized c = search needs
-
-slice-aggregate-fit-sized-2 : tie.Need-slice-aggregate-fit-sized-2
-slice-aggregate-fit-sized-2 c = search needs
-
 fit-sized-requires : tie.Need-fit-sized-requires
 fit-sized-requires c κs = sized (c .before .before .before .before .before .before .before .before .before .args .bytes .now) _ _ (c .before .before .before .before .u32-at .ensures .0) (c .before .before .before .u32-at2 .ensures .0) (none (c .before .before .before .before .before)) .1
-
-same-length : tie.Need-same-length
-same-length c = search needs
 
 returns-2 : tie.Need-returns-2
 returns-2 c =
@@ -53,12 +41,12 @@ pub fit-file-spec : {M : Type 1} → statement M
 fit-file-spec =
     tie.close
     (tie.spec
-    file-refusal-requires
+    (λ c κs. search needs)
     returns
     u32-at-requires
     u32-at-requires-2
-    slice-aggregate-fit-sized
-    slice-aggregate-fit-sized-2
+    (λ c. search needs)
+    (λ c. search needs)
     fit-sized-requires
-    same-length
+    (λ c. search needs)
     returns-2)

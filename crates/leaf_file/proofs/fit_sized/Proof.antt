@@ -12,12 +12,6 @@ use borrow.Author.Needs.{needs}
 use Rattle.leaf_file.proofs.fit_sized.Statement.{statement}
 use Rattle.leaf_file.proofs.fit_sized.Tie as tie
 
-mul-n : tie.Need-mul-n
-mul-n c = search needs
-
-slice-relend-prefix-load : tie.Need-slice-relend-prefix-load
-slice-relend-prefix-load c = search needs
-
 slice-aggregate-load : tie.Need-slice-aggregate-load
 slice-aggregate-load c =
     let s = c .before .before .before .before .before in
@@ -28,27 +22,15 @@ load-requires c κs =
     let s = c .before .before .before .before .before in
     omega (arith, s .pre .whole, length-take-le (s .args .m) (s .args .weights .now) (s .pre .leaves))
 
-slice-relend-prefix-load-2 : tie.Need-slice-relend-prefix-load-2
-slice-relend-prefix-load-2 c = search needs
-
 slice-aggregate-load-2 : tie.Need-slice-aggregate-load-2
 slice-aggregate-load-2 c =
     let s = c .before .before .before .before .before .before .before .before .before in
     sym (length-take-le (s .args .m * s .args .d) (s .args .coords .now) (s .pre .numbers))
 
-mul-load : tie.Need-mul-load
-mul-load c = search needs
-
-add-load : tie.Need-add-load
-add-load c = search needs
-
 load-requires-2 : tie.Need-load-requires-2
 load-requires-2 c κs =
     let s = c .before .before .before .before .before .before .before .before .before in
     omega (arith, s .pre .whole, length-take-le (s .args .m * s .args .d) (s .args .coords .now) (s .pre .numbers))
-
-slice-reshare-prefix-fit-leaves : tie.Need-slice-reshare-prefix-fit-leaves
-slice-reshare-prefix-fit-leaves c = search needs
 
 slice-aggregate-fit-leaves : tie.Need-slice-aggregate-fit-leaves
 slice-aggregate-fit-leaves c =
@@ -57,27 +39,12 @@ slice-aggregate-fit-leaves c =
     let f : ℕ → Float = λ (i : ℕ). f64At (a .bytes .now) (8 + 8 * i) in
     sym (ap length (front-read f (a .weights .now) _ (a .m) (s .pre .leaves) (c .before .before .before .before .before .before .before .load .ensures)) ∙ tabulate-length f (a .m))
 
-slice-reshare-prefix-fit-leaves-2 : tie.Need-slice-reshare-prefix-fit-leaves-2
-slice-reshare-prefix-fit-leaves-2 c = search needs
-
 slice-aggregate-fit-leaves-2 : tie.Need-slice-aggregate-fit-leaves-2
 slice-aggregate-fit-leaves-2 c =
     let s = c .before .before .before .before .before .before .before .before .before .before .before .before .before .before in
     let a = s .args in
     let g : ℕ → Float = λ (i : ℕ). f64At (a .bytes .now) (8 + 8 * a .m + 8 * i) in
     sym (ap length (front-read g (a .coords .now) _ (a .m * a .d) (s .pre .numbers) (c .before .before .before .before .load2 .ensures)) ∙ tabulate-length g (a .m * a .d))
-
-fit-leaves-requires : tie.Need-fit-leaves-requires
-fit-leaves-requires c κs = search needs
-
-same-length : tie.Need-same-length
-same-length c = search needs
-
-same-length-2 : tie.Need-same-length-2
-same-length-2 c = search needs
-
-same-length-3 : tie.Need-same-length-3
-same-length-3 c = search needs
 
 returns : tie.Need-returns
 returns c =
@@ -94,21 +61,21 @@ pub fit-sized-spec : {M : Type 1} → statement M
 fit-sized-spec =
     tie.close
     (tie.spec
-    mul-n
-    slice-relend-prefix-load
+    (λ c. search needs)
+    (λ c. search needs)
     slice-aggregate-load
     load-requires
-    slice-relend-prefix-load-2
+    (λ c. search needs)
     slice-aggregate-load-2
-    mul-load
-    add-load
+    (λ c. search needs)
+    (λ c. search needs)
     load-requires-2
-    slice-reshare-prefix-fit-leaves
+    (λ c. search needs)
     slice-aggregate-fit-leaves
-    slice-reshare-prefix-fit-leaves-2
+    (λ c. search needs)
     slice-aggregate-fit-leaves-2
-    fit-leaves-requires
-    same-length
-    same-length-2
-    same-length-3
+    (λ c κs. search needs)
+    (λ c. search needs)
+    (λ c. search needs)
+    (λ c. search needs)
     returns)

@@ -7,18 +7,6 @@ use borrow.Author.Needs.{needs}
 use Rattle.leaf_file.proofs.list_file.Statement.{statement}
 use Rattle.leaf_file.proofs.list_file.Tie as tie
 
-slice-aggregate-fit-file : tie.Need-slice-aggregate-fit-file
-slice-aggregate-fit-file c = search needs
-
-fit-file-requires : tie.Need-fit-file-requires
-fit-file-requires c κs = search needs
-
-shops-requires : tie.Need-shops-requires
-shops-requires c κs = search needs
-
-array-share-prefix-labels : tie.Need-array-share-prefix-labels
-array-share-prefix-labels c = search needs
-
 slice-aggregate-put-answer : tie.Need-slice-aggregate-put-answer
 slice-aggregate-put-answer c =
     let m = c .before .before .shops in
@@ -41,10 +29,10 @@ pub list-file-spec : {M : Type 1} → statement M
 list-file-spec =
     tie.close
     (tie.spec
-    slice-aggregate-fit-file
-    fit-file-requires
-    shops-requires
-    array-share-prefix-labels
+    (λ c. search needs)
+    (λ c κs. search needs)
+    (λ c κs. search needs)
+    (λ c. search needs)
     slice-aggregate-put-answer
     put-answer-requires
     returns)

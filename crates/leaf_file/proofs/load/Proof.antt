@@ -21,36 +21,12 @@ loop-holds : tie.Need-loop-holds Inv-loop μ-loop
 unfolding tabulate
 loop-holds c = (omega arith, refl, refl)
 
-mul-f64-at : tie.Need-mul-f64-at Inv-loop μ-loop
-mul-f64-at c = search needs
-
-add-f64-at : tie.Need-add-f64-at Inv-loop μ-loop
-add-f64-at c = search needs
-
-f64-at-requires : tie.Need-f64-at-requires Inv-loop μ-loop
-f64-at-requires c κs = search needs
-
-mul-out : tie.Need-mul-out Inv-loop μ-loop
-mul-out c = search needs
-
-slice-write-out : tie.Need-slice-write-out Inv-loop μ-loop
-slice-write-out c = search needs
-
-add-i : tie.Need-add-i Inv-loop μ-loop
-add-i c = search needs
-
-loop-less : tie.Need-loop-less Inv-loop μ-loop
-loop-less c = search needs
-
 loop-again : tie.Need-loop-again Inv-loop μ-loop
 loop-again c =
     let l = c .before .before .loop in
     let a = c .before .before .before .before .before .args in
     let f : ℕ → Float = λ (n : ℕ). f64At (a .bytes .now) (a .at + 8 * n) in
     (omega arith, search needs, listed-turn f (l .out) (l .i) (c .f64-at .result) (omega arith) (c .f64-at .ensures) (l .inv .2))
-
-same-length : tie.Need-same-length Inv-loop μ-loop
-same-length c = search needs
 
 returns : tie.Need-returns Inv-loop μ-loop
 returns c =
@@ -66,13 +42,13 @@ load-spec =
     Inv-loop
     μ-loop
     loop-holds
-    mul-f64-at
-    add-f64-at
-    f64-at-requires
-    mul-out
-    slice-write-out
-    add-i
-    loop-less
+    (λ c. search needs)
+    (λ c. search needs)
+    (λ c κs. search needs)
+    (λ c. search needs)
+    (λ c. search needs)
+    (λ c. search needs)
+    (λ c. search needs)
     loop-again
-    same-length
+    (λ c. search needs)
     returns)

@@ -7,18 +7,6 @@ use borrow.Author.Needs.{needs}
 use Rattle.leaf_file.proofs.put_number.Statement.{statement}
 use Rattle.leaf_file.proofs.put_number.Tie as tie
 
-put-word-requires : tie.Need-put-word-requires
-put-word-requires c κs = search needs
-
-put-decimal-requires : tie.Need-put-decimal-requires
-put-decimal-requires c κs = search needs
-
-put-byte-requires : tie.Need-put-byte-requires
-put-byte-requires c κs = search needs
-
-same-length : tie.Need-same-length
-same-length c = search needs
-
 returns : tie.Need-returns
 returns c =
     let a = c .before .before .before .before .before .before .before .before .before .before .before .before .before .before .args in
@@ -32,4 +20,4 @@ returns c =
 pub put-number-spec : {M : Type 1} → statement M
 put-number-spec =
     tie.close
-    (tie.spec put-word-requires put-decimal-requires put-byte-requires same-length returns)
+    (tie.spec (λ c κs. search needs) (λ c κs. search needs) (λ c κs. search needs) (λ c. search needs) returns)

@@ -27,30 +27,12 @@ loop-holds : tie.Need-loop-holds Inv-loop μ-loop
 unfolding shopLines
 loop-holds c = (omega arith, refl, omega arith, put-none (c .before .before .args .out .now) (c .before .before .args .at))
 
-mul-put-shop : tie.Need-mul-put-shop Inv-loop μ-loop
-mul-put-shop c = search needs
-
-shared-slice-read-put-shop : tie.Need-shared-slice-read-put-shop Inv-loop μ-loop
-shared-slice-read-put-shop c = search needs
-
-put-shop-requires : tie.Need-put-shop-requires Inv-loop μ-loop
-put-shop-requires c κs = search needs
-
-add-i : tie.Need-add-i Inv-loop μ-loop
-add-i c = search needs
-
-loop-less : tie.Need-loop-less Inv-loop μ-loop
-loop-less c = search needs
-
 loop-again : tie.Need-loop-again Inv-loop μ-loop
 loop-again c =
     let l = c .before .before .before .before .before .before .loop in
     let a = c .before .before .before .before .before .before .before .before .before .args in
     let v = c .before .before .put-shop in
     (omega arith, search needs, omega (arith, v .ensures .1, l .inv .2), more (a .labels .now) (a .out .now) (l .out) _ (a .at) (l .i) (l .end) _ (l .inv .3) (v .ensures .0))
-
-same-length : tie.Need-same-length Inv-loop μ-loop
-same-length c = search needs
 
 returns : tie.Need-returns Inv-loop μ-loop
 returns c =
@@ -66,11 +48,11 @@ put-shops-spec =
     Inv-loop
     μ-loop
     loop-holds
-    mul-put-shop
-    shared-slice-read-put-shop
-    put-shop-requires
-    add-i
-    loop-less
+    (λ c. search needs)
+    (λ c. search needs)
+    (λ c κs. search needs)
+    (λ c. search needs)
+    (λ c. search needs)
     loop-again
-    same-length
+    (λ c. search needs)
     returns)

@@ -10,16 +10,10 @@ use Rattle.leaf_file.proofs.shops.Tie as tie
 returns : tie.Need-returns
 returns c = let b = c .before .before .args .bytes .now in (omega arith, λ z. absurd (omega (arith, sized b (wholeAt b 0 4) (wholeAt b 4 4) refl refl z .0)))
 
-u32-at-requires : tie.Need-u32-at-requires
-u32-at-requires c κs = search needs
-
 returns-2 : tie.Need-returns-2
 returns-2 c =
     let b = c .before .before .before .before .args .bytes .now in
     (omega arith, λ z. absurd (omega (arith, sized b (wholeAt b 0 4) (wholeAt b 4 4) refl refl z .1 .leaves, c .before .u32-at .ensures .0)))
 
-returns-3 : tie.Need-returns-3
-returns-3 c = search needs
-
 pub shops-spec : {M : Type 1} → statement M
-shops-spec = tie.close (tie.spec returns u32-at-requires returns-2 returns-3)
+shops-spec = tie.close (tie.spec returns (λ c κs. search needs) returns-2 (λ c. search needs))

@@ -23,12 +23,6 @@ returns-2 c = search (le-leb, lt-leb, needs)
 mul-coords : tie.Need-mul-coords
 mul-coords c = search (product c, needs)
 
-mul-if3 : tie.Need-mul-if3
-mul-if3 c = search needs
-
-add-if3 : tie.Need-add-if3
-add-if3 c = search needs
-
 mul-if3-2 : tie.Need-mul-if3-2
 mul-if3-2 c = search (product c, needs)
 
@@ -44,4 +38,4 @@ returns-4 c = search (le-leb, lt-leb, eq-eqb, needs)
 pub sizes-refusal-spec : {M : Type 1} → statement M
 sizes-refusal-spec =
     tie.close
-    (tie.spec returns returns-2 mul-coords mul-if3 add-if3 mul-if3-2 add-if3-2 returns-3 returns-4)
+    (tie.spec returns returns-2 mul-coords (λ c. search needs) (λ c. search needs) mul-if3-2 add-if3-2 returns-3 returns-4)

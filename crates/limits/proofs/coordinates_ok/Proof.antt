@@ -16,24 +16,6 @@ Inv-loop xs j₀ j = (j ≤ length xs) × (every coordinateOk (drop j xs) ≡ ev
 abbrev μ-loop : tie.MeasureT-loop
 μ-loop xs j₀ j = length xs - j
 
-loop-holds : tie.Need-loop-holds Inv-loop μ-loop
-loop-holds c = search needs
-
-mul-coordinate-ok : tie.Need-mul-coordinate-ok Inv-loop μ-loop
-mul-coordinate-ok c = search needs
-
-shared-slice-read-coordinate-ok : tie.Need-shared-slice-read-coordinate-ok Inv-loop μ-loop
-shared-slice-read-coordinate-ok c = search needs
-
-coordinate-ok-requires : tie.Need-coordinate-ok-requires Inv-loop μ-loop
-coordinate-ok-requires c κs = search needs
-
-add-j : tie.Need-add-j Inv-loop μ-loop
-add-j c = search needs
-
-loop-less : tie.Need-loop-less Inv-loop μ-loop
-loop-less c = search needs
-
 loop-again : tie.Need-loop-again Inv-loop μ-loop
 loop-again c =
     let l = c .before .before .before .before in
@@ -55,12 +37,12 @@ coordinates-ok-spec =
     (tie.spec
     Inv-loop
     μ-loop
-    loop-holds
-    mul-coordinate-ok
-    shared-slice-read-coordinate-ok
-    coordinate-ok-requires
-    add-j
-    loop-less
+    (λ c. search needs)
+    (λ c. search needs)
+    (λ c. search needs)
+    (λ c κs. search needs)
+    (λ c. search needs)
+    (λ c. search needs)
     loop-again
     returns
     returns-2)

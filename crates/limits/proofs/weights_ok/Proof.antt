@@ -16,24 +16,6 @@ Inv-loop ws j₀ j = (j ≤ length ws) × (every weightOk (drop j ws) ≡ every 
 abbrev μ-loop : tie.MeasureT-loop
 μ-loop ws j₀ j = length ws - j
 
-loop-holds : tie.Need-loop-holds Inv-loop μ-loop
-loop-holds c = search needs
-
-mul-weight-ok : tie.Need-mul-weight-ok Inv-loop μ-loop
-mul-weight-ok c = search needs
-
-shared-slice-read-weight-ok : tie.Need-shared-slice-read-weight-ok Inv-loop μ-loop
-shared-slice-read-weight-ok c = search needs
-
-weight-ok-requires : tie.Need-weight-ok-requires Inv-loop μ-loop
-weight-ok-requires c κs = search needs
-
-add-j : tie.Need-add-j Inv-loop μ-loop
-add-j c = search needs
-
-loop-less : tie.Need-loop-less Inv-loop μ-loop
-loop-less c = search needs
-
 loop-again : tie.Need-loop-again Inv-loop μ-loop
 loop-again c =
     let l = c .before .before .before .before in
@@ -55,12 +37,12 @@ weights-ok-spec =
     (tie.spec
     Inv-loop
     μ-loop
-    loop-holds
-    mul-weight-ok
-    shared-slice-read-weight-ok
-    weight-ok-requires
-    add-j
-    loop-less
+    (λ c. search needs)
+    (λ c. search needs)
+    (λ c. search needs)
+    (λ c κs. search needs)
+    (λ c. search needs)
+    (λ c. search needs)
     loop-again
     returns
     returns-2)

@@ -24,29 +24,11 @@ mul-needed-2 c = omega (arith, products c)
 add-needed : tie.Need-add-needed
 add-needed c = omega (arith, products c)
 
-mul-needed-3 : tie.Need-mul-needed-3
-mul-needed-3 c = search needs
-
 add-needed-2 : tie.Need-add-needed-2
 add-needed-2 c = omega (arith, products c)
 
-mul-needed-4 : tie.Need-mul-needed-4
-mul-needed-4 c = search needs
-
 add-needed-3 : tie.Need-add-needed-3
 add-needed-3 c = omega (arith, products c)
-
-mul-noted : tie.Need-mul-noted
-mul-noted c = search needs
-
-mul-noted-2 : tie.Need-mul-noted-2
-mul-noted-2 c = search needs
-
-add-noted : tie.Need-add-noted
-add-noted c = search needs
-
-returns : tie.Need-returns
-returns c = search needs
 
 pub work-ok-spec : {M : Type 1} → statement M
 work-ok-spec =
@@ -57,11 +39,11 @@ work-ok-spec =
     mul-needed
     mul-needed-2
     add-needed
-    mul-needed-3
+    (λ c. search needs)
     add-needed-2
-    mul-needed-4
+    (λ c. search needs)
     add-needed-3
-    mul-noted
-    mul-noted-2
-    add-noted
-    returns)
+    (λ c. search needs)
+    (λ c. search needs)
+    (λ c. search needs)
+    (λ c. search needs))

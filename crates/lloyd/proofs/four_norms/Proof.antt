@@ -23,84 +23,6 @@ norms-done : (l : List Float) (d i : ℕ) (p q r s : Float) → p ≡ dotOf (row
     → _≡_ {A = Four} (rootsOf (record { a = p; b = q; c = r; e = s })) (fourNorms l d i)
 norms-done l d i p q r s ep eq er es = rw (ep, eq, er, es)
 
-mul-p : tie.Need-mul-p
-mul-p c = search needs
-
-add-q : tie.Need-add-q
-add-q c = search needs
-
-add-r : tie.Need-add-r
-add-r c = search needs
-
-add-s : tie.Need-add-s
-add-s c = search needs
-
-mul-x : tie.Need-mul-x
-mul-x c = search needs
-
-sub-x : tie.Need-sub-x
-sub-x c = search needs
-
-part-x-start : tie.Need-part-x-start
-part-x-start c = search needs
-
-part-x-end : tie.Need-part-x-end
-part-x-end c = search needs
-
-mul-y : tie.Need-mul-y
-mul-y c = search needs
-
-sub-y : tie.Need-sub-y
-sub-y c = search needs
-
-part-y-start : tie.Need-part-y-start
-part-y-start c = search needs
-
-part-y-end : tie.Need-part-y-end
-part-y-end c = search needs
-
-mul-z : tie.Need-mul-z
-mul-z c = search needs
-
-sub-z : tie.Need-sub-z
-sub-z c = search needs
-
-part-z-start : tie.Need-part-z-start
-part-z-start c = search needs
-
-part-z-end : tie.Need-part-z-end
-part-z-end c = search needs
-
-add-w : tie.Need-add-w
-add-w c = search needs
-
-mul-w : tie.Need-mul-w
-mul-w c = search needs
-
-sub-w : tie.Need-sub-w
-sub-w c = search needs
-
-part-w-start : tie.Need-part-w-start
-part-w-start c = search needs
-
-part-w-end : tie.Need-part-w-end
-part-w-end c = search needs
-
-dot-requires : tie.Need-dot-requires
-dot-requires c κs = search needs
-
-dot-requires-2 : tie.Need-dot-requires-2
-dot-requires-2 c κs = search needs
-
-dot-requires-3 : tie.Need-dot-requires-3
-dot-requires-3 c κs = search needs
-
-dot-requires-4 : tie.Need-dot-requires-4
-dot-requires-4 c κs = search needs
-
-root4-requires : tie.Need-root4-requires
-root4-requires c κs = search needs
-
 returns : tie.Need-returns
 returns c =
     let d₁ = c .before .before .before .before in
@@ -125,30 +47,30 @@ pub four-norms-spec : {M : Type 1} → statement M
 four-norms-spec =
     tie.close
     (tie.spec
-    mul-p
-    add-q
-    add-r
-    add-s
-    mul-x
-    sub-x
-    part-x-start
-    part-x-end
-    mul-y
-    sub-y
-    part-y-start
-    part-y-end
-    mul-z
-    sub-z
-    part-z-start
-    part-z-end
-    add-w
-    mul-w
-    sub-w
-    part-w-start
-    part-w-end
-    dot-requires
-    dot-requires-2
-    dot-requires-3
-    dot-requires-4
-    root4-requires
+    (λ c. search needs)
+    (λ c. search needs)
+    (λ c. search needs)
+    (λ c. search needs)
+    (λ c. search needs)
+    (λ c. search needs)
+    (λ c. search needs)
+    (λ c. search needs)
+    (λ c. search needs)
+    (λ c. search needs)
+    (λ c. search needs)
+    (λ c. search needs)
+    (λ c. search needs)
+    (λ c. search needs)
+    (λ c. search needs)
+    (λ c. search needs)
+    (λ c. search needs)
+    (λ c. search needs)
+    (λ c. search needs)
+    (λ c. search needs)
+    (λ c. search needs)
+    (λ c κs. search needs)
+    (λ c κs. search needs)
+    (λ c κs. search needs)
+    (λ c κs. search needs)
+    (λ c κs. search needs)
     returns)

@@ -32,17 +32,8 @@ row-of c =
     let a = c .before .before .before .before .before .before .args in
     row-within (c .before .loop2 .i) (a .m) (a .d) (omega arith)
 
-mul-kd : tie.Need-mul-kd Inv-loop μ-loop Inv-loop2 μ-loop2
-mul-kd c = search needs
-
-add-scale : tie.Need-add-scale Inv-loop μ-loop Inv-loop2 μ-loop2
-add-scale c = search needs
-
 loop-holds : tie.Need-loop-holds Inv-loop μ-loop Inv-loop2 μ-loop2
 loop-holds c = (search needs, refl, λ u s h e. e)
-
-sub-loop : tie.Need-sub-loop Inv-loop μ-loop Inv-loop2 μ-loop2
-sub-loop c = search needs
 
 four-norms-requires : tie.Need-four-norms-requires Inv-loop μ-loop Inv-loop2 μ-loop2
 four-norms-requires c κs =
@@ -51,32 +42,11 @@ four-norms-requires c κs =
     let h : l .i + 4 ≤ b .args .m = omega (arith, c .loop-test .taken, l .inv .0) in
     omega (arith, mul-le-mul-right (b .args .d) h, b .pre .1)
 
-add-to : tie.Need-add-to Inv-loop μ-loop Inv-loop2 μ-loop2
-add-to c = search needs
-
-mul-work : tie.Need-mul-work Inv-loop μ-loop Inv-loop2 μ-loop2
-mul-work c = search needs
-
-slice-write-work : tie.Need-slice-write-work Inv-loop μ-loop Inv-loop2 μ-loop2
-slice-write-work c = search needs
-
-add-work : tie.Need-add-work Inv-loop μ-loop Inv-loop2 μ-loop2
-add-work c = search needs
-
-mul-work-2 : tie.Need-mul-work-2 Inv-loop μ-loop Inv-loop2 μ-loop2
-mul-work-2 c = search needs
-
 slice-write-work-2 : tie.Need-slice-write-work-2 Inv-loop μ-loop Inv-loop2 μ-loop2
 slice-write-work-2 c =
     let l = c .before .before .loop in
     let b = c .before .before .before .before .before in
     simp length-set (omega (arith, c .before .loop-test .taken, l .inv .0, l .inv .1, b .pre .0 .work-long))
-
-add-work-2 : tie.Need-add-work-2 Inv-loop μ-loop Inv-loop2 μ-loop2
-add-work-2 c = search needs
-
-mul-work-3 : tie.Need-mul-work-3 Inv-loop μ-loop Inv-loop2 μ-loop2
-mul-work-3 c = search needs
 
 slice-write-work-3 : tie.Need-slice-write-work-3 Inv-loop μ-loop Inv-loop2 μ-loop2
 slice-write-work-3 c =
@@ -84,23 +54,11 @@ slice-write-work-3 c =
     let b = c .before .before .before .before .before in
     simp length-set (omega (arith, c .before .loop-test .taken, l .inv .0, l .inv .1, b .pre .0 .work-long))
 
-add-work-3 : tie.Need-add-work-3 Inv-loop μ-loop Inv-loop2 μ-loop2
-add-work-3 c = search needs
-
-mul-work-4 : tie.Need-mul-work-4 Inv-loop μ-loop Inv-loop2 μ-loop2
-mul-work-4 c = search needs
-
 slice-write-work-4 : tie.Need-slice-write-work-4 Inv-loop μ-loop Inv-loop2 μ-loop2
 slice-write-work-4 c =
     let l = c .before .before .loop in
     let b = c .before .before .before .before .before in
     simp length-set (omega (arith, c .before .loop-test .taken, l .inv .0, l .inv .1, b .pre .0 .work-long))
-
-add-i : tie.Need-add-i Inv-loop μ-loop Inv-loop2 μ-loop2
-add-i c = search needs
-
-loop-less : tie.Need-loop-less Inv-loop μ-loop Inv-loop2 μ-loop2
-loop-less c = search needs
 
 loop-again : tie.Need-loop-again Inv-loop μ-loop Inv-loop2 μ-loop2
 loop-again c =
@@ -125,32 +83,8 @@ add-norm c = search (row-of c, needs)
 mul-norm : tie.Need-mul-norm Inv-loop μ-loop Inv-loop2 μ-loop2
 mul-norm c = search (row-of c, needs)
 
-sub-norm : tie.Need-sub-norm Inv-loop μ-loop Inv-loop2 μ-loop2
-sub-norm c = search needs
-
-part-norm-start : tie.Need-part-norm-start Inv-loop μ-loop Inv-loop2 μ-loop2
-part-norm-start c = search needs
-
 part-norm-end : tie.Need-part-norm-end Inv-loop μ-loop Inv-loop2 μ-loop2
 part-norm-end c = search (row-of c, needs)
-
-norm-requires : tie.Need-norm-requires Inv-loop μ-loop Inv-loop2 μ-loop2
-norm-requires c κs = search needs
-
-add-work-4 : tie.Need-add-work-4 Inv-loop μ-loop Inv-loop2 μ-loop2
-add-work-4 c = search needs
-
-mul-work-5 : tie.Need-mul-work-5 Inv-loop μ-loop Inv-loop2 μ-loop2
-mul-work-5 c = search needs
-
-slice-write-work-5 : tie.Need-slice-write-work-5 Inv-loop μ-loop Inv-loop2 μ-loop2
-slice-write-work-5 c = search needs
-
-add-i-2 : tie.Need-add-i-2 Inv-loop μ-loop Inv-loop2 μ-loop2
-add-i-2 c = search needs
-
-loop2-less : tie.Need-loop2-less Inv-loop μ-loop Inv-loop2 μ-loop2
-loop2-less c = search needs
 
 loop2-again : tie.Need-loop2-again Inv-loop μ-loop Inv-loop2 μ-loop2
 loop2-again c =
@@ -160,9 +94,6 @@ loop2-again c =
       search needs,
       λ u s g e. norms-turn (a .m) (a .k) (a .d) (a .coords .now) u s g (l .work) (l .i) (c .norm .result) (omega arith) (c .norm .ensures) (l .inv .2 u s g e),
     )
-
-same-length : tie.Need-same-length Inv-loop μ-loop Inv-loop2 μ-loop2
-same-length c = search needs
 
 returns : tie.Need-returns Inv-loop μ-loop Inv-loop2 μ-loop2
 returns c =
@@ -182,39 +113,39 @@ measure-spec =
     μ-loop
     Inv-loop2
     μ-loop2
-    mul-kd
-    add-scale
+    (λ c. search needs)
+    (λ c. search needs)
     loop-holds
-    sub-loop
+    (λ c. search needs)
     four-norms-requires
-    add-to
-    mul-work
-    slice-write-work
-    add-work
-    mul-work-2
+    (λ c. search needs)
+    (λ c. search needs)
+    (λ c. search needs)
+    (λ c. search needs)
+    (λ c. search needs)
     slice-write-work-2
-    add-work-2
-    mul-work-3
+    (λ c. search needs)
+    (λ c. search needs)
     slice-write-work-3
-    add-work-3
-    mul-work-4
+    (λ c. search needs)
+    (λ c. search needs)
     slice-write-work-4
-    add-i
-    loop-less
+    (λ c. search needs)
+    (λ c. search needs)
     loop-again
     loop2-holds
     mul-at
     add-norm
     mul-norm
-    sub-norm
-    part-norm-start
+    (λ c. search needs)
+    (λ c. search needs)
     part-norm-end
-    norm-requires
-    add-work-4
-    mul-work-5
-    slice-write-work-5
-    add-i-2
-    loop2-less
+    (λ c κs. search needs)
+    (λ c. search needs)
+    (λ c. search needs)
+    (λ c. search needs)
+    (λ c. search needs)
+    (λ c. search needs)
     loop2-again
-    same-length
+    (λ c. search needs)
     returns)

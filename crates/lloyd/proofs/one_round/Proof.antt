@@ -15,15 +15,6 @@ use Rattle.lloyd.proofs.one_round.Tie as tie
 abbrev start : tie.After-pass → tie.Start
 start p = p .before .before .before .before .before .before .before
 
-pass-requires : tie.Need-pass-requires
-pass-requires c κs = search needs
-
-same-length : tie.Need-same-length
-same-length c = search needs
-
-same-length-2 : tie.Need-same-length-2
-same-length-2 c = search needs
-
 returns : tie.Need-returns
 returns c =
     let p = c .before .before .before .before .before .before in
@@ -48,12 +39,6 @@ settle-requires c κs =
       ),
     )
 
-same-length-3 : tie.Need-same-length-3
-same-length-3 c = search needs
-
-same-length-4 : tie.Need-same-length-4
-same-length-4 c = search needs
-
 returns-2 : tie.Need-returns-2
 returns-2 c =
     let g = c .before .before .before .before in
@@ -70,11 +55,11 @@ pub one-round-spec : {M : Type 1} → statement M
 one-round-spec =
     tie.close
     (tie.spec
-    pass-requires
-    same-length
-    same-length-2
+    (λ c κs. search needs)
+    (λ c. search needs)
+    (λ c. search needs)
     returns
     settle-requires
-    same-length-3
-    same-length-4
+    (λ c. search needs)
+    (λ c. search needs)
     returns-2)

@@ -7,12 +7,6 @@ use Rattle.lloyd.proofs.Runs.{started-labelled, rounds-labelled, run-do
 use Rattle.lloyd.proofs.run.Statement.{statement}
 use Rattle.lloyd.proofs.run.Tie as tie
 
-seed-requires : tie.Need-seed-requires
-seed-requires c κs = search needs
-
-start-requires : tie.Need-start-requires
-start-requires c κs = search needs
-
 lloyd-requires : tie.Need-lloyd-requires
 lloyd-requires c κs =
     let g = c .before .before .before .before .before .before in
@@ -37,12 +31,6 @@ cohesion-of-requires c κs =
       ),
     )
 
-same-length : tie.Need-same-length
-same-length c = search needs
-
-same-length-2 : tie.Need-same-length-2
-same-length-2 c = search needs
-
 returns : tie.Need-returns
 returns c =
     let h = c .before .before .before .before in
@@ -61,10 +49,10 @@ pub run-spec : {M : Type 1} → statement M
 run-spec =
     tie.close
     (tie.spec
-    seed-requires
-    start-requires
+    (λ c κs. search needs)
+    (λ c κs. search needs)
     lloyd-requires
     cohesion-of-requires
-    same-length
-    same-length-2
+    (λ c. search needs)
+    (λ c. search needs)
     returns)

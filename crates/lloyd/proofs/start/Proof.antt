@@ -9,55 +9,10 @@ use borrow.Author.Needs.{needs}
 use Rattle.lloyd.proofs.start.Statement.{statement}
 use Rattle.lloyd.proofs.start.Tie as tie
 
-mul-kd : tie.Need-mul-kd
-mul-kd c = search needs
-
-add-low : tie.Need-add-low
-add-low c = search needs
-
-add-low-2 : tie.Need-add-low-2
-add-low-2 c = search needs
-
-add-high : tie.Need-add-high
-add-high c = search needs
-
-add-served : tie.Need-add-served
-add-served c = search needs
-
-add-drift : tie.Need-add-drift
-add-drift c = search needs
-
-measure-requires : tie.Need-measure-requires
-measure-requires c κs = search needs
-
-fill-at-requires : tie.Need-fill-at-requires
-fill-at-requires c κs = search needs
-
-fill-at-requires-2 : tie.Need-fill-at-requires-2
-fill-at-requires-2 c κs = search needs
-
-fill-at-requires-3 : tie.Need-fill-at-requires-3
-fill-at-requires-3 c κs = search needs
-
-fill-at-requires-4 : tie.Need-fill-at-requires-4
-fill-at-requires-4 c κs = search needs
-
-slice-relend-prefix-fill-u32 : tie.Need-slice-relend-prefix-fill-u32
-slice-relend-prefix-fill-u32 c = search needs
-
 slice-aggregate-fill-u32 : tie.Need-slice-aggregate-fill-u32
 slice-aggregate-fill-u32 c =
     let b = c .before .before .before .before .before .before .before .before .before .before .before .before .before .before .before .before .before .before .before .before .before .before .before .before in
     sym (length-take-le (b .args .m) (b .args .marks .now) (omega (arith, b .pre .marks-long)))
-
-fill-u32-requires : tie.Need-fill-u32-requires
-fill-u32-requires c κs = search needs
-
-same-length : tie.Need-same-length
-same-length c = search needs
-
-same-length-2 : tie.Need-same-length-2
-same-length-2 c = search needs
 
 returns : tie.Need-returns
 unfolding div neg ofBits ofInt
@@ -93,20 +48,20 @@ pub start-spec : {M : Type 1} → statement M
 start-spec =
     tie.close
     (tie.spec
-    mul-kd
-    add-low
-    add-low-2
-    add-high
-    add-served
-    add-drift
-    measure-requires
-    fill-at-requires
-    fill-at-requires-2
-    fill-at-requires-3
-    fill-at-requires-4
-    slice-relend-prefix-fill-u32
+    (λ c. search needs)
+    (λ c. search needs)
+    (λ c. search needs)
+    (λ c. search needs)
+    (λ c. search needs)
+    (λ c. search needs)
+    (λ c κs. search needs)
+    (λ c κs. search needs)
+    (λ c κs. search needs)
+    (λ c κs. search needs)
+    (λ c κs. search needs)
+    (λ c. search needs)
     slice-aggregate-fill-u32
-    fill-u32-requires
-    same-length
-    same-length-2
+    (λ c κs. search needs)
+    (λ c. search needs)
+    (λ c. search needs)
     returns)

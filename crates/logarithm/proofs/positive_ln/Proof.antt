@@ -8,29 +8,17 @@ use Rattle.logarithm.proofs.Logarithm.{ln-above, ln-rest}
 use Rattle.logarithm.proofs.positive_ln.Statement.{statement}
 use Rattle.logarithm.proofs.positive_ln.Tie as tie
 
-split-requires : tie.Need-split-requires
-split-requires c κs = search needs
-
-compose-requires : tie.Need-compose-requires
-compose-requires c κs = search needs
-
 int-to-float-ln-at : tie.Need-int-to-float-ln-at
 unfolding inFloat
 int-to-float-ln-at c =
     let s = c .before .before .before .split in
     le→leb (s .result .e) 9007199254740992 (omega (arith, s .ensures .high))
 
-ln-at-requires : tie.Need-ln-at-requires
-ln-at-requires c κs = search needs
-
 int-to-float-ln-at-2 : tie.Need-int-to-float-ln-at-2
 unfolding inFloat
 int-to-float-ln-at-2 c =
     let s = c .before .before .before .split in
     le→leb (s .result .e) 9007199254740992 (omega (arith, s .ensures .high))
-
-ln-at-requires-2 : tie.Need-ln-at-requires-2
-ln-at-requires-2 c κs = search needs
 
 returns : tie.Need-returns
 unfolding ofBits ofInt
@@ -54,11 +42,11 @@ pub positive-ln-spec : {M : Type 1} → statement M
 positive-ln-spec =
     tie.close
     (tie.spec
-    split-requires
-    compose-requires
+    (λ c κs. search needs)
+    (λ c κs. search needs)
     int-to-float-ln-at
-    ln-at-requires
+    (λ c κs. search needs)
     int-to-float-ln-at-2
-    ln-at-requires-2
+    (λ c κs. search needs)
     returns
     returns-2)

@@ -12,30 +12,6 @@ use borrow.Author.Needs.{needs}
 use Rattle.mixture.proofs.clear.Statement.{statement}
 use Rattle.mixture.proofs.clear.Tie as tie
 
-mul-kd : tie.Need-mul-kd
-mul-kd c = search needs
-
-add-weights : tie.Need-add-weights
-add-weights c = search needs
-
-even-weight-requires : tie.Need-even-weight-requires
-even-weight-requires c κs = search needs
-
-fill-at-requires : tie.Need-fill-at-requires
-fill-at-requires c κs = search needs
-
-mul-fill-at : tie.Need-mul-fill-at
-mul-fill-at c = search needs
-
-add-fill-at : tie.Need-add-fill-at
-add-fill-at c = search needs
-
-mul-fill-at-2 : tie.Need-mul-fill-at-2
-mul-fill-at-2 c = search needs
-
-fill-at-requires-2 : tie.Need-fill-at-requires-2
-fill-at-requires-2 c κs = search needs
-
 same-length : tie.Need-same-length
 same-length c = c .before .before .fill-at2 .kept .0 ∙ c .before .before .before .before .before .before .fill-at .kept .0
 
@@ -61,13 +37,13 @@ pub clear-spec : {M : Type 1} → statement M
 clear-spec =
     tie.close
     (tie.spec
-    mul-kd
-    add-weights
-    even-weight-requires
-    fill-at-requires
-    mul-fill-at
-    add-fill-at
-    mul-fill-at-2
-    fill-at-requires-2
+    (λ c. search needs)
+    (λ c. search needs)
+    (λ c κs. search needs)
+    (λ c κs. search needs)
+    (λ c. search needs)
+    (λ c. search needs)
+    (λ c. search needs)
+    (λ c κs. search needs)
     same-length
     returns)

@@ -32,9 +32,6 @@ em-round-requires c κs =
     let s = c .before .before .before .before .before .before in
     (area-of _ _ (s .args .m) (s .args .k) (s .args .d) (c .before .before .loop .inv .1) (s .pre .0 .0), s .pre .1)
 
-stops-at-requires : tie.Need-stops-at-requires Inv-loop μ-loop
-stops-at-requires c κs = search needs
-
 add-it : tie.Need-add-it Inv-loop μ-loop
 add-it c = let t = c .before .before .before .before .before .before in omega (arith, t .loop-test .taken, t .before .before .before .before .before .pre .0 .1)
 
@@ -86,7 +83,7 @@ em-spec =
     μ-loop
     loop-holds
     em-round-requires
-    stops-at-requires
+    (λ c κs. search needs)
     add-it
     loop-less
     loop-again

@@ -7,9 +7,6 @@ use borrow.Author.Needs.{needs}
 use Rattle.mixture.proofs.em_round.Statement.{statement}
 use Rattle.mixture.proofs.em_round.Tie as tie
 
-put-bases-requires : tie.Need-put-bases-requires
-put-bases-requires c κs = search needs
-
 expect-requires : tie.Need-expect-requires
 expect-requires c κs =
     let s = c .before .before .before .before .before .before .before .before in
@@ -41,4 +38,4 @@ returns c =
 pub em-round-spec : {M : Type 1} → statement M
 em-round-spec =
     tie.close
-    (tie.spec put-bases-requires expect-requires maximize-model-requires same-length returns)
+    (tie.spec (λ c κs. search needs) expect-requires maximize-model-requires same-length returns)

@@ -31,12 +31,6 @@ put-likenesses-requires c κs =
       (s .pre .1 .coords-long, s .pre .1 .md-small, leaf-of (l .i) (a .m) (a .k) (a .d) (c .before .loop-test .taken)),
     )
 
-add-i : tie.Need-add-i Inv-loop μ-loop
-add-i c = search needs
-
-loop-less : tie.Need-loop-less Inv-loop μ-loop
-loop-less c = search needs
-
 loop-again : tie.Need-loop-again Inv-loop μ-loop
 loop-again c =
     let p = c .before .before .put-likenesses in
@@ -47,45 +41,12 @@ loop-again c =
       likes-turn (a .m) (a .k) (a .d) (a .work .now) (a .coords .now) (l .work) (p .last .0) (l .i) (l .inv .2) (p .ensures),
     )
 
-mul-kd : tie.Need-mul-kd Inv-loop μ-loop
-mul-kd c = search needs
-
-add-resp : tie.Need-add-resp Inv-loop μ-loop
-add-resp c = search needs
-
-mul-resp : tie.Need-mul-resp Inv-loop μ-loop
-mul-resp c = search needs
-
-add-resp-2 : tie.Need-add-resp-2 Inv-loop μ-loop
-add-resp-2 c = search needs
-
-mul-soften : tie.Need-mul-soften Inv-loop μ-loop
-mul-soften c = search needs
-
-add-soften : tie.Need-add-soften Inv-loop μ-loop
-add-soften c = search needs
-
-mul-soften-2 : tie.Need-mul-soften-2 Inv-loop μ-loop
-mul-soften-2 c = search needs
-
-sub-soften : tie.Need-sub-soften Inv-loop μ-loop
-sub-soften c = search needs
-
-part-soften-start : tie.Need-part-soften-start Inv-loop μ-loop
-part-soften-start c = search needs
-
-part-soften-end : tie.Need-part-soften-end Inv-loop μ-loop
-part-soften-end c = search needs
-
 soften-requires : tie.Need-soften-requires Inv-loop μ-loop
 soften-requires c κs =
     let l = c .before .before .loop in
     let s = c .before .before .before .before .before .before in
     let a = s .args in
     rows-of (l .work) (a .weights .now) (a .m) (a .k) (a .d) _ (area-of (length (a .work .now)) (length (l .work)) (a .m) (a .k) (a .d) (l .inv .1) (s .pre .0)) (s .pre .1 .weights-long) refl
-
-same-length : tie.Need-same-length Inv-loop μ-loop
-same-length c = search needs
 
 returns : tie.Need-returns Inv-loop μ-loop
 returns c =
@@ -111,19 +72,19 @@ expect-spec =
     μ-loop
     loop-holds
     put-likenesses-requires
-    add-i
-    loop-less
+    (λ c. search needs)
+    (λ c. search needs)
     loop-again
-    mul-kd
-    add-resp
-    mul-resp
-    add-resp-2
-    mul-soften
-    add-soften
-    mul-soften-2
-    sub-soften
-    part-soften-start
-    part-soften-end
+    (λ c. search needs)
+    (λ c. search needs)
+    (λ c. search needs)
+    (λ c. search needs)
+    (λ c. search needs)
+    (λ c. search needs)
+    (λ c. search needs)
+    (λ c. search needs)
+    (λ c. search needs)
+    (λ c. search needs)
     soften-requires
-    same-length
+    (λ c. search needs)
     returns)

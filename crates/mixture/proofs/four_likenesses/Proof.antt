@@ -5,45 +5,6 @@ use borrow.Author.Needs.{needs}
 use Rattle.mixture.proofs.four_likenesses.Statement.{statement}
 use Rattle.mixture.proofs.four_likenesses.Tie as tie
 
-mul-kd : tie.Need-mul-kd
-mul-kd c = search needs
-
-add-kappa : tie.Need-add-kappa
-add-kappa c = search needs
-
-add-kappa-2 : tie.Need-add-kappa-2
-add-kappa-2 c = search needs
-
-add-kappa-3 : tie.Need-add-kappa-3
-add-kappa-3 c = search needs
-
-add-base : tie.Need-add-base
-add-base c = search needs
-
-mul-at : tie.Need-mul-at
-mul-at c = search needs
-
-add-row-dots : tie.Need-add-row-dots
-add-row-dots c = search needs
-
-mul-row-dots : tie.Need-mul-row-dots
-mul-row-dots c = search needs
-
-sub-row-dots : tie.Need-sub-row-dots
-sub-row-dots c = search needs
-
-part-row-dots-start : tie.Need-part-row-dots-start
-part-row-dots-start c = search needs
-
-part-row-dots-end : tie.Need-part-row-dots-end
-part-row-dots-end c = search needs
-
-row-dots-requires : tie.Need-row-dots-requires
-row-dots-requires c κs = search needs
-
-based-requires : tie.Need-based-requires
-based-requires c κs = search needs
-
 returns : tie.Need-returns
 returns c =
     let f = c .before .row-dots in
@@ -55,17 +16,17 @@ pub four-likenesses-spec : {M : Type 1} → statement M
 four-likenesses-spec =
     tie.close
     (tie.spec
-    mul-kd
-    add-kappa
-    add-kappa-2
-    add-kappa-3
-    add-base
-    mul-at
-    add-row-dots
-    mul-row-dots
-    sub-row-dots
-    part-row-dots-start
-    part-row-dots-end
-    row-dots-requires
-    based-requires
+    (λ c. search needs)
+    (λ c. search needs)
+    (λ c. search needs)
+    (λ c. search needs)
+    (λ c. search needs)
+    (λ c. search needs)
+    (λ c. search needs)
+    (λ c. search needs)
+    (λ c. search needs)
+    (λ c. search needs)
+    (λ c. search needs)
+    (λ c κs. search needs)
+    (λ c κs. search needs)
     returns)

@@ -20,65 +20,11 @@ Inv-loop work₀ m k d kd kappas totals norms c₀ work c =
 abbrev μ-loop : tie.MeasureT-loop
 μ-loop work₀ m k d kd kappas totals norms c₀ work c = k - c
 
-mul-kd : tie.Need-mul-kd Inv-loop μ-loop
-mul-kd c = search needs
-
-add-kappas : tie.Need-add-kappas Inv-loop μ-loop
-add-kappas c = search needs
-
-add-kappas-2 : tie.Need-add-kappas-2 Inv-loop μ-loop
-add-kappas-2 c = search needs
-
-add-totals : tie.Need-add-totals Inv-loop μ-loop
-add-totals c = search needs
-
-add-totals-2 : tie.Need-add-totals-2 Inv-loop μ-loop
-add-totals-2 c = search needs
-
-add-norms : tie.Need-add-norms Inv-loop μ-loop
-add-norms c = search needs
-
 loop-holds : tie.Need-loop-holds Inv-loop μ-loop
 loop-holds c =
     let a = c .before .args in
     let p = partsIn (a .m) (a .k) (a .d) (a .work .now) in
     (omega arith, refl, written-start kappasR (kappaAt (a .d) (p .norms) (p .totals)) (a .m) (a .k) (a .d) (a .work .now))
-
-add-kappa-by : tie.Need-add-kappa-by Inv-loop μ-loop
-add-kappa-by c = search needs
-
-mul-kappa-by : tie.Need-mul-kappa-by Inv-loop μ-loop
-mul-kappa-by c = search needs
-
-slice-read-kappa-by : tie.Need-slice-read-kappa-by Inv-loop μ-loop
-slice-read-kappa-by c = search needs
-
-add-kappa-by-2 : tie.Need-add-kappa-by-2 Inv-loop μ-loop
-add-kappa-by-2 c = search needs
-
-mul-kappa-by-2 : tie.Need-mul-kappa-by-2 Inv-loop μ-loop
-mul-kappa-by-2 c = search needs
-
-slice-read-kappa-by-2 : tie.Need-slice-read-kappa-by-2 Inv-loop μ-loop
-slice-read-kappa-by-2 c = search needs
-
-kappa-by-requires : tie.Need-kappa-by-requires Inv-loop μ-loop
-kappa-by-requires c κs = search needs
-
-add-work : tie.Need-add-work Inv-loop μ-loop
-add-work c = search needs
-
-mul-work : tie.Need-mul-work Inv-loop μ-loop
-mul-work c = search needs
-
-slice-write-work : tie.Need-slice-write-work Inv-loop μ-loop
-slice-write-work c = search needs
-
-add-c : tie.Need-add-c Inv-loop μ-loop
-add-c c = search needs
-
-loop-less : tie.Need-loop-less Inv-loop μ-loop
-loop-less c = search needs
 
 loop-again : tie.Need-loop-again Inv-loop μ-loop
 loop-again c =
@@ -96,9 +42,6 @@ loop-again c =
     let more = written-turn kappasR f (a .m) (a .k) (a .d) (a .work .now) (l .work) (at + a .k + l .c) (l .c) (c .kappa-by .result) (omega arith) h (b .pre .work-long) e o in
     (omega arith, search needs, more)
 
-same-length : tie.Need-same-length Inv-loop μ-loop
-same-length c = search needs
-
 returns : tie.Need-returns Inv-loop μ-loop
 returns c =
     let l = c .before .loop in
@@ -113,25 +56,25 @@ free-kappas-spec =
     (tie.spec
     Inv-loop
     μ-loop
-    mul-kd
-    add-kappas
-    add-kappas-2
-    add-totals
-    add-totals-2
-    add-norms
+    (λ c. search needs)
+    (λ c. search needs)
+    (λ c. search needs)
+    (λ c. search needs)
+    (λ c. search needs)
+    (λ c. search needs)
     loop-holds
-    add-kappa-by
-    mul-kappa-by
-    slice-read-kappa-by
-    add-kappa-by-2
-    mul-kappa-by-2
-    slice-read-kappa-by-2
-    kappa-by-requires
-    add-work
-    mul-work
-    slice-write-work
-    add-c
-    loop-less
+    (λ c. search needs)
+    (λ c. search needs)
+    (λ c. search needs)
+    (λ c. search needs)
+    (λ c. search needs)
+    (λ c. search needs)
+    (λ c κs. search needs)
+    (λ c. search needs)
+    (λ c. search needs)
+    (λ c. search needs)
+    (λ c. search needs)
+    (λ c. search needs)
     loop-again
-    same-length
+    (λ c. search needs)
     returns)

@@ -41,24 +41,6 @@ cleared-at f =
     cleared (a .weights .now) (a .coords .now) (a .m) (a .k) (a .d) (a .work .now) (g .fill-at .last .0) (begun f) (s .pre .0) (g .fill-at .kept .0) (g .fill-at .ensures)
     (f .fill-at2 .ensures)
 
-mul-kd : tie.Need-mul-kd Inv-loop μ-loop
-mul-kd c = search needs
-
-fill-at-requires : tie.Need-fill-at-requires Inv-loop μ-loop
-fill-at-requires c κs = search needs
-
-add-fill-at : tie.Need-add-fill-at Inv-loop μ-loop
-add-fill-at c = search needs
-
-mul-fill-at : tie.Need-mul-fill-at Inv-loop μ-loop
-mul-fill-at c = search needs
-
-add-fill-at-2 : tie.Need-add-fill-at-2 Inv-loop μ-loop
-add-fill-at-2 c = search needs
-
-fill-at-requires-2 : tie.Need-fill-at-requires-2 Inv-loop μ-loop
-fill-at-requires-2 c κs = search needs
-
 loop-holds : tie.Need-loop-holds Inv-loop μ-loop
 loop-holds c =
     let f = c .before .before in
@@ -75,12 +57,6 @@ gather-leaf-requires c κs =
       area-of _ _ (a .m) (a .k) (a .d) (l .inv .1 ∙ same-at f) (s .pre .0),
       (s .pre .1, leaf-of (l .i) (a .m) (a .k) (a .d) (c .before .loop-test .taken)),
     )
-
-add-i : tie.Need-add-i Inv-loop μ-loop
-add-i c = search needs
-
-loop-less : tie.Need-loop-less Inv-loop μ-loop
-loop-less c = search needs
 
 loop-again : tie.Need-loop-again Inv-loop μ-loop
 loop-again c =
@@ -111,16 +87,16 @@ gather-spec =
     (tie.spec
     Inv-loop
     μ-loop
-    mul-kd
-    fill-at-requires
-    add-fill-at
-    mul-fill-at
-    add-fill-at-2
-    fill-at-requires-2
+    (λ c. search needs)
+    (λ c κs. search needs)
+    (λ c. search needs)
+    (λ c. search needs)
+    (λ c. search needs)
+    (λ c κs. search needs)
     loop-holds
     gather-leaf-requires
-    add-i
-    loop-less
+    (λ c. search needs)
+    (λ c. search needs)
     loop-again
     same-length
     returns)

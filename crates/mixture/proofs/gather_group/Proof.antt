@@ -7,60 +7,6 @@ use borrow.Author.Needs.{needs}
 use Rattle.mixture.proofs.gather_group.Statement.{statement}
 use Rattle.mixture.proofs.gather_group.Tie as tie
 
-mul-kd : tie.Need-mul-kd
-mul-kd c = search needs
-
-add-at : tie.Need-add-at
-add-at c = search needs
-
-mul-at : tie.Need-mul-at
-mul-at c = search needs
-
-add-at-2 : tie.Need-add-at-2
-add-at-2 c = search needs
-
-add-at-3 : tie.Need-add-at-3
-add-at-3 c = search needs
-
-add-w : tie.Need-add-w
-add-w c = search needs
-
-add-w-2 : tie.Need-add-w-2
-add-w-2 c = search needs
-
-mul-w : tie.Need-mul-w
-mul-w c = search needs
-
-add-w-3 : tie.Need-add-w-3
-add-w-3 c = search needs
-
-mul-w-2 : tie.Need-mul-w-2
-mul-w-2 c = search needs
-
-slice-read-w : tie.Need-slice-read-w
-slice-read-w c = search needs
-
-mul-work : tie.Need-mul-work
-mul-work c = search needs
-
-slice-read-work : tie.Need-slice-read-work
-slice-read-work c = search needs
-
-mul-work-2 : tie.Need-mul-work-2
-mul-work-2 c = search needs
-
-slice-write-work : tie.Need-slice-write-work
-slice-write-work c = search needs
-
-mul-add-row : tie.Need-mul-add-row
-mul-add-row c = search needs
-
-add-add-row : tie.Need-add-add-row
-add-add-row c = search needs
-
-mul-add-row-2 : tie.Need-mul-add-row-2
-mul-add-row-2 c = search needs
-
 add-row-requires : tie.Need-add-row-requires
 add-row-requires c κs =
     let s = c .before .before .before .before .before in
@@ -84,24 +30,24 @@ pub gather-group-spec : {M : Type 1} → statement M
 gather-group-spec =
     tie.close
     (tie.spec
-    mul-kd
-    add-at
-    mul-at
-    add-at-2
-    add-at-3
-    add-w
-    add-w-2
-    mul-w
-    add-w-3
-    mul-w-2
-    slice-read-w
-    mul-work
-    slice-read-work
-    mul-work-2
-    slice-write-work
-    mul-add-row
-    add-add-row
-    mul-add-row-2
+    (λ c. search needs)
+    (λ c. search needs)
+    (λ c. search needs)
+    (λ c. search needs)
+    (λ c. search needs)
+    (λ c. search needs)
+    (λ c. search needs)
+    (λ c. search needs)
+    (λ c. search needs)
+    (λ c. search needs)
+    (λ c. search needs)
+    (λ c. search needs)
+    (λ c. search needs)
+    (λ c. search needs)
+    (λ c. search needs)
+    (λ c. search needs)
+    (λ c. search needs)
+    (λ c. search needs)
     add-row-requires
     same-length
     returns)

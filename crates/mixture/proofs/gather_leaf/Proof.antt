@@ -20,12 +20,6 @@ Inv-loop work₀ weights coords i m k d weight c₀ work c =
 abbrev μ-loop : tie.MeasureT-loop
 μ-loop work₀ weights coords i m k d weight c₀ work c = k - c
 
-mul-weight : tie.Need-mul-weight Inv-loop μ-loop
-mul-weight c = search needs
-
-shared-slice-read-weight : tie.Need-shared-slice-read-weight Inv-loop μ-loop
-shared-slice-read-weight c = search needs
-
 loop-holds : tie.Need-loop-holds Inv-loop μ-loop
 loop-holds c =
     let a = c .before .before .before .before .args in
@@ -41,12 +35,6 @@ gather-group-requires c κs =
       (s .pre .1 .0 .coords-long, s .pre .1 .0 .md-small, s .pre .1 .1, group-of (l .c) (a .k) (a .d) (c .before .loop-test .taken)),
     )
 
-add-c : tie.Need-add-c Inv-loop μ-loop
-add-c c = search needs
-
-loop-less : tie.Need-loop-less Inv-loop μ-loop
-loop-less c = search needs
-
 loop-again : tie.Need-loop-again Inv-loop μ-loop
 loop-again c =
     let g = c .before .before in
@@ -58,9 +46,6 @@ loop-again c =
       leaf-turn (a .k) (a .d) (a .i) (getD (a .weights .now) (a .i) nan) (rowOf (a .coords .now) (a .d) (a .i)) (p (a .work .now)) (p (l .work))
           (p (g .gather-group .last .0)) (l .c) (l .inv .2) (g .gather-group .ensures),
     )
-
-same-length : tie.Need-same-length Inv-loop μ-loop
-same-length c = search needs
 
 returns : tie.Need-returns Inv-loop μ-loop
 returns c =
@@ -76,12 +61,12 @@ gather-leaf-spec =
     (tie.spec
     Inv-loop
     μ-loop
-    mul-weight
-    shared-slice-read-weight
+    (λ c. search needs)
+    (λ c. search needs)
     loop-holds
     gather-group-requires
-    add-c
-    loop-less
+    (λ c. search needs)
+    (λ c. search needs)
     loop-again
-    same-length
+    (λ c. search needs)
     returns)

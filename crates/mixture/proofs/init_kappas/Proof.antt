@@ -14,43 +14,10 @@ use borrow.Author.Needs.{needs}
 use Rattle.mixture.proofs.init_kappas.Statement.{statement}
 use Rattle.mixture.proofs.init_kappas.Tie as tie
 
-label-totals-requires : tie.Need-label-totals-requires
-label-totals-requires c κs = search needs
-
 put-norms-requires : tie.Need-put-norms-requires
 put-norms-requires c κs =
     let s = c .before .before .before .before .before .before .before .before in
     area-of _ _ (s .args .m) (s .args .k) (s .args .d) (c .before .before .before .label-totals .kept .0) (s .pre .0 .0)
-
-mul-kd : tie.Need-mul-kd
-mul-kd c = search needs
-
-add-totals : tie.Need-add-totals
-add-totals c = search needs
-
-mul-totals : tie.Need-mul-totals
-mul-totals c = search needs
-
-add-totals-2 : tie.Need-add-totals-2
-add-totals-2 c = search needs
-
-add-fold : tie.Need-add-fold
-add-fold c = search needs
-
-mul-fold : tie.Need-mul-fold
-mul-fold c = search needs
-
-sub-fold : tie.Need-sub-fold
-sub-fold c = search needs
-
-part-fold-start : tie.Need-part-fold-start
-part-fold-start c = search needs
-
-part-fold-end : tie.Need-part-fold-end
-part-fold-end c = search needs
-
-fold-requires : tie.Need-fold-requires
-fold-requires c κs = search needs
 
 concentrate-requires : tie.Need-concentrate-requires
 concentrate-requires c κs =
@@ -81,18 +48,18 @@ pub init-kappas-spec : {M : Type 1} → statement M
 init-kappas-spec =
     tie.close
     (tie.spec
-    label-totals-requires
+    (λ c κs. search needs)
     put-norms-requires
-    mul-kd
-    add-totals
-    mul-totals
-    add-totals-2
-    add-fold
-    mul-fold
-    sub-fold
-    part-fold-start
-    part-fold-end
-    fold-requires
+    (λ c. search needs)
+    (λ c. search needs)
+    (λ c. search needs)
+    (λ c. search needs)
+    (λ c. search needs)
+    (λ c. search needs)
+    (λ c. search needs)
+    (λ c. search needs)
+    (λ c. search needs)
+    (λ c κs. search needs)
     concentrate-requires
     same-length
     returns)

@@ -4,19 +4,13 @@ use lib.Ieee.{ofBits}
 use Rattle.mixture.proofs.kappa_by.Statement.{statement}
 use Rattle.mixture.proofs.kappa_by.Tie as tie
 
-estimate-kappa-requires : tie.Need-estimate-kappa-requires
-estimate-kappa-requires c κs = search needs
-
 returns : tie.Need-returns
 unfolding ofBits
 returns c = rw (c .before .if1 .taken) (c .estimate-kappa .ensures .value)
-
-estimate-kappa-requires-2 : tie.Need-estimate-kappa-requires-2
-estimate-kappa-requires-2 c κs = search needs
 
 returns-2 : tie.Need-returns-2
 unfolding ofBits
 returns-2 c = rw (c .before .if1 .left) (c .estimate-kappa2 .ensures .value)
 
 pub kappa-by-spec : {M : Type 1} → statement M
-kappa-by-spec = tie.close (tie.spec estimate-kappa-requires returns estimate-kappa-requires-2 returns-2)
+kappa-by-spec = tie.close (tie.spec (λ c κs. search needs) returns (λ c κs. search needs) returns-2)

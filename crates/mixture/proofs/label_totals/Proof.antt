@@ -34,31 +34,10 @@ label-of : (c : tie.In-loop Inv-loop μ-loop) → let a = c .before .before .bef
     getD (a .marks .now) (c .before .loop .i) 0 < a .k
 label-of c = c .before .before .before .before .before .before .before .before .before .pre .1 (c .before .loop .i) (omega arith)
 
-mul-kd : tie.Need-mul-kd Inv-loop μ-loop
-mul-kd c = search needs
-
-add-totals : tie.Need-add-totals Inv-loop μ-loop
-add-totals c = search needs
-
-mul-totals : tie.Need-mul-totals Inv-loop μ-loop
-mul-totals c = search needs
-
-add-totals-2 : tie.Need-add-totals-2 Inv-loop μ-loop
-add-totals-2 c = search needs
-
-fill-at-requires : tie.Need-fill-at-requires Inv-loop μ-loop
-fill-at-requires c κs = search needs
-
 loop-holds : tie.Need-loop-holds Inv-loop μ-loop
 loop-holds c =
     let a = c .before .before .before .before .before .before .before .args in
     (search needs, refl, totals-start (a .m) (a .k) (a .d) _ (a .weights .now) (a .marks .now) (a .work .now) (cleared (c .before .before)))
-
-mul-at : tie.Need-mul-at Inv-loop μ-loop
-mul-at c = search needs
-
-shared-slice-read-at : tie.Need-shared-slice-read-at Inv-loop μ-loop
-shared-slice-read-at c = search needs
 
 cast-at : tie.Need-cast-at Inv-loop μ-loop
 cast-at c = search (label-of (c .before), needs)
@@ -72,23 +51,11 @@ mul-work c = search (label-of (c .before), needs)
 slice-read-work : tie.Need-slice-read-work Inv-loop μ-loop
 slice-read-work c = search (label-of (c .before .before), needs)
 
-mul-work-2 : tie.Need-mul-work-2 Inv-loop μ-loop
-mul-work-2 c = search needs
-
-shared-slice-read-work : tie.Need-shared-slice-read-work Inv-loop μ-loop
-shared-slice-read-work c = search needs
-
 mul-work-3 : tie.Need-mul-work-3 Inv-loop μ-loop
 mul-work-3 c = search (label-of (c .before .before .before), needs)
 
 slice-write-work : tie.Need-slice-write-work Inv-loop μ-loop
 slice-write-work c = search (label-of (c .before .before .before), needs)
-
-add-i : tie.Need-add-i Inv-loop μ-loop
-add-i c = search needs
-
-loop-less : tie.Need-loop-less Inv-loop μ-loop
-loop-less c = search needs
 
 loop-again : tie.Need-loop-again Inv-loop μ-loop
 loop-again c =
@@ -99,9 +66,6 @@ loop-again c =
       search needs,
       totals-turn (a .m) (a .k) (a .d) _ (a .weights .now) (a .marks .now) (l .work) (l .i) (omega arith) (label-of (c .before .before .before)) (l .inv .2),
     )
-
-same-length : tie.Need-same-length Inv-loop μ-loop
-same-length c = search needs
 
 returns : tie.Need-returns Inv-loop μ-loop
 returns c =
@@ -115,24 +79,24 @@ label-totals-spec =
     (tie.spec
     Inv-loop
     μ-loop
-    mul-kd
-    add-totals
-    mul-totals
-    add-totals-2
-    fill-at-requires
+    (λ c. search needs)
+    (λ c. search needs)
+    (λ c. search needs)
+    (λ c. search needs)
+    (λ c κs. search needs)
     loop-holds
-    mul-at
-    shared-slice-read-at
+    (λ c. search needs)
+    (λ c. search needs)
     cast-at
     add-at
     mul-work
     slice-read-work
-    mul-work-2
-    shared-slice-read-work
+    (λ c. search needs)
+    (λ c. search needs)
     mul-work-3
     slice-write-work
-    add-i
-    loop-less
+    (λ c. search needs)
+    (λ c. search needs)
     loop-again
-    same-length
+    (λ c. search needs)
     returns)

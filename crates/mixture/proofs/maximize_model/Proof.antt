@@ -13,43 +13,10 @@ use borrow.Author.Needs.{needs}
 use Rattle.mixture.proofs.maximize_model.Statement.{statement}
 use Rattle.mixture.proofs.maximize_model.Tie as tie
 
-gather-requires : tie.Need-gather-requires
-gather-requires c κs = search needs
-
 put-norms-requires : tie.Need-put-norms-requires
 put-norms-requires c κs =
     let s = c .before .before .before .before .before .before .before .before in
     area-of _ _ (s .args .m) (s .args .k) (s .args .d) (c .before .before .before .gather .kept .0) (s .pre .0)
-
-mul-kd : tie.Need-mul-kd
-mul-kd c = search needs
-
-add-totals : tie.Need-add-totals
-add-totals c = search needs
-
-mul-totals : tie.Need-mul-totals
-mul-totals c = search needs
-
-add-totals-2 : tie.Need-add-totals-2
-add-totals-2 c = search needs
-
-add-sum : tie.Need-add-sum
-add-sum c = search needs
-
-mul-sum : tie.Need-mul-sum
-mul-sum c = search needs
-
-sub-sum : tie.Need-sub-sum
-sub-sum c = search needs
-
-part-sum-start : tie.Need-part-sum-start
-part-sum-start c = search needs
-
-part-sum-end : tie.Need-part-sum-end
-part-sum-end c = search needs
-
-sum-requires : tie.Need-sum-requires
-sum-requires c κs = search needs
 
 put-weights-requires : tie.Need-put-weights-requires
 put-weights-requires c κs =
@@ -109,18 +76,18 @@ pub maximize-model-spec : {M : Type 1} → statement M
 maximize-model-spec =
     tie.close
     (tie.spec
-    gather-requires
+    (λ c κs. search needs)
     put-norms-requires
-    mul-kd
-    add-totals
-    mul-totals
-    add-totals-2
-    add-sum
-    mul-sum
-    sub-sum
-    part-sum-start
-    part-sum-end
-    sum-requires
+    (λ c. search needs)
+    (λ c. search needs)
+    (λ c. search needs)
+    (λ c. search needs)
+    (λ c. search needs)
+    (λ c. search needs)
+    (λ c. search needs)
+    (λ c. search needs)
+    (λ c. search needs)
+    (λ c κs. search needs)
     put-weights-requires
     redirect-requires
     concentrate-requires

@@ -24,31 +24,10 @@ Inv-loop2 work₀ coords i m k d kd resp c₀ work c = (c ≤ k) × (length work
 abbrev μ-loop2 : tie.MeasureT-loop2
 μ-loop2 work₀ coords i m k d kd resp c₀ work c = k - c
 
-mul-kd : tie.Need-mul-kd Inv-loop μ-loop Inv-loop2 μ-loop2
-mul-kd c = search needs
-
-add-resp : tie.Need-add-resp Inv-loop μ-loop Inv-loop2 μ-loop2
-add-resp c = search needs
-
-mul-resp : tie.Need-mul-resp Inv-loop μ-loop Inv-loop2 μ-loop2
-mul-resp c = search needs
-
-add-resp-2 : tie.Need-add-resp-2 Inv-loop μ-loop Inv-loop2 μ-loop2
-add-resp-2 c = search needs
-
-mul-resp-2 : tie.Need-mul-resp-2 Inv-loop μ-loop Inv-loop2 μ-loop2
-mul-resp-2 c = search needs
-
-add-resp-3 : tie.Need-add-resp-3 Inv-loop μ-loop Inv-loop2 μ-loop2
-add-resp-3 c = search needs
-
 loop-holds : tie.Need-loop-holds Inv-loop μ-loop Inv-loop2 μ-loop2
 loop-holds c =
     let a = c .before .before .args in
     (search needs, refl, liked-start (a .m) (a .k) (a .d) (a .work .now) (a .coords .now) (a .i))
-
-sub-loop : tie.Need-sub-loop Inv-loop μ-loop Inv-loop2 μ-loop2
-sub-loop c = search needs
 
 four-likenesses-requires : tie.Need-four-likenesses-requires Inv-loop μ-loop Inv-loop2 μ-loop2
 four-likenesses-requires c κs =
@@ -60,20 +39,11 @@ four-likenesses-requires c κs =
       (b .pre .1 .0, b .pre .1 .1, b .pre .1 .2, h, mul-le-mul-right (a .d) h),
     )
 
-add-put-four : tie.Need-add-put-four Inv-loop μ-loop Inv-loop2 μ-loop2
-add-put-four c = search needs
-
 put-four-requires : tie.Need-put-four-requires Inv-loop μ-loop Inv-loop2 μ-loop2
 put-four-requires c κs =
     let l = c .before .before .before .before .loop in
     let b = c .before .before .before .before .before .before .before in
     omega (arith, c .before .before .before .loop-test .taken, l .inv .0, l .inv .1, b .pre .1 .2 .shares, b .pre .0 .work-long)
-
-add-c : tie.Need-add-c Inv-loop μ-loop Inv-loop2 μ-loop2
-add-c c = search needs
-
-loop-less : tie.Need-loop-less Inv-loop μ-loop Inv-loop2 μ-loop2
-loop-less c = search needs
 
 loop-again : tie.Need-loop-again Inv-loop μ-loop Inv-loop2 μ-loop2
 loop-again c =
@@ -102,21 +72,6 @@ likeness-requires c κs =
       (b .pre .1 .0, b .pre .1 .1, b .pre .1 .2, group-of (l .c) (a .k) (a .d) (c .before .loop2-test .taken)),
     )
 
-add-work : tie.Need-add-work Inv-loop μ-loop Inv-loop2 μ-loop2
-add-work c = search needs
-
-mul-work : tie.Need-mul-work Inv-loop μ-loop Inv-loop2 μ-loop2
-mul-work c = search needs
-
-slice-write-work : tie.Need-slice-write-work Inv-loop μ-loop Inv-loop2 μ-loop2
-slice-write-work c = search needs
-
-add-c-2 : tie.Need-add-c-2 Inv-loop μ-loop Inv-loop2 μ-loop2
-add-c-2 c = search needs
-
-loop2-less : tie.Need-loop2-less Inv-loop μ-loop Inv-loop2 μ-loop2
-loop2-less c = search needs
-
 loop2-again : tie.Need-loop2-again Inv-loop μ-loop Inv-loop2 μ-loop2
 loop2-again c =
     let l = c .before .before .before .loop2 in
@@ -128,9 +83,6 @@ loop2-again c =
       λ w₀ e f. liked-turn (a .m) (a .k) (a .d) w₀ (a .coords .now) (a .i) (b .pre .1 .2 .shares) (omega (arith, b .pre .0 .work-long, u .inv .1, e)) (l .work) (l .c)
           (c .likeness .result) (omega arith) (c .likeness .ensures) (l .inv .2 w₀ e f),
     )
-
-same-length : tie.Need-same-length Inv-loop μ-loop Inv-loop2 μ-loop2
-same-length c = search needs
 
 returns : tie.Need-returns Inv-loop μ-loop Inv-loop2 μ-loop2
 returns c =
@@ -148,27 +100,27 @@ put-likenesses-spec =
     μ-loop
     Inv-loop2
     μ-loop2
-    mul-kd
-    add-resp
-    mul-resp
-    add-resp-2
-    mul-resp-2
-    add-resp-3
+    (λ c. search needs)
+    (λ c. search needs)
+    (λ c. search needs)
+    (λ c. search needs)
+    (λ c. search needs)
+    (λ c. search needs)
     loop-holds
-    sub-loop
+    (λ c. search needs)
     four-likenesses-requires
-    add-put-four
+    (λ c. search needs)
     put-four-requires
-    add-c
-    loop-less
+    (λ c. search needs)
+    (λ c. search needs)
     loop-again
     loop2-holds
     likeness-requires
-    add-work
-    mul-work
-    slice-write-work
-    add-c-2
-    loop2-less
+    (λ c. search needs)
+    (λ c. search needs)
+    (λ c. search needs)
+    (λ c. search needs)
+    (λ c. search needs)
     loop2-again
-    same-length
+    (λ c. search needs)
     returns)

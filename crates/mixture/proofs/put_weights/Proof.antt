@@ -18,50 +18,11 @@ Inv-loop work₀ whole m k d kd weights totals c₀ work c =
 abbrev μ-loop : tie.MeasureT-loop
 μ-loop work₀ whole m k d kd weights totals c₀ work c = k - c
 
-mul-kd : tie.Need-mul-kd Inv-loop μ-loop
-mul-kd c = search needs
-
-add-weights : tie.Need-add-weights Inv-loop μ-loop
-add-weights c = search needs
-
-mul-totals : tie.Need-mul-totals Inv-loop μ-loop
-mul-totals c = search needs
-
-add-totals : tie.Need-add-totals Inv-loop μ-loop
-add-totals c = search needs
-
 loop-holds : tie.Need-loop-holds Inv-loop μ-loop
 loop-holds c =
     let a = c .before .args in
     let p = partsIn (a .m) (a .k) (a .d) (a .work .now) in
     (omega arith, refl, written-start weightsR (weightAt (a .k) (a .whole) (p .totals)) (a .m) (a .k) (a .d) (a .work .now))
-
-add-weight-by : tie.Need-add-weight-by Inv-loop μ-loop
-add-weight-by c = search needs
-
-mul-weight-by : tie.Need-mul-weight-by Inv-loop μ-loop
-mul-weight-by c = search needs
-
-slice-read-weight-by : tie.Need-slice-read-weight-by Inv-loop μ-loop
-slice-read-weight-by c = search needs
-
-weight-by-requires : tie.Need-weight-by-requires Inv-loop μ-loop
-weight-by-requires c κs = search needs
-
-add-work : tie.Need-add-work Inv-loop μ-loop
-add-work c = search needs
-
-mul-work : tie.Need-mul-work Inv-loop μ-loop
-mul-work c = search needs
-
-slice-write-work : tie.Need-slice-write-work Inv-loop μ-loop
-slice-write-work c = search needs
-
-add-c : tie.Need-add-c Inv-loop μ-loop
-add-c c = search needs
-
-loop-less : tie.Need-loop-less Inv-loop μ-loop
-loop-less c = search needs
 
 loop-again : tie.Need-loop-again Inv-loop μ-loop
 loop-again c =
@@ -78,9 +39,6 @@ loop-again c =
     let more = written-turn weightsR f (a .m) (a .k) (a .d) (a .work .now) (l .work) (at + l .c) (l .c) (c .weight-by .result) (omega arith) h (b .pre .work-long) e o in
     (omega arith, search needs, more)
 
-same-length : tie.Need-same-length Inv-loop μ-loop
-same-length c = search needs
-
 returns : tie.Need-returns Inv-loop μ-loop
 returns c =
     let l = c .before .loop in
@@ -95,20 +53,20 @@ put-weights-spec =
     (tie.spec
     Inv-loop
     μ-loop
-    mul-kd
-    add-weights
-    mul-totals
-    add-totals
+    (λ c. search needs)
+    (λ c. search needs)
+    (λ c. search needs)
+    (λ c. search needs)
     loop-holds
-    add-weight-by
-    mul-weight-by
-    slice-read-weight-by
-    weight-by-requires
-    add-work
-    mul-work
-    slice-write-work
-    add-c
-    loop-less
+    (λ c. search needs)
+    (λ c. search needs)
+    (λ c. search needs)
+    (λ c κs. search needs)
+    (λ c. search needs)
+    (λ c. search needs)
+    (λ c. search needs)
+    (λ c. search needs)
+    (λ c. search needs)
     loop-again
-    same-length
+    (λ c. search needs)
     returns)

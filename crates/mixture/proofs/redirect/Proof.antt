@@ -24,31 +24,10 @@ abbrev μ-loop : tie.MeasureT-loop
 row-of : (c : tie.In-loop Inv-loop μ-loop) → let a = c .before .before .before .args in c .before .loop .c * a .d + a .d ≤ a .k * a .d
 row-of c = let a = c .before .before .before .args in row-within (c .before .loop .c) (a .k) (a .d) (c .loop-test .taken)
 
-mul-kd : tie.Need-mul-kd Inv-loop μ-loop
-mul-kd c = search needs
-
-add-norms : tie.Need-add-norms Inv-loop μ-loop
-add-norms c = search needs
-
-mul-norms : tie.Need-mul-norms Inv-loop μ-loop
-mul-norms c = search needs
-
-add-norms-2 : tie.Need-add-norms-2 Inv-loop μ-loop
-add-norms-2 c = search needs
-
 loop-holds : tie.Need-loop-holds Inv-loop μ-loop
 loop-holds c =
     let a = c .before .args in
     (omega arith, refl, directions-start (a .d) (partsIn (a .m) (a .k) (a .d) (a .work .now)))
-
-add-n : tie.Need-add-n Inv-loop μ-loop
-add-n c = search needs
-
-mul-n : tie.Need-mul-n Inv-loop μ-loop
-mul-n c = search needs
-
-slice-read-n : tie.Need-slice-read-n Inv-loop μ-loop
-slice-read-n c = search needs
 
 mul-to : tie.Need-mul-to Inv-loop μ-loop
 mul-to c = search (row-of (c .before .before), needs)
@@ -62,12 +41,6 @@ divide-within-requires c κs =
     let s = c .before .before .before .before .before .before in
     let r = row-of (c .before .before .before) in
     record { order = omega (arith, r); within = omega (arith, r, l .inv .1, s .pre .0 .work-long) }
-
-add-c : tie.Need-add-c Inv-loop μ-loop
-add-c c = search needs
-
-loop-less : tie.Need-loop-less Inv-loop μ-loop
-loop-less c = search needs
 
 loop-again : tie.Need-loop-again Inv-loop μ-loop
 unfolding ofBits
@@ -86,9 +59,6 @@ loop-again c =
           (c .if1 .came),
     )
 
-same-length : tie.Need-same-length Inv-loop μ-loop
-same-length c = search needs
-
 returns : tie.Need-returns Inv-loop μ-loop
 returns c =
     let l = c .before .loop in
@@ -102,19 +72,19 @@ redirect-spec =
     (tie.spec
     Inv-loop
     μ-loop
-    mul-kd
-    add-norms
-    mul-norms
-    add-norms-2
+    (λ c. search needs)
+    (λ c. search needs)
+    (λ c. search needs)
+    (λ c. search needs)
     loop-holds
-    add-n
-    mul-n
-    slice-read-n
+    (λ c. search needs)
+    (λ c. search needs)
+    (λ c. search needs)
     mul-to
     add-divide-within
     divide-within-requires
-    add-c
-    loop-less
+    (λ c. search needs)
+    (λ c. search needs)
     loop-again
-    same-length
+    (λ c. search needs)
     returns)

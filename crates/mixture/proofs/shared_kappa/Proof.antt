@@ -13,48 +13,6 @@ use borrow.Author.Needs.{needs}
 use Rattle.mixture.proofs.shared_kappa.Statement.{statement}
 use Rattle.mixture.proofs.shared_kappa.Tie as tie
 
-mul-kd : tie.Need-mul-kd
-mul-kd c = search needs
-
-add-kappas : tie.Need-add-kappas
-add-kappas c = search needs
-
-add-kappas-2 : tie.Need-add-kappas-2
-add-kappas-2 c = search needs
-
-mul-norms : tie.Need-mul-norms
-mul-norms c = search needs
-
-add-norms : tie.Need-add-norms
-add-norms c = search needs
-
-add-fold : tie.Need-add-fold
-add-fold c = search needs
-
-mul-fold : tie.Need-mul-fold
-mul-fold c = search needs
-
-sub-fold : tie.Need-sub-fold
-sub-fold c = search needs
-
-part-fold-start : tie.Need-part-fold-start
-part-fold-start c = search needs
-
-part-fold-end : tie.Need-part-fold-end
-part-fold-end c = search needs
-
-fold-requires : tie.Need-fold-requires
-fold-requires c κs = search needs
-
-kappa-by-requires : tie.Need-kappa-by-requires
-kappa-by-requires c κs = search needs
-
-fill-at-requires : tie.Need-fill-at-requires
-fill-at-requires c κs = search needs
-
-same-length : tie.Need-same-length
-same-length c = search needs
-
 returns : tie.Need-returns
 returns c =
     let q = c .before .before .before in
@@ -76,18 +34,18 @@ pub shared-kappa-spec : {M : Type 1} → statement M
 shared-kappa-spec =
     tie.close
     (tie.spec
-    mul-kd
-    add-kappas
-    add-kappas-2
-    mul-norms
-    add-norms
-    add-fold
-    mul-fold
-    sub-fold
-    part-fold-start
-    part-fold-end
-    fold-requires
-    kappa-by-requires
-    fill-at-requires
-    same-length
+    (λ c. search needs)
+    (λ c. search needs)
+    (λ c. search needs)
+    (λ c. search needs)
+    (λ c. search needs)
+    (λ c. search needs)
+    (λ c. search needs)
+    (λ c. search needs)
+    (λ c. search needs)
+    (λ c. search needs)
+    (λ c κs. search needs)
+    (λ c κs. search needs)
+    (λ c κs. search needs)
+    (λ c. search needs)
     returns)

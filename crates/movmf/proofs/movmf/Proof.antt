@@ -3,9 +3,6 @@ use borrow.Author.Needs.{needs}
 use Rattle.movmf.proofs.movmf.Statement.{statement}
 use Rattle.movmf.proofs.movmf.Tie as tie
 
-movmf-with-requires : tie.Need-movmf-with-requires
-movmf-with-requires c κs = search needs
-
 same-length : tie.Need-same-length
 same-length c = c .before .before .before .before .before .before .before .before .before .before .before .before .before .before .before .before .movmf-with .kept .1 .1 .1 .1 .1 .0
 
@@ -37,7 +34,7 @@ pub movmf-spec : {M : Type 1} → statement M
 movmf-spec =
     tie.close
     (tie.spec
-    movmf-with-requires
+    (λ c κs. search needs)
     same-length
     same-length-2
     same-length-3

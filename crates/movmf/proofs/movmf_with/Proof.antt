@@ -30,9 +30,6 @@ ready-at c =
     let a = s .args in
     ready (a .weights .now) (a .coords .now) (a .d) (a .k) (a .s .rounds) (lengthsOf (found s) (length (a .work .now)) (length (a .marks .now))) (c .before .refusal .result) (c .before .refusal .ensures) (c .if1 .left)
 
-refusal-requires : tie.Need-refusal-requires
-refusal-requires c κs = search needs
-
 returns : tie.Need-returns
 returns c =
     let s = c .before .before .before .before .before .before .before .before .before .before .before .before in
@@ -49,9 +46,6 @@ fill-outputs-requires c κs =
     let r = ready-at (c .before .before .before .before .before .before .before .before .before .before .before .before .before .before) in
     fillable _ (length (a .weights .now)) (length (a .coords .now)) (length (a .weights .now)) (a .k) (a .d) (a .s .rounds) (lengthsOf (found s) (length (a .work .now)) (length (a .marks .now)))
     (c .before .before .before .before .before .before .before .before .before .before .before .four-runs .kept .0) (r .roomy) (r .arrays)
-
-kept-loglik-requires : tie.Need-kept-loglik-requires
-kept-loglik-requires c κs = search needs
 
 same-length : tie.Need-same-length
 same-length c = c .before .before .before .before .before .before .before .before .before .before .before .before .before .fill-outputs .kept .0
@@ -90,11 +84,11 @@ pub movmf-with-spec : {M : Type 1} → statement M
 movmf-with-spec =
     tie.close
     (tie.spec
-    refusal-requires
+    (λ c κs. search needs)
     returns
     four-runs-requires
     fill-outputs-requires
-    kept-loglik-requires
+    (λ c κs. search needs)
     same-length
     same-length-2
     same-length-3

@@ -23,31 +23,16 @@ Inv-loop2 x centers at k d b₀ c₀ b c = (0 < c) × (c ≤ k) × (b ≡ bestTo
 abbrev μ-loop2 : tie.MeasureT-loop2
 μ-loop2 x centers at k d b₀ c₀ b c = k - c
 
-loop-holds : tie.Need-loop-holds Inv-loop μ-loop Inv-loop2 μ-loop2
-loop-holds c = search needs
-
-sub-loop : tie.Need-sub-loop Inv-loop μ-loop Inv-loop2 μ-loop2
-sub-loop c = search needs
-
 row-dots-requires : tie.Need-row-dots-requires Inv-loop μ-loop Inv-loop2 μ-loop2
 row-dots-requires c κs =
     let s = c .before .before .before .before in
     let h : c .before .loop .c + 4 ≤ s .args .k = omega (arith, c .loop-test .taken, c .before .loop .inv .1) in
     omega (arith, mul-le-mul-right (s .args .d) h, s .pre .0 .long)
 
-better-requires : tie.Need-better-requires Inv-loop μ-loop Inv-loop2 μ-loop2
-better-requires c κs = search needs
-
-with-three-requires : tie.Need-with-three-requires Inv-loop μ-loop Inv-loop2 μ-loop2
-with-three-requires c κs = search needs
-
 add-c : tie.Need-add-c Inv-loop μ-loop Inv-loop2 μ-loop2
 add-c c =
     let l = c .before .before .before .before in
     omega (arith, l .before .before .before .fits .k, l .loop .inv .1, c .before .before .before .loop-test .taken)
-
-loop-less : tie.Need-loop-less Inv-loop μ-loop Inv-loop2 μ-loop2
-loop-less c = search needs
 
 loop-again : tie.Need-loop-again Inv-loop μ-loop Inv-loop2 μ-loop2
 loop-again c =
@@ -64,22 +49,10 @@ loop-again c =
           (c .with-three .ensures),
     )
 
-loop2-holds : tie.Need-loop2-holds Inv-loop μ-loop Inv-loop2 μ-loop2
-loop2-holds c = search needs
-
 row-dot-requires : tie.Need-row-dot-requires Inv-loop μ-loop Inv-loop2 μ-loop2
 row-dot-requires c κs =
     let s = c .before .before .before .before .before .before in
     omega (arith, row-within (c .before .loop2 .c) (s .args .k) (s .args .d) (c .loop2-test .taken), s .pre .0 .long)
-
-better-requires-2 : tie.Need-better-requires-2 Inv-loop μ-loop Inv-loop2 μ-loop2
-better-requires-2 c κs = search needs
-
-add-c-2 : tie.Need-add-c-2 Inv-loop μ-loop Inv-loop2 μ-loop2
-add-c-2 c = search needs
-
-loop2-less : tie.Need-loop2-less Inv-loop μ-loop Inv-loop2 μ-loop2
-loop2-less c = search needs
 
 loop2-again : tie.Need-loop2-again Inv-loop μ-loop Inv-loop2 μ-loop2
 loop2-again c =
@@ -107,18 +80,18 @@ best-from-spec =
     μ-loop
     Inv-loop2
     μ-loop2
-    loop-holds
-    sub-loop
+    (λ c. search needs)
+    (λ c. search needs)
     row-dots-requires
-    better-requires
-    with-three-requires
+    (λ c κs. search needs)
+    (λ c κs. search needs)
     add-c
-    loop-less
+    (λ c. search needs)
     loop-again
-    loop2-holds
+    (λ c. search needs)
     row-dot-requires
-    better-requires-2
-    add-c-2
-    loop2-less
+    (λ c κs. search needs)
+    (λ c. search needs)
+    (λ c. search needs)
     loop2-again
     returns)

@@ -22,17 +22,11 @@ best-from-requires c κs =
     let s = c .before .before .before .before in
     (s .pre, (omega arith, s .pre .some, rw (c .row-dot .ensures)))
 
-returns : tie.Need-returns
-returns c = search needs
-
 row-dots-requires : tie.Need-row-dots-requires
 row-dots-requires c κs =
     let s = c .before .before .before in
     let h : 4 ≤ s .args .k = omega (arith, c .if1 .left) in
     omega (arith, mul-le-mul-right (s .args .d) h, s .pre .long)
-
-with-three-requires : tie.Need-with-three-requires
-with-three-requires c κs = search needs
 
 best-from-requires-2 : tie.Need-best-from-requires-2
 unfolding neg div ofBits bestTo
@@ -52,17 +46,14 @@ best-from-requires-2 c κs =
       ),
     )
 
-returns-2 : tie.Need-returns-2
-returns-2 c = search needs
-
 pub best-of-spec : {M : Type 1} → statement M
 best-of-spec =
     tie.close
     (tie.spec
     row-dot-requires
     best-from-requires
-    returns
+    (λ c. search needs)
     row-dots-requires
-    with-three-requires
+    (λ c κs. search needs)
     best-from-requires-2
-    returns-2)
+    (λ c. search needs))

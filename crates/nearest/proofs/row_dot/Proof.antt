@@ -6,27 +6,6 @@ use borrow.Author.Needs.{needs}
 use Rattle.nearest.proofs.row_dot.Statement.{statement}
 use Rattle.nearest.proofs.row_dot.Tie as tie
 
-mul-at : tie.Need-mul-at
-mul-at c = search needs
-
-add-dot : tie.Need-add-dot
-add-dot c = search needs
-
-mul-dot : tie.Need-mul-dot
-mul-dot c = search needs
-
-sub-dot : tie.Need-sub-dot
-sub-dot c = search needs
-
-part-dot-start : tie.Need-part-dot-start
-part-dot-start c = search needs
-
-part-dot-end : tie.Need-part-dot-end
-part-dot-end c = search needs
-
-dot-requires : tie.Need-dot-requires
-dot-requires c κs = search needs
-
 returns : tie.Need-returns
 returns c =
     let a = c .before .before .before .before .args in
@@ -37,4 +16,4 @@ returns c =
 pub row-dot-spec : {M : Type 1} → statement M
 row-dot-spec =
     tie.close
-    (tie.spec mul-at add-dot mul-dot sub-dot part-dot-start part-dot-end dot-requires returns)
+    (tie.spec (λ c. search needs) (λ c. search needs) (λ c. search needs) (λ c. search needs) (λ c. search needs) (λ c. search needs) (λ c κs. search needs) returns)

@@ -3,14 +3,8 @@ use borrow.Author.Needs.{needs}
 use Rattle.outputs.proofs.arrays_ok.Statement.{statement}
 use Rattle.outputs.proofs.arrays_ok.Tie as tie
 
-outputs-ok-requires : tie.Need-outputs-ok-requires
-outputs-ok-requires c κs = search needs
-
-work-ok-requires : tie.Need-work-ok-requires
-work-ok-requires c κs = search needs
-
 returns : tie.Need-returns
 returns c = rw (c .before .outputs-ok .ensures, c .work-ok .ensures)
 
 pub arrays-ok-spec : {M : Type 1} → statement M
-arrays-ok-spec = tie.close (tie.spec outputs-ok-requires work-ok-requires returns)
+arrays-ok-spec = tie.close (tie.spec (λ c κs. search needs) (λ c κs. search needs) returns)

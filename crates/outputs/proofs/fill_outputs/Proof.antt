@@ -4,9 +4,6 @@ use borrow.Author.Needs.{needs}
 use Rattle.outputs.proofs.fill_outputs.Statement.{statement}
 use Rattle.outputs.proofs.fill_outputs.Tie as tie
 
-kept-part-requires : tie.Need-kept-part-requires
-kept-part-requires c κs = search needs
-
 fill-leaves-requires : tie.Need-fill-leaves-requires
 fill-leaves-requires c κs =
     let s = c .before .before .before .before .before .before .before .before .before .before in
@@ -48,7 +45,7 @@ pub fill-outputs-spec : {M : Type 1} → statement M
 fill-outputs-spec =
     tie.close
     (tie.spec
-    kept-part-requires
+    (λ c κs. search needs)
     fill-leaves-requires
     fill-groups-requires
     same-length

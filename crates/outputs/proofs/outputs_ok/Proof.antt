@@ -11,8 +11,5 @@ mul-mk c = omega (arith, mul-le-mul (c .pre .0) (c .pre .1))
 mul-kd : tie.Need-mul-kd
 mul-kd c = omega (arith, mul-le-mul (c .pre .1) (c .pre .2))
 
-returns : tie.Need-returns
-returns c = search needs
-
 pub outputs-ok-spec : {M : Type 1} → statement M
-outputs-ok-spec = tie.close (tie.spec mul-mk mul-kd returns)
+outputs-ok-spec = tie.close (tie.spec mul-mk mul-kd (λ c. search needs))

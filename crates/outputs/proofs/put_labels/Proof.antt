@@ -36,17 +36,8 @@ add-argmax c = search (row-of c, needs)
 mul-argmax : tie.Need-mul-argmax Inv-loop μ-loop
 mul-argmax c = search (row-of c, needs)
 
-sub-argmax : tie.Need-sub-argmax Inv-loop μ-loop
-sub-argmax c = search needs
-
-part-argmax-start : tie.Need-part-argmax-start Inv-loop μ-loop
-part-argmax-start c = search needs
-
 part-argmax-end : tie.Need-part-argmax-end Inv-loop μ-loop
 part-argmax-end c = search (row-of c, needs)
-
-argmax-requires : tie.Need-argmax-requires Inv-loop μ-loop
-argmax-requires c κs = search needs
 
 cast-labels : tie.Need-cast-labels Inv-loop μ-loop
 cast-labels c =
@@ -55,18 +46,6 @@ cast-labels c =
     let at = c .before .before .before .loop .i * a .k in
     omega (arith, label-below (a .resp .now) at (a .k) (c .argmax .result) (omega (arith, row-of (c .before .before), s .1)) (s .3) (c .argmax .ensures), s .4)
 
-mul-labels : tie.Need-mul-labels Inv-loop μ-loop
-mul-labels c = search needs
-
-slice-write-labels : tie.Need-slice-write-labels Inv-loop μ-loop
-slice-write-labels c = search needs
-
-add-i : tie.Need-add-i Inv-loop μ-loop
-add-i c = search needs
-
-loop-less : tie.Need-loop-less Inv-loop μ-loop
-loop-less c = search needs
-
 loop-again : tie.Need-loop-again Inv-loop μ-loop
 loop-again c =
     let l = c .before .before .before .loop in
@@ -74,9 +53,6 @@ loop-again c =
     let f : ℕ → ℕ = λ n. argmaxOf (rowOf (a .resp .now) (a .k) n) in
     let e : c .argmax .result ≡ f (l .i) = c .argmax .ensures ∙ ap argmaxOf (row-cut (a .resp .now) (a .k) (l .i)) in
     (omega arith, search needs, listed-turn f (l .labels) (l .i) (c .argmax .result) (omega arith) e (l .inv .2))
-
-same-length : tie.Need-same-length Inv-loop μ-loop
-same-length c = search needs
 
 returns : tie.Need-returns Inv-loop μ-loop
 returns c =
@@ -95,15 +71,15 @@ put-labels-spec =
     mul-at
     add-argmax
     mul-argmax
-    sub-argmax
-    part-argmax-start
+    (λ c. search needs)
+    (λ c. search needs)
     part-argmax-end
-    argmax-requires
+    (λ c κs. search needs)
     cast-labels
-    mul-labels
-    slice-write-labels
-    add-i
-    loop-less
+    (λ c. search needs)
+    (λ c. search needs)
+    (λ c. search needs)
+    (λ c. search needs)
     loop-again
-    same-length
+    (λ c. search needs)
     returns)

@@ -37,12 +37,6 @@ tally-requires c κs =
     let small = pass-small (a .coords .now) (a .k) (a .d) (a .it) _ (l .i) _ (l .p) (l .inv .2) (omega (arith, l .inv .0, l .inv .1 .m-small)) (l .inv .1 .k-small) in
     (small .0, small .1, l .inv .1 .k-small)
 
-add-i : tie.Need-add-i Inv-loop μ-loop
-add-i c = search needs
-
-loop-less : tie.Need-loop-less Inv-loop μ-loop
-loop-less c = search needs
-
 loop-again : tie.Need-loop-again Inv-loop μ-loop
 loop-again c =
     let f = c .before .before .before .before .before in
@@ -83,8 +77,8 @@ assign-spec =
     loop-holds
     assign-leaf-requires
     tally-requires
-    add-i
-    loop-less
+    (λ c. search needs)
+    (λ c. search needs)
     loop-again
     same-length
     same-length-2

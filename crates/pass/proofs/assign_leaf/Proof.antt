@@ -5,15 +5,6 @@ use borrow.Author.Needs.{needs}
 use Rattle.pass.proofs.assign_leaf.Statement.{statement}
 use Rattle.pass.proofs.assign_leaf.Tie as tie
 
-bounds-at-requires : tie.Need-bounds-at-requires
-bounds-at-requires c κs = search needs
-
-is-skipped-requires : tie.Need-is-skipped-requires
-is-skipped-requires c κs = search needs
-
-same-length : tie.Need-same-length
-same-length c = search needs
-
 returns : tie.Need-returns
 returns c =
     let s = c .before .before .before .before .before .before .before in
@@ -21,15 +12,6 @@ returns c =
     let x = stateIn (a .m) (a .k) (a .d) (a .work .now) (a .marks .now) in
     leaf-skipped (a .coords .now) (a .k) (a .d) (a .it) (a .i) x x (c .before .before .bounds-at .result) (c .before .is-skipped .result)
     (c .before .before .bounds-at .ensures (a .marks .now)) (c .before .is-skipped .ensures) (c .if1 .taken)
-
-place-leaf-requires : tie.Need-place-leaf-requires
-place-leaf-requires c κs = search needs
-
-same-length-2 : tie.Need-same-length-2
-same-length-2 c = search needs
-
-same-length-3 : tie.Need-same-length-3
-same-length-3 c = search needs
 
 returns-2 : tie.Need-returns-2
 returns-2 c =
@@ -45,11 +27,11 @@ pub assign-leaf-spec : {M : Type 1} → statement M
 assign-leaf-spec =
     tie.close
     (tie.spec
-    bounds-at-requires
-    is-skipped-requires
-    same-length
+    (λ c κs. search needs)
+    (λ c κs. search needs)
+    (λ c. search needs)
     returns
-    place-leaf-requires
-    same-length-2
-    same-length-3
+    (λ c κs. search needs)
+    (λ c. search needs)
+    (λ c. search needs)
     returns-2)

@@ -8,9 +8,6 @@ use Rattle.bounds.proofs.Skips.{no-skip}
 use Rattle.pass.proofs.is_spent.Statement.{statement}
 use Rattle.pass.proofs.is_spent.Tie as tie
 
-may-skip-requires : tie.Need-may-skip-requires
-may-skip-requires c κs = search needs
-
 returns : tie.Need-returns
 unfolding ofBits
 returns c e =
@@ -27,4 +24,4 @@ returns-3 : tie.Need-returns-3
 returns-3 c e = absurd (true≢false (sym e))
 
 pub is-spent-spec : {M : Type 1} → statement M
-is-spent-spec = tie.close (tie.spec may-skip-requires returns returns-2 returns-3)
+is-spent-spec = tie.close (tie.spec (λ c κs. search needs) returns returns-2 returns-3)

@@ -8,15 +8,6 @@ use borrow.Author.Needs.{needs}
 use Rattle.pass.proofs.pass.Statement.{statement}
 use Rattle.pass.proofs.pass.Tie as tie
 
-shift-and-assign-requires : tie.Need-shift-and-assign-requires
-shift-and-assign-requires c κs = search needs
-
-same-length : tie.Need-same-length
-same-length c = search needs
-
-same-length-2 : tie.Need-same-length-2
-same-length-2 c = search needs
-
 returns : tie.Need-returns
 returns c =
     let f = c .before .before .before .before in
@@ -26,15 +17,6 @@ returns c =
           ∙ ap (λ (x : State). passUpTo (a .coords .now) (a .k) (a .d) (a .it) x (a .m)) (shift-made (a .m) (a .k) (a .it) s (f .before .before .before .if1 .taken)),
       f .shift-and-assign .ensures .1,
     )
-
-assign-requires : tie.Need-assign-requires
-assign-requires c κs = search needs
-
-same-length-3 : tie.Need-same-length-3
-same-length-3 c = search needs
-
-same-length-4 : tie.Need-same-length-4
-same-length-4 c = search needs
 
 returns-2 : tie.Need-returns-2
 returns-2 c =
@@ -50,11 +32,11 @@ pub pass-spec : {M : Type 1} → statement M
 pass-spec =
     tie.close
     (tie.spec
-    shift-and-assign-requires
-    same-length
-    same-length-2
+    (λ c κs. search needs)
+    (λ c. search needs)
+    (λ c. search needs)
     returns
-    assign-requires
-    same-length-3
-    same-length-4
+    (λ c κs. search needs)
+    (λ c. search needs)
+    (λ c. search needs)
     returns-2)

@@ -19,27 +19,6 @@ best-at c =
     let a = c .before .before .before .before .before .before .before .args in
     best-is (a .m) (a .k) (a .d) (a .work .now) (a .marks .now) (a .coords .now) (a .i) (c .best-of .result) (c .best-of .ensures)
 
-mul-kd : tie.Need-mul-kd
-mul-kd c = search needs
-
-mul-at : tie.Need-mul-at
-mul-at c = search needs
-
-add-best-of : tie.Need-add-best-of
-add-best-of c = search needs
-
-mul-best-of : tie.Need-mul-best-of
-mul-best-of c = search needs
-
-sub-best-of : tie.Need-sub-best-of
-sub-best-of c = search needs
-
-part-best-of-start : tie.Need-part-best-of-start
-part-best-of-start c = search needs
-
-part-best-of-end : tie.Need-part-best-of-end
-part-best-of-end c = search needs
-
 slice-aggregate-best-of : tie.Need-slice-aggregate-best-of
 slice-aggregate-best-of c = let s = c .before .before .before .before .before .before in sym (length-take-le (s .args .k * s .args .d) (s .args .work .now) (omega (arith, s .pre .0 .work-long)))
 
@@ -52,33 +31,6 @@ best-of-requires c κs =
       small = s .pre .0 .kd-small;
       long = length-take-le (s .args .k * s .args .d) (s .args .work .now) (omega (arith, s .pre .0 .work-long));
     }
-
-bounds-at-requires : tie.Need-bounds-at-requires
-bounds-at-requires c κs = search needs
-
-add-served : tie.Need-add-served
-add-served c = search needs
-
-add-served-2 : tie.Need-add-served-2
-add-served-2 c = search needs
-
-add-served-3 : tie.Need-add-served-3
-add-served-3 c = search needs
-
-add-served-4 : tie.Need-add-served-4
-add-served-4 c = search needs
-
-add-work : tie.Need-add-work
-add-work c = search needs
-
-mul-work : tie.Need-mul-work
-mul-work c = search needs
-
-slice-write-work : tie.Need-slice-write-work
-slice-write-work c = search needs
-
-bounds-by-requires : tie.Need-bounds-by-requires
-bounds-by-requires c κs = search needs
 
 put-bounds-requires : tie.Need-put-bounds-requires
 put-bounds-requires c κs =
@@ -94,9 +46,6 @@ cast-label c =
     let below = leaf-below (a .m) (a .k) (a .d) (a .work .now) (a .marks .now) (a .coords .now) (a .i) (b .best-of .result) (s .pre .0 .k-some) (best-at b) in
     omega (arith, below, s .pre .0 .k-small)
 
-mul-changed : tie.Need-mul-changed
-mul-changed c = search needs
-
 slice-read-changed : tie.Need-slice-read-changed
 slice-read-changed c = let s = c .before .before .before .before .before .before .before .before .before .before .before .before .before .before .before in omega (arith, s .pre .0 .marks-long, s .pre .1 .below)
 
@@ -108,9 +57,6 @@ slice-write-marks c = let s = c .before .before .before .before .before .before 
 
 same-length : tie.Need-same-length
 same-length c = simp length-set at (c .before .before .before .before .put-bounds .kept .0)
-
-same-length-2 : tie.Need-same-length-2
-same-length-2 c = search needs
 
 returns : tie.Need-returns
 returns c =
@@ -129,30 +75,30 @@ pub place-leaf-spec : {M : Type 1} → statement M
 place-leaf-spec =
     tie.close
     (tie.spec
-    mul-kd
-    mul-at
-    add-best-of
-    mul-best-of
-    sub-best-of
-    part-best-of-start
-    part-best-of-end
+    (λ c. search needs)
+    (λ c. search needs)
+    (λ c. search needs)
+    (λ c. search needs)
+    (λ c. search needs)
+    (λ c. search needs)
+    (λ c. search needs)
     slice-aggregate-best-of
     best-of-requires
-    bounds-at-requires
-    add-served
-    add-served-2
-    add-served-3
-    add-served-4
-    add-work
-    mul-work
-    slice-write-work
-    bounds-by-requires
+    (λ c κs. search needs)
+    (λ c. search needs)
+    (λ c. search needs)
+    (λ c. search needs)
+    (λ c. search needs)
+    (λ c. search needs)
+    (λ c. search needs)
+    (λ c. search needs)
+    (λ c κs. search needs)
     put-bounds-requires
     cast-label
-    mul-changed
+    (λ c. search needs)
     slice-read-changed
     mul-marks
     slice-write-marks
     same-length
-    same-length-2
+    (λ c. search needs)
     returns)

@@ -24,42 +24,6 @@ Inv-loop work₀ marks₀ coords it m k d kd drift t p₀ i₀ work marks p i =
 abbrev μ-loop : tie.MeasureT-loop
 μ-loop work₀ marks₀ coords it m k d kd drift t p₀ i₀ work marks p i = m - i
 
-mul-kd : tie.Need-mul-kd Inv-loop μ-loop
-mul-kd c = search needs
-
-add-drift : tie.Need-add-drift Inv-loop μ-loop
-add-drift c = search needs
-
-add-drift-2 : tie.Need-add-drift-2 Inv-loop μ-loop
-add-drift-2 c = search needs
-
-add-drift-3 : tie.Need-add-drift-3 Inv-loop μ-loop
-add-drift-3 c = search needs
-
-add-drift-4 : tie.Need-add-drift-4 Inv-loop μ-loop
-add-drift-4 c = search needs
-
-add-drift-5 : tie.Need-add-drift-5 Inv-loop μ-loop
-add-drift-5 c = search needs
-
-add-two-smallest : tie.Need-add-two-smallest Inv-loop μ-loop
-add-two-smallest c = search needs
-
-mul-two-smallest : tie.Need-mul-two-smallest Inv-loop μ-loop
-mul-two-smallest c = search needs
-
-sub-two-smallest : tie.Need-sub-two-smallest Inv-loop μ-loop
-sub-two-smallest c = search needs
-
-part-two-smallest-start : tie.Need-part-two-smallest-start Inv-loop μ-loop
-part-two-smallest-start c = search needs
-
-part-two-smallest-end : tie.Need-part-two-smallest-end Inv-loop μ-loop
-part-two-smallest-end c = search needs
-
-two-smallest-requires : tie.Need-two-smallest-requires Inv-loop μ-loop
-two-smallest-requires c κs = search needs
-
 loop-holds : tie.Need-loop-holds Inv-loop μ-loop
 unfolding shiftUpTo passUpTo
 loop-holds c = (omega arith, c .before .before .before .before .before .before .pre .0, refl, refl, refl)
@@ -80,12 +44,6 @@ tally-requires c κs =
     let a = c .before .before .before .before .before .before .before .before .before .before .before .before .before .before .before .args in
     let small = pass-small (a .coords .now) (a .k) (a .d) (a .it) _ (l .i) _ (l .p) (l .inv .2) (omega (arith, l .inv .0, l .inv .1 .m-small)) (l .inv .1 .k-small) in
     (small .0, small .1, l .inv .1 .k-small)
-
-add-i : tie.Need-add-i Inv-loop μ-loop
-add-i c = search needs
-
-loop-less : tie.Need-loop-less Inv-loop μ-loop
-loop-less c = search needs
 
 loop-again : tie.Need-loop-again Inv-loop μ-loop
 loop-again c =
@@ -129,23 +87,23 @@ shift-and-assign-spec =
     (tie.spec
     Inv-loop
     μ-loop
-    mul-kd
-    add-drift
-    add-drift-2
-    add-drift-3
-    add-drift-4
-    add-drift-5
-    add-two-smallest
-    mul-two-smallest
-    sub-two-smallest
-    part-two-smallest-start
-    part-two-smallest-end
-    two-smallest-requires
+    (λ c. search needs)
+    (λ c. search needs)
+    (λ c. search needs)
+    (λ c. search needs)
+    (λ c. search needs)
+    (λ c. search needs)
+    (λ c. search needs)
+    (λ c. search needs)
+    (λ c. search needs)
+    (λ c. search needs)
+    (λ c. search needs)
+    (λ c κs. search needs)
     loop-holds
     turn-leaf-requires
     tally-requires
-    add-i
-    loop-less
+    (λ c. search needs)
+    (λ c. search needs)
     loop-again
     same-length
     same-length-2

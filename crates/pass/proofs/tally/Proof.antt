@@ -6,14 +6,8 @@ use borrow.Author.Needs.{needs}
 use Rattle.pass.proofs.tally.Statement.{statement}
 use Rattle.pass.proofs.tally.Tie as tie
 
-add-t10 : tie.Need-add-t10
-add-t10 c = search needs
-
 returns : tie.Need-returns
 returns c = simp (c .if1 .taken)
-
-add-t16 : tie.Need-add-t16
-add-t16 c = search needs
 
 returns-2 : tie.Need-returns-2
 returns-2 c =
@@ -21,4 +15,4 @@ returns-2 c =
     simp (c .before .if1 .left, e)
 
 pub tally-spec : {M : Type 1} → statement M
-tally-spec = tie.close (tie.spec add-t10 returns add-t16 returns-2)
+tally-spec = tie.close (tie.spec (λ c. search needs) returns (λ c. search needs) returns-2)

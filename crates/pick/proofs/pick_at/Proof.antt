@@ -17,35 +17,17 @@ Inv-loop w start t₀ i₀ t i = (i ≤ length w) × (pickFrom t i (drop i w) �
 abbrev μ-loop : tie.MeasureT-loop
 μ-loop w start t₀ i₀ t i = length w - i
 
-loop-holds : tie.Need-loop-holds Inv-loop μ-loop
-loop-holds c = search needs
-
-mul-t : tie.Need-mul-t Inv-loop μ-loop
-mul-t c = search needs
-
-shared-slice-read-t : tie.Need-shared-slice-read-t Inv-loop μ-loop
-shared-slice-read-t c = search needs
-
 returns : tie.Need-returns Inv-loop μ-loop
 unfolding ofBits
 returns c =
     let l = c .before .before .before in
     pick-found (l .loop .t) (l .before .args .w .now) (l .loop .i) (omega arith) (c .if1 .taken) ∙ l .loop .inv .1
 
-add-i : tie.Need-add-i Inv-loop μ-loop
-add-i c = search needs
-
-loop-less : tie.Need-loop-less Inv-loop μ-loop
-loop-less c = search needs
-
 loop-again : tie.Need-loop-again Inv-loop μ-loop
 unfolding ofBits
 loop-again c =
     let l = c .before .before .before in
     (omega arith, pick-turn (l .loop .t) (l .before .args .w .now) (l .loop .i) (omega arith) (c .if1 .left) ∙ l .loop .inv .1)
-
-sub-result : tie.Need-sub-result Inv-loop μ-loop
-sub-result c = search needs
 
 returns-2 : tie.Need-returns-2 Inv-loop μ-loop
 returns-2 c =
@@ -64,13 +46,13 @@ pick-at-spec =
     (tie.spec
     Inv-loop
     μ-loop
-    loop-holds
-    mul-t
-    shared-slice-read-t
+    (λ c. search needs)
+    (λ c. search needs)
+    (λ c. search needs)
     returns
-    add-i
-    loop-less
+    (λ c. search needs)
+    (λ c. search needs)
     loop-again
-    sub-result
+    (λ c. search needs)
     returns-2
     returns-3)

@@ -24,18 +24,6 @@ module _ (ws : List Float) (state : ℕ) (total : Float) (d : Drawn) (sums : tot
       → _≡_ {A = Picked} (record { index = i; state = d .state }) (pickOf ws state)
   high u i f p t = rw (p, f, draws, ← sums, t)
 
-sum-requires : tie.Need-sum-requires
-sum-requires c κs = search needs
-
-draw-u64-requires : tie.Need-draw-u64-requires
-draw-u64-requires c κs = search needs
-
-at-least-one-requires : tie.Need-at-least-one-requires
-at-least-one-requires c κs = search needs
-
-rem-t9 : tie.Need-rem-t9
-rem-t9 c = search needs
-
 returns : tie.Need-returns
 unfolding ofBits
 returns c =
@@ -45,12 +33,6 @@ returns c =
     low (x .w .now) (x .state) (s .sum .result) (d .draw-u64 .result) (s .sum .ensures) (d .draw-u64 .ensures) (c .at-least-one .result)
     (c .at-least-one .ensures)
     (c .before .if1 .taken)
-
-unit-f64-requires : tie.Need-unit-f64-requires
-unit-f64-requires c κs = search needs
-
-pick-at-requires : tie.Need-pick-at-requires
-pick-at-requires c κs = search needs
 
 returns-2 : tie.Need-returns-2
 unfolding ofBits
@@ -68,11 +50,11 @@ pub weighted-pick-spec : {M : Type 1} → statement M
 weighted-pick-spec =
     tie.close
     (tie.spec
-    sum-requires
-    draw-u64-requires
-    at-least-one-requires
-    rem-t9
+    (λ c κs. search needs)
+    (λ c κs. search needs)
+    (λ c κs. search needs)
+    (λ c. search needs)
     returns
-    unit-f64-requires
-    pick-at-requires
+    (λ c κs. search needs)
+    (λ c κs. search needs)
     returns-2)

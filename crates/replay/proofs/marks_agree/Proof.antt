@@ -11,49 +11,19 @@ Inv-loop v n text p s₀ j₀ s j = j ≤ length v
 abbrev μ-loop : tie.MeasureT-loop
 μ-loop v n text p s₀ j₀ s j = length v - j
 
-loop-holds : tie.Need-loop-holds Inv-loop μ-loop
-loop-holds c = search needs
-
-mul-mark : tie.Need-mul-mark Inv-loop μ-loop
-mul-mark c = search needs
-
-shared-slice-read-mark : tie.Need-shared-slice-read-mark Inv-loop μ-loop
-shared-slice-read-mark c = search needs
-
-mark-requires : tie.Need-mark-requires Inv-loop μ-loop
-mark-requires c κs = search needs
-
-see-requires : tie.Need-see-requires Inv-loop μ-loop
-see-requires c κs = search needs
-
-add-j : tie.Need-add-j Inv-loop μ-loop
-add-j c = search needs
-
-loop-less : tie.Need-loop-less Inv-loop μ-loop
-loop-less c = search needs
-
-loop-again : tie.Need-loop-again Inv-loop μ-loop
-loop-again c = search needs
-
-past-requires : tie.Need-past-requires Inv-loop μ-loop
-past-requires c κs = search needs
-
-returns : tie.Need-returns Inv-loop μ-loop
-returns c = search needs
-
 pub marks-agree-spec : {M : Type 1} → statement M
 marks-agree-spec =
     tie.close
     (tie.spec
     Inv-loop
     μ-loop
-    loop-holds
-    mul-mark
-    shared-slice-read-mark
-    mark-requires
-    see-requires
-    add-j
-    loop-less
-    loop-again
-    past-requires
-    returns)
+    (λ c. search needs)
+    (λ c. search needs)
+    (λ c. search needs)
+    (λ c κs. search needs)
+    (λ c κs. search needs)
+    (λ c. search needs)
+    (λ c. search needs)
+    (λ c. search needs)
+    (λ c κs. search needs)
+    (λ c. search needs))

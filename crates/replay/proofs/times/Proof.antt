@@ -11,8 +11,5 @@ mul-result c =
     let a = c .args in
     omega (arith, mul-le-mul {n₁ = a .a % 65536} {m₁ = a .b % 65536} {n₂ = 65535} {m₂ = 65535} (omega arith) (omega arith))
 
-returns : tie.Need-returns
-returns c = search needs
-
 pub times-spec : {M : Type 1} → statement M
-times-spec = tie.close (tie.spec mul-result returns)
+times-spec = tie.close (tie.spec mul-result (λ c. search needs))

@@ -13,30 +13,6 @@ Inv-loop v₀ text n m j₀ v j = (length v ≡ length v₀) × (j ≤ m)
 abbrev μ-loop : tie.MeasureT-loop
 μ-loop v₀ text n m j₀ v j = m - j
 
-least-requires : tie.Need-least-requires Inv-loop μ-loop
-least-requires c κs = search needs
-
-loop-holds : tie.Need-loop-holds Inv-loop μ-loop
-loop-holds c = search needs
-
-packed-requires : tie.Need-packed-requires Inv-loop μ-loop
-packed-requires c κs = search needs
-
-slice-write-v : tie.Need-slice-write-v Inv-loop μ-loop
-slice-write-v c = search needs
-
-add-j : tie.Need-add-j Inv-loop μ-loop
-add-j c = search needs
-
-loop-less : tie.Need-loop-less Inv-loop μ-loop
-loop-less c = search needs
-
-loop-again : tie.Need-loop-again Inv-loop μ-loop
-loop-again c = search needs
-
-same-length : tie.Need-same-length Inv-loop μ-loop
-same-length c = search needs
-
 returns : tie.Need-returns Inv-loop μ-loop
 returns c =
     let m = c .before .before .least .result in
@@ -50,12 +26,12 @@ unpack-spec =
     (tie.spec
     Inv-loop
     μ-loop
-    least-requires
-    loop-holds
-    packed-requires
-    slice-write-v
-    add-j
-    loop-less
-    loop-again
-    same-length
+    (λ c κs. search needs)
+    (λ c. search needs)
+    (λ c κs. search needs)
+    (λ c. search needs)
+    (λ c. search needs)
+    (λ c. search needs)
+    (λ c. search needs)
+    (λ c. search needs)
     returns)

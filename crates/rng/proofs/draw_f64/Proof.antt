@@ -3,17 +3,8 @@ use borrow.Author.Needs.{needs}
 use Rattle.rng.proofs.draw_f64.Statement.{statement}
 use Rattle.rng.proofs.draw_f64.Tie as tie
 
-step-requires : tie.Need-step-requires
-step-requires c κs = search needs
-
-mix-requires : tie.Need-mix-requires
-mix-requires c κs = search needs
-
-unit-f64-requires : tie.Need-unit-f64-requires
-unit-f64-requires c κs = search needs
-
 returns : tie.Need-returns
 returns c = cc
 
 pub draw-f64-spec : {M : Type 1} → statement M
-draw-f64-spec = tie.close (tie.spec step-requires mix-requires unit-f64-requires returns)
+draw-f64-spec = tie.close (tie.spec (λ c κs. search needs) (λ c κs. search needs) (λ c κs. search needs) returns)

@@ -7,12 +7,6 @@ use Rattle.rng.proofs.Xor.{folded-is}
 use Rattle.rng.proofs.mix.Statement.{statement}
 use Rattle.rng.proofs.mix.Tie as tie
 
-wrapping-mul-u64-requires : tie.Need-wrapping-mul-u64-requires
-wrapping-mul-u64-requires c κs = search needs
-
-wrapping-mul-u64-requires-2 : tie.Need-wrapping-mul-u64-requires-2
-wrapping-mul-u64-requires-2 c κs = search needs
-
 returns : tie.Need-returns
 unfolding mixOf roundOf
 returns c =
@@ -25,4 +19,4 @@ returns c =
     ∙ ap (roundOf 27 0x94D0_49BB_1331_11EB) (y ∙ ap (λ (n : ℕ). n * 0xBF58_476D_1CE4_E5B9 % 2 ^ 64) (folded-is 30 (search needs))))
 
 pub mix-spec : {M : Type 1} → statement M
-mix-spec = tie.close (tie.spec wrapping-mul-u64-requires wrapping-mul-u64-requires-2 returns)
+mix-spec = tie.close (tie.spec (λ c κs. search needs) (λ c κs. search needs) returns)

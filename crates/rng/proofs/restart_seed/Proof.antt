@@ -7,12 +7,6 @@ use Rattle.rng.specs.SplitMix.{restartSeedOf}
 use Rattle.rng.proofs.restart_seed.Statement.{statement}
 use Rattle.rng.proofs.restart_seed.Tie as tie
 
-wrapping-mul-u64-requires : tie.Need-wrapping-mul-u64-requires
-wrapping-mul-u64-requires c κs = search needs
-
-wrapping-add-u64-requires : tie.Need-wrapping-add-u64-requires
-wrapping-add-u64-requires c κs = search needs
-
 returns : tie.Need-returns
 unfolding restartSeedOf
 returns c =
@@ -23,4 +17,4 @@ returns c =
 
 pub restart-seed-spec : {M : Type 1} → statement M
 restart-seed-spec =
-    tie.close (tie.spec wrapping-mul-u64-requires wrapping-add-u64-requires returns)
+    tie.close (tie.spec (λ c κs. search needs) (λ c κs. search needs) returns)

@@ -36,14 +36,8 @@ mul-wrapping-add-u64 c = fits (search needs) (search needs)
 mul-wrapping-add-u64-2 : tie.Need-mul-wrapping-add-u64-2
 mul-wrapping-add-u64-2 c = fits (search needs) (search needs)
 
-wrapping-add-u64-requires : tie.Need-wrapping-add-u64-requires
-wrapping-add-u64-requires c κs = search needs
-
 mul-wrapping-add-u64-3 : tie.Need-mul-wrapping-add-u64-3
 mul-wrapping-add-u64-3 c = fits (search needs) (search needs)
-
-wrapping-add-u64-requires-2 : tie.Need-wrapping-add-u64-requires-2
-wrapping-add-u64-requires-2 c κs = search needs
 
 returns : tie.Need-returns
 returns c = c .wrapping-add-u642 .ensures ∙ rw (c .before .wrapping-add-u64 .ensures) (law (2 ^ 32) (c .before .before .args .a) (c .before .before .args .b))
@@ -54,7 +48,7 @@ wrapping-mul-u64-spec =
     (tie.spec
     mul-wrapping-add-u64
     mul-wrapping-add-u64-2
-    wrapping-add-u64-requires
+    (λ c κs. search needs)
     mul-wrapping-add-u64-3
-    wrapping-add-u64-requires-2
+    (λ c κs. search needs)
     returns)

@@ -14,28 +14,10 @@ Inv-loop v₀ x j₀ v j = (length v ≡ length v₀) × (j ≤ length v₀) × 
 abbrev μ-loop : tie.MeasureT-loop
 μ-loop v₀ x j₀ v j = length v₀ - j
 
-loop-holds : tie.Need-loop-holds Inv-loop μ-loop
-loop-holds c = search needs
-
-mul-v : tie.Need-mul-v Inv-loop μ-loop
-mul-v c = search needs
-
-slice-write-v : tie.Need-slice-write-v Inv-loop μ-loop
-slice-write-v c = search needs
-
-add-j : tie.Need-add-j Inv-loop μ-loop
-add-j c = search needs
-
-loop-less : tie.Need-loop-less Inv-loop μ-loop
-loop-less c = search needs
-
 loop-again : tie.Need-loop-again Inv-loop μ-loop
 loop-again c =
     let l = c .before .loop in
     (simp length-set (l .inv .0), omega arith, fill-turn (l .v) (l .j) (c .before .before .args .x) (omega arith) (l .inv .2))
-
-same-length : tie.Need-same-length Inv-loop μ-loop
-same-length c = search needs
 
 returns : tie.Need-returns Inv-loop μ-loop
 returns c =
@@ -49,11 +31,11 @@ fill-spec =
     (tie.spec
     Inv-loop
     μ-loop
-    loop-holds
-    mul-v
-    slice-write-v
-    add-j
-    loop-less
+    (λ c. search needs)
+    (λ c. search needs)
+    (λ c. search needs)
+    (λ c. search needs)
+    (λ c. search needs)
     loop-again
-    same-length
+    (λ c. search needs)
     returns)

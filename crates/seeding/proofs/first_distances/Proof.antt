@@ -8,18 +8,6 @@ use borrow.Author.Needs.{needs}
 use Rattle.seeding.proofs.first_distances.Statement.{statement}
 use Rattle.seeding.proofs.first_distances.Tie as tie
 
-mul-kd : tie.Need-mul-kd
-mul-kd c = search needs
-
-add-fill-at : tie.Need-add-fill-at
-add-fill-at c = search needs
-
-add-fill-at-2 : tie.Need-add-fill-at-2
-add-fill-at-2 c = search needs
-
-fill-at-requires : tie.Need-fill-at-requires
-fill-at-requires c κs = search needs
-
 lower-distances-requires : tie.Need-lower-distances-requires
 lower-distances-requires c κs =
     let f = c .before .before .before in
@@ -28,9 +16,6 @@ lower-distances-requires c κs =
       (area-kept (length (a .work .now)) (length (f .fill-at .last .0)) (a .m) (a .k) (a .d) (f .fill-at .kept .0) (b .pre .0), b .pre .1, b .pre .2),
       group-of 0 (a .k) (a .d) (b .pre .3),
     )
-
-same-length : tie.Need-same-length
-same-length c = search needs
 
 returns : tie.Need-returns
 unfolding div ofBits
@@ -45,10 +30,10 @@ pub first-distances-spec : {M : Type 1} → statement M
 first-distances-spec =
     tie.close
     (tie.spec
-    mul-kd
-    add-fill-at
-    add-fill-at-2
-    fill-at-requires
+    (λ c. search needs)
+    (λ c. search needs)
+    (λ c. search needs)
+    (λ c κs. search needs)
     lower-distances-requires
-    same-length
+    (λ c. search needs)
     returns)

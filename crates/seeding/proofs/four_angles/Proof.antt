@@ -5,39 +5,6 @@ use borrow.Author.Needs.{needs}
 use Rattle.seeding.proofs.four_angles.Statement.{statement}
 use Rattle.seeding.proofs.four_angles.Tie as tie
 
-mul-row : tie.Need-mul-row
-mul-row c = search needs
-
-add-row-dots : tie.Need-add-row-dots
-add-row-dots c = search needs
-
-mul-row-dots : tie.Need-mul-row-dots
-mul-row-dots c = search needs
-
-sub-row-dots : tie.Need-sub-row-dots
-sub-row-dots c = search needs
-
-part-row-dots-start : tie.Need-part-row-dots-start
-part-row-dots-start c = search needs
-
-part-row-dots-end : tie.Need-part-row-dots-end
-part-row-dots-end c = search needs
-
-row-dots-requires : tie.Need-row-dots-requires
-row-dots-requires c κs = search needs
-
-max-requires : tie.Need-max-requires
-max-requires c κs = search needs
-
-max-requires-2 : tie.Need-max-requires-2
-max-requires-2 c κs = search needs
-
-max-requires-3 : tie.Need-max-requires-3
-max-requires-3 c κs = search needs
-
-max-requires-4 : tie.Need-max-requires-4
-max-requires-4 c κs = search needs
-
 returns : tie.Need-returns
 unfolding ofBits ofInt
 returns c =
@@ -60,15 +27,15 @@ pub four-angles-spec : {M : Type 1} → statement M
 four-angles-spec =
     tie.close
     (tie.spec
-    mul-row
-    add-row-dots
-    mul-row-dots
-    sub-row-dots
-    part-row-dots-start
-    part-row-dots-end
-    row-dots-requires
-    max-requires
-    max-requires-2
-    max-requires-3
-    max-requires-4
+    (λ c. search needs)
+    (λ c. search needs)
+    (λ c. search needs)
+    (λ c. search needs)
+    (λ c. search needs)
+    (λ c. search needs)
+    (λ c κs. search needs)
+    (λ c κs. search needs)
+    (λ c κs. search needs)
+    (λ c κs. search needs)
+    (λ c κs. search needs)
     returns)

@@ -26,20 +26,8 @@ Inv-loop2 work₀ coords c m k d kd low i₀ work i = (i ≤ m) × (length work 
 abbrev μ-loop2 : tie.MeasureT-loop2
 μ-loop2 work₀ coords c m k d kd low i₀ work i = m - i
 
-mul-kd : tie.Need-mul-kd Inv-loop μ-loop Inv-loop2 μ-loop2
-mul-kd c = search needs
-
-add-low : tie.Need-add-low Inv-loop μ-loop Inv-loop2 μ-loop2
-add-low c = search needs
-
-add-low-2 : tie.Need-add-low-2 Inv-loop μ-loop Inv-loop2 μ-loop2
-add-low-2 c = search needs
-
 loop-holds : tie.Need-loop-holds Inv-loop μ-loop Inv-loop2 μ-loop2
 loop-holds c = (search needs, refl, λ u s h e. e)
-
-sub-loop : tie.Need-sub-loop Inv-loop μ-loop Inv-loop2 μ-loop2
-sub-loop c = search needs
 
 four-angles-requires : tie.Need-four-angles-requires Inv-loop μ-loop Inv-loop2 μ-loop2
 four-angles-requires c κs =
@@ -50,18 +38,6 @@ four-angles-requires c κs =
       (area-kept (length (a .work .now)) (length (l .work)) (a .m) (a .k) (a .d) (l .inv .1) (b .pre .0 .0), b .pre .0 .1, b .pre .0 .2),
       (mul-le-mul-right (a .d) h, b .pre .1),
     )
-
-add-lower-four : tie.Need-add-lower-four Inv-loop μ-loop Inv-loop2 μ-loop2
-add-lower-four c = search needs
-
-lower-four-requires : tie.Need-lower-four-requires Inv-loop μ-loop Inv-loop2 μ-loop2
-lower-four-requires c κs = search needs
-
-add-i : tie.Need-add-i Inv-loop μ-loop Inv-loop2 μ-loop2
-add-i c = search needs
-
-loop-less : tie.Need-loop-less Inv-loop μ-loop Inv-loop2 μ-loop2
-loop-less c = search needs
 
 loop-again : tie.Need-loop-again Inv-loop μ-loop Inv-loop2 μ-loop2
 loop-again c =
@@ -88,18 +64,6 @@ angle-requires c κs =
       (leaf-of (l .i) (a .m) (a .d) (omega arith), b .pre .1),
     )
 
-add-lower-at : tie.Need-add-lower-at Inv-loop μ-loop Inv-loop2 μ-loop2
-add-lower-at c = search needs
-
-lower-at-requires : tie.Need-lower-at-requires Inv-loop μ-loop Inv-loop2 μ-loop2
-lower-at-requires c κs = search needs
-
-add-i-2 : tie.Need-add-i-2 Inv-loop μ-loop Inv-loop2 μ-loop2
-add-i-2 c = search needs
-
-loop2-less : tie.Need-loop2-less Inv-loop μ-loop Inv-loop2 μ-loop2
-loop2-less c = search needs
-
 loop2-again : tie.Need-loop2-again Inv-loop μ-loop Inv-loop2 μ-loop2
 loop2-again c =
     let f = c .before .before .before .before in
@@ -110,9 +74,6 @@ loop2-again c =
       λ u s g e. rw (c .before .before .lower-at .ensures)
           (lowering-turn (a .m) (a .k) (a .d) (a .coords .now) u (a .c) s g (l .work) (l .i) (f .angle .result) (omega arith) (f .angle .ensures u) (l .inv .2 u s g e)),
     )
-
-same-length : tie.Need-same-length Inv-loop μ-loop Inv-loop2 μ-loop2
-same-length c = search needs
 
 returns : tie.Need-returns Inv-loop μ-loop Inv-loop2 μ-loop2
 returns c =
@@ -133,23 +94,23 @@ lower-distances-spec =
     μ-loop
     Inv-loop2
     μ-loop2
-    mul-kd
-    add-low
-    add-low-2
+    (λ c. search needs)
+    (λ c. search needs)
+    (λ c. search needs)
     loop-holds
-    sub-loop
+    (λ c. search needs)
     four-angles-requires
-    add-lower-four
-    lower-four-requires
-    add-i
-    loop-less
+    (λ c. search needs)
+    (λ c κs. search needs)
+    (λ c. search needs)
+    (λ c. search needs)
     loop-again
     loop2-holds
     angle-requires
-    add-lower-at
-    lower-at-requires
-    add-i-2
-    loop2-less
+    (λ c. search needs)
+    (λ c κs. search needs)
+    (λ c. search needs)
+    (λ c. search needs)
     loop2-again
-    same-length
+    (λ c. search needs)
     returns)

@@ -20,9 +20,6 @@ Inv-loop work₀ weights coords state m k d i s₀ c₀ work s c =
 abbrev μ-loop : tie.MeasureT-loop
 μ-loop work₀ weights coords state m k d i s₀ c₀ work s c = k - c
 
-weighted-pick-requires : tie.Need-weighted-pick-requires Inv-loop μ-loop
-weighted-pick-requires c κs = search needs
-
 seed-center-requires : tie.Need-seed-center-requires Inv-loop μ-loop
 seed-center-requires c κs =
     let q = c .before in
@@ -75,12 +72,6 @@ seed-next-requires c κs =
       group-of (l .c) (a .k) (a .d) (omega arith),
     )
 
-add-c : tie.Need-add-c Inv-loop μ-loop
-add-c c = search needs
-
-loop-less : tie.Need-loop-less Inv-loop μ-loop
-loop-less c = search needs
-
 loop-again : tie.Need-loop-again Inv-loop μ-loop
 loop-again c =
     let n = c .before .before in
@@ -105,9 +96,6 @@ loop-again c =
           (n .seed-next .ensures u),
     )
 
-same-length : tie.Need-same-length Inv-loop μ-loop
-same-length c = search needs
-
 returns : tie.Need-returns Inv-loop μ-loop
 returns c =
     let l = c .before .loop in
@@ -128,13 +116,13 @@ seed-spec =
     (tie.spec
     Inv-loop
     μ-loop
-    weighted-pick-requires
+    (λ c κs. search needs)
     seed-center-requires
     first-distances-requires
     loop-holds
     seed-next-requires
-    add-c
-    loop-less
+    (λ c. search needs)
+    (λ c. search needs)
     loop-again
-    same-length
+    (λ c. search needs)
     returns)

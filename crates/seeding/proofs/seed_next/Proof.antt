@@ -8,39 +8,6 @@ use borrow.Author.Needs.{needs}
 use Rattle.seeding.proofs.seed_next.Statement.{statement}
 use Rattle.seeding.proofs.seed_next.Tie as tie
 
-put-chances-requires : tie.Need-put-chances-requires
-put-chances-requires c κs = search needs
-
-mul-kd : tie.Need-mul-kd
-mul-kd c = search needs
-
-add-high : tie.Need-add-high
-add-high c = search needs
-
-add-high-2 : tie.Need-add-high-2
-add-high-2 c = search needs
-
-add-high-3 : tie.Need-add-high-3
-add-high-3 c = search needs
-
-add-weighted-pick : tie.Need-add-weighted-pick
-add-weighted-pick c = search needs
-
-mul-weighted-pick : tie.Need-mul-weighted-pick
-mul-weighted-pick c = search needs
-
-sub-weighted-pick : tie.Need-sub-weighted-pick
-sub-weighted-pick c = search needs
-
-part-weighted-pick-start : tie.Need-part-weighted-pick-start
-part-weighted-pick-start c = search needs
-
-part-weighted-pick-end : tie.Need-part-weighted-pick-end
-part-weighted-pick-end c = search needs
-
-weighted-pick-requires : tie.Need-weighted-pick-requires
-weighted-pick-requires c κs = search needs
-
 seed-center-requires : tie.Need-seed-center-requires
 seed-center-requires c κs =
     let q = c .before in
@@ -55,12 +22,6 @@ seed-center-requires c κs =
       (seeding-area (length (a .work .now)) _ (length (a .weights .now)) (length (a .coords .now)) (a .m) (a .k) (a .d) (h .put-chances .kept .0) s, s .coords-long, s .md-small),
       (leaf-of (q .weighted-pick .result .index) (a .m) (a .d) below, b .pre .1),
     )
-
-lower-distances-requires : tie.Need-lower-distances-requires
-lower-distances-requires c κs = search needs
-
-same-length : tie.Need-same-length
-same-length c = search needs
 
 returns : tie.Need-returns
 returns c =
@@ -88,18 +49,18 @@ pub seed-next-spec : {M : Type 1} → statement M
 seed-next-spec =
     tie.close
     (tie.spec
-    put-chances-requires
-    mul-kd
-    add-high
-    add-high-2
-    add-high-3
-    add-weighted-pick
-    mul-weighted-pick
-    sub-weighted-pick
-    part-weighted-pick-start
-    part-weighted-pick-end
-    weighted-pick-requires
+    (λ c κs. search needs)
+    (λ c. search needs)
+    (λ c. search needs)
+    (λ c. search needs)
+    (λ c. search needs)
+    (λ c. search needs)
+    (λ c. search needs)
+    (λ c. search needs)
+    (λ c. search needs)
+    (λ c. search needs)
+    (λ c κs. search needs)
     seed-center-requires
-    lower-distances-requires
-    same-length
+    (λ c κs. search needs)
+    (λ c. search needs)
     returns)

@@ -13,19 +13,10 @@ within n k h = le-trans (mul-le-mul-right k h) (div-mul-le-self 256 k)
 some-fit : (k : ℕ) → 0 < k → k ≤ 64 → 0 < 256 / k
 some-fit k p h = le-div-iff-mul-le p .1 (omega arith)
 
-div-most : tie.Need-div-most
-div-most c = search needs
-
-sub-if1 : tie.Need-sub-if1
-sub-if1 c = search needs
-
 returns : tie.Need-returns
 returns c =
     let a = c .before .args in
     (c .before .pre .0, le-refl (a .m), within (a .m - a .i) (a .k) (omega arith))
-
-add-result : tie.Need-add-result
-add-result c = search needs
 
 returns-2 : tie.Need-returns-2
 returns-2 c =
@@ -36,4 +27,4 @@ returns-2 c =
     (omega arith, omega arith, rw e (within (256 / a .k) (a .k) (omega arith)))
 
 pub block-end-spec : {M : Type 1} → statement M
-block-end-spec = tie.close (tie.spec div-most sub-if1 returns add-result returns-2)
+block-end-spec = tie.close (tie.spec (λ c. search needs) (λ c. search needs) returns (λ c. search needs) returns-2)

@@ -18,51 +18,6 @@ abbrev μ-loop : tie.MeasureT-loop
 loop-holds : tie.Need-loop-holds Inv-loop μ-loop
 loop-holds c = (refl, omega arith, refl)
 
-add-exp-eight : tie.Need-add-exp-eight Inv-loop μ-loop
-add-exp-eight c = search needs
-
-mul-exp-eight : tie.Need-mul-exp-eight Inv-loop μ-loop
-mul-exp-eight c = search needs
-
-sub-exp-eight : tie.Need-sub-exp-eight Inv-loop μ-loop
-sub-exp-eight c = search needs
-
-part-exp-eight-start : tie.Need-part-exp-eight-start Inv-loop μ-loop
-part-exp-eight-start c = search needs
-
-part-exp-eight-end : tie.Need-part-exp-eight-end Inv-loop μ-loop
-part-exp-eight-end c = search needs
-
-exp-eight-requires : tie.Need-exp-eight-requires Inv-loop μ-loop
-exp-eight-requires c κs = search needs
-
-add-exp-eight-2 : tie.Need-add-exp-eight-2 Inv-loop μ-loop
-add-exp-eight-2 c = search needs
-
-add-exp-eight-3 : tie.Need-add-exp-eight-3 Inv-loop μ-loop
-add-exp-eight-3 c = search needs
-
-mul-exp-eight-2 : tie.Need-mul-exp-eight-2 Inv-loop μ-loop
-mul-exp-eight-2 c = search needs
-
-sub-exp-eight-2 : tie.Need-sub-exp-eight-2 Inv-loop μ-loop
-sub-exp-eight-2 c = search needs
-
-part-exp-eight-start-2 : tie.Need-part-exp-eight-start-2 Inv-loop μ-loop
-part-exp-eight-start-2 c = search needs
-
-part-exp-eight-end-2 : tie.Need-part-exp-eight-end-2 Inv-loop μ-loop
-part-exp-eight-end-2 c = search needs
-
-exp-eight-requires-2 : tie.Need-exp-eight-requires-2 Inv-loop μ-loop
-exp-eight-requires-2 c κs = search needs
-
-add-j : tie.Need-add-j Inv-loop μ-loop
-add-j c = search needs
-
-loop-less : tie.Need-loop-less Inv-loop μ-loop
-loop-less c = search needs
-
 loop-again : tie.Need-loop-again Inv-loop μ-loop
 loop-again c =
     let x = c .before .before .before .before .before .before .exp-eight in
@@ -92,21 +47,21 @@ exp-front-spec =
     Inv-loop
     μ-loop
     loop-holds
-    add-exp-eight
-    mul-exp-eight
-    sub-exp-eight
-    part-exp-eight-start
-    part-exp-eight-end
-    exp-eight-requires
-    add-exp-eight-2
-    add-exp-eight-3
-    mul-exp-eight-2
-    sub-exp-eight-2
-    part-exp-eight-start-2
-    part-exp-eight-end-2
-    exp-eight-requires-2
-    add-j
-    loop-less
+    (λ c. search needs)
+    (λ c. search needs)
+    (λ c. search needs)
+    (λ c. search needs)
+    (λ c. search needs)
+    (λ c κs. search needs)
+    (λ c. search needs)
+    (λ c. search needs)
+    (λ c. search needs)
+    (λ c. search needs)
+    (λ c. search needs)
+    (λ c. search needs)
+    (λ c κs. search needs)
+    (λ c. search needs)
+    (λ c. search needs)
     loop-again
     same-length
     returns)

@@ -22,21 +22,6 @@ loop-holds : tie.Need-loop-holds Inv-loop μ-loop
 unfolding div ofBits neg isNan
 loop-holds c = (omega arith, refl, refl)
 
-mul-greater : tie.Need-mul-greater Inv-loop μ-loop
-mul-greater c = search needs
-
-shared-slice-read-greater : tie.Need-shared-slice-read-greater Inv-loop μ-loop
-shared-slice-read-greater c = search needs
-
-greater-requires : tie.Need-greater-requires Inv-loop μ-loop
-greater-requires c κs = search needs
-
-add-j : tie.Need-add-j Inv-loop μ-loop
-add-j c = search needs
-
-loop-less : tie.Need-loop-less Inv-loop μ-loop
-loop-less c = search needs
-
 loop-again : tie.Need-loop-again Inv-loop μ-loop
 loop-again c =
     let l = c .before .before .before .loop in
@@ -55,10 +40,10 @@ greatest-spec =
     Inv-loop
     μ-loop
     loop-holds
-    mul-greater
-    shared-slice-read-greater
-    greater-requires
-    add-j
-    loop-less
+    (λ c. search needs)
+    (λ c. search needs)
+    (λ c κs. search needs)
+    (λ c. search needs)
+    (λ c. search needs)
     loop-again
     returns)

@@ -23,9 +23,6 @@ add-less-log-sum c = omega (arith, row-in (c .before .before))
 mul-less-log-sum : tie.Need-mul-less-log-sum
 mul-less-log-sum c = omega (arith, row-in (c .before .before))
 
-sub-less-log-sum : tie.Need-sub-less-log-sum
-sub-less-log-sum c = search needs
-
 part-less-log-sum-start : tie.Need-part-less-log-sum-start
 part-less-log-sum-start c = omega (arith, row-in (c .before .before))
 
@@ -38,9 +35,6 @@ add-less-log-sum-2 c = omega (arith, row-in (c .before .before .before))
 mul-less-log-sum-2 : tie.Need-mul-less-log-sum-2
 mul-less-log-sum-2 c = omega (arith, row-in (c .before .before .before))
 
-sub-less-log-sum-2 : tie.Need-sub-less-log-sum-2
-sub-less-log-sum-2 c = search needs
-
 part-less-log-sum-start-2 : tie.Need-part-less-log-sum-start-2
 part-less-log-sum-start-2 c = omega (arith, row-in (c .before .before .before))
 
@@ -52,9 +46,6 @@ less-log-sum-requires c κs =
     let a = c .before .before .before .before .args in
     let r = row-in (c .before .before .before .before) in
     parts-alike (a .e .now) (a .rows .now) (a .i * a .k) (a .k) (omega arith) (r .0)
-
-same-length : tie.Need-same-length
-same-length c = search needs
 
 returns : tie.Need-returns
 returns c =
@@ -69,14 +60,14 @@ leaf-log-sum-spec =
     mul-at
     add-less-log-sum
     mul-less-log-sum
-    sub-less-log-sum
+    (λ c. search needs)
     part-less-log-sum-start
     part-less-log-sum-end
     add-less-log-sum-2
     mul-less-log-sum-2
-    sub-less-log-sum-2
+    (λ c. search needs)
     part-less-log-sum-start-2
     part-less-log-sum-end-2
     less-log-sum-requires
-    same-length
+    (λ c. search needs)
     returns)

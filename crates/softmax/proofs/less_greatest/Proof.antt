@@ -6,17 +6,8 @@ use borrow.Author.Needs.{needs}
 use Rattle.softmax.proofs.less_greatest.Statement.{statement}
 use Rattle.softmax.proofs.less_greatest.Tie as tie
 
-greatest-requires : tie.Need-greatest-requires
-greatest-requires c κs = search needs
-
-less-requires : tie.Need-less-requires
-less-requires c κs = search needs
-
-same-length : tie.Need-same-length
-same-length c = search needs
-
 returns : tie.Need-returns
 returns c = c .before .before .less .ensures ∙ ap (λ (g : Float). lessBy g (c .before .before .before .before .before .before .before .args .row .now)) (c .before .before .before .greatest .ensures)
 
 pub less-greatest-spec : {M : Type 1} → statement M
-less-greatest-spec = tie.close (tie.spec greatest-requires less-requires same-length returns)
+less-greatest-spec = tie.close (tie.spec (λ c κs. search needs) (λ c κs. search needs) (λ c. search needs) returns)

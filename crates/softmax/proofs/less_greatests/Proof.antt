@@ -43,9 +43,6 @@ add-less-greatest c = omega (arith, row-in c)
 mul-less-greatest : tie.Need-mul-less-greatest Inv-loop μ-loop
 mul-less-greatest c = omega (arith, row-in c)
 
-sub-less-greatest : tie.Need-sub-less-greatest Inv-loop μ-loop
-sub-less-greatest c = search needs
-
 part-less-greatest-start : tie.Need-part-less-greatest-start Inv-loop μ-loop
 part-less-greatest-start c = omega (arith, row-in c)
 
@@ -57,9 +54,6 @@ add-less-greatest-2 c = omega (arith, row-in (c .before))
 
 mul-less-greatest-2 : tie.Need-mul-less-greatest-2 Inv-loop μ-loop
 mul-less-greatest-2 c = omega (arith, row-in (c .before))
-
-sub-less-greatest-2 : tie.Need-sub-less-greatest-2 Inv-loop μ-loop
-sub-less-greatest-2 c = search needs
 
 part-less-greatest-start-2 : tie.Need-part-less-greatest-start-2 Inv-loop μ-loop
 part-less-greatest-start-2 c = omega (arith, row-in (c .before))
@@ -73,12 +67,6 @@ less-greatest-requires c κs =
     let a = c .before .before .before .before .before .before .args in
     let r = row-in (c .before .before) in
     parts-alike (l .e) (a .rows .now) (l .i * a .k) (a .k) (omega arith) (r .0)
-
-add-i : tie.Need-add-i Inv-loop μ-loop
-add-i c = search needs
-
-loop-less : tie.Need-loop-less Inv-loop μ-loop
-loop-less c = search needs
 
 loop-again : tie.Need-loop-again Inv-loop μ-loop
 loop-again c =
@@ -111,17 +99,17 @@ less-greatests-spec =
     mul-at
     add-less-greatest
     mul-less-greatest
-    sub-less-greatest
+    (λ c. search needs)
     part-less-greatest-start
     part-less-greatest-end
     add-less-greatest-2
     mul-less-greatest-2
-    sub-less-greatest-2
+    (λ c. search needs)
     part-less-greatest-start-2
     part-less-greatest-end-2
     less-greatest-requires
-    add-i
-    loop-less
+    (λ c. search needs)
+    (λ c. search needs)
     loop-again
     same-length
     returns)

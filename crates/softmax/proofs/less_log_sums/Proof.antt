@@ -30,24 +30,6 @@ loop-holds c =
       joined-none (fromLogAt (a .k) (a .rows .now) (a .e .now)) (a .k) (a .e .now) ∙ ap (λ (n : ℕ). fromLogs (a .k) (a .rows .now) (a .e .now) n ++ drop (n * a .k) (a .e .now)) z,
     )
 
-sub-i : tie.Need-sub-i Inv-loop μ-loop
-sub-i c = search needs
-
-mul-s : tie.Need-mul-s Inv-loop μ-loop
-mul-s c = search needs
-
-shared-slice-read-s : tie.Need-shared-slice-read-s Inv-loop μ-loop
-shared-slice-read-s c = search needs
-
-leaf-log-sum-requires : tie.Need-leaf-log-sum-requires Inv-loop μ-loop
-leaf-log-sum-requires c κs = search needs
-
-sub-left : tie.Need-sub-left Inv-loop μ-loop
-sub-left c = search needs
-
-loop-less : tie.Need-loop-less Inv-loop μ-loop
-loop-less c = search needs
-
 loop-again : tie.Need-loop-again Inv-loop μ-loop
 loop-again c =
     let g = c .before .before .leaf-log-sum in
@@ -88,12 +70,12 @@ less-log-sums-spec =
     Inv-loop
     μ-loop
     loop-holds
-    sub-i
-    mul-s
-    shared-slice-read-s
-    leaf-log-sum-requires
-    sub-left
-    loop-less
+    (λ c. search needs)
+    (λ c. search needs)
+    (λ c. search needs)
+    (λ c κs. search needs)
+    (λ c. search needs)
+    (λ c. search needs)
     loop-again
     same-length
     returns)

@@ -66,18 +66,6 @@ part-soften-block-start c = omega (arith, ends-in c)
 part-soften-block-end : tie.Need-part-soften-block-end Inv-loop μ-loop
 part-soften-block-end c = omega (arith, ends-in c)
 
-mul-soften-block-4 : tie.Need-mul-soften-block-4 Inv-loop μ-loop
-mul-soften-block-4 c = search needs
-
-sub-soften-block-2 : tie.Need-sub-soften-block-2 Inv-loop μ-loop
-sub-soften-block-2 c = search needs
-
-part-soften-block-start-2 : tie.Need-part-soften-block-start-2 Inv-loop μ-loop
-part-soften-block-start-2 c = search needs
-
-part-soften-block-end-2 : tie.Need-part-soften-block-end-2 Inv-loop μ-loop
-part-soften-block-end-2 c = search needs
-
 soften-block-requires : tie.Need-soften-block-requires Inv-loop μ-loop
 soften-block-requires c κs =
     let l = c .before .before .before .before .loop in
@@ -133,10 +121,10 @@ soften-spec =
     sub-soften-block
     part-soften-block-start
     part-soften-block-end
-    mul-soften-block-4
-    sub-soften-block-2
-    part-soften-block-start-2
-    part-soften-block-end-2
+    (λ c. search needs)
+    (λ c. search needs)
+    (λ c. search needs)
+    (λ c. search needs)
     soften-block-requires
     loop-less
     loop-again

@@ -8,33 +8,6 @@ use borrow.Author.Needs.{needs}
 use Rattle.softmax.proofs.soften_block.Statement.{statement}
 use Rattle.softmax.proofs.soften_block.Tie as tie
 
-slice-aggregate-less-greatests : tie.Need-slice-aggregate-less-greatests
-slice-aggregate-less-greatests c = search needs
-
-less-greatests-requires : tie.Need-less-greatests-requires
-less-greatests-requires c κs = search needs
-
-slice-aggregate-exp-front : tie.Need-slice-aggregate-exp-front
-slice-aggregate-exp-front c = search needs
-
-exp-front-requires : tie.Need-exp-front-requires
-exp-front-requires c κs = search needs
-
-slice-aggregate-less-log-sums : tie.Need-slice-aggregate-less-log-sums
-slice-aggregate-less-log-sums c = search needs
-
-less-log-sums-requires : tie.Need-less-log-sums-requires
-less-log-sums-requires c κs = search needs
-
-slice-aggregate-exp-front-2 : tie.Need-slice-aggregate-exp-front-2
-slice-aggregate-exp-front-2 c = search needs
-
-exp-front-requires-2 : tie.Need-exp-front-requires-2
-exp-front-requires-2 c κs = search needs
-
-array-share-prefix-e : tie.Need-array-share-prefix-e
-array-share-prefix-e c = search needs
-
 -- what is copied is as long as the rows
 front-long : (c : tie.After-e9) → let n = length (c .before .before .before .before .before .before .before .before .before .before .before .before .before .before .before .before .before .before .args .rows .now) in length (take n (c .before .before .before .exp-front2 .last .0)) ≡ n
 front-long c =
@@ -46,9 +19,6 @@ slice-aggregate-copy c = sym (front-long c)
 
 copy-requires : tie.Need-copy-requires
 copy-requires c κs = record { same = sym (front-long c) }
-
-same-length : tie.Need-same-length
-same-length c = search needs
 
 returns : tie.Need-returns
 returns c =
@@ -67,16 +37,16 @@ pub soften-block-spec : {M : Type 1} → statement M
 soften-block-spec =
     tie.close
     (tie.spec
-    slice-aggregate-less-greatests
-    less-greatests-requires
-    slice-aggregate-exp-front
-    exp-front-requires
-    slice-aggregate-less-log-sums
-    less-log-sums-requires
-    slice-aggregate-exp-front-2
-    exp-front-requires-2
-    array-share-prefix-e
+    (λ c. search needs)
+    (λ c κs. search needs)
+    (λ c. search needs)
+    (λ c κs. search needs)
+    (λ c. search needs)
+    (λ c κs. search needs)
+    (λ c. search needs)
+    (λ c κs. search needs)
+    (λ c. search needs)
     slice-aggregate-copy
     copy-requires
-    same-length
+    (λ c. search needs)
     returns)

@@ -8,11 +8,8 @@ use Rattle.spherical.proofs.arrays_ok.Tie as tie
 mul-kd : tie.Need-mul-kd
 mul-kd c = omega (arith, mul-le-mul (c .pre .1) (c .pre .2))
 
-work-ok-requires : tie.Need-work-ok-requires
-work-ok-requires c κs = search needs
-
 returns : tie.Need-returns
 returns c = rw (c .work-ok .ensures)
 
 pub arrays-ok-spec : {M : Type 1} → statement M
-arrays-ok-spec = tie.close (tie.spec mul-kd work-ok-requires returns)
+arrays-ok-spec = tie.close (tie.spec mul-kd (λ c κs. search needs) returns)

@@ -28,42 +28,6 @@ work-held c =
     let s = c .before .before .before .before .before .before in
     held-within (s .args .second) (half (s .args .m) (s .args .k) (s .args .d)) (length (s .args .work .now)) _ (s .pre .work-long) (c .before .held-at .ensures)
 
-mul-kd : tie.Need-mul-kd
-mul-kd c = search needs
-
-mul-n : tie.Need-mul-n
-mul-n c = search needs
-
-add-n : tie.Need-add-n
-add-n c = search needs
-
-add-n-2 : tie.Need-add-n-2
-add-n-2 c = search needs
-
-mul-n-2 : tie.Need-mul-n-2
-mul-n-2 c = search needs
-
-add-n-3 : tie.Need-add-n-3
-add-n-3 c = search needs
-
-mul-n-3 : tie.Need-mul-n-3
-mul-n-3 c = search needs
-
-add-n-4 : tie.Need-add-n-4
-add-n-4 c = search needs
-
-held-at-requires : tie.Need-held-at-requires
-held-at-requires c κs = search needs
-
-add-held-at : tie.Need-add-held-at
-add-held-at c = search needs
-
-held-at-requires-2 : tie.Need-held-at-requires-2
-held-at-requires-2 c κs = search needs
-
-slice-relend-prefix-copy-u32 : tie.Need-slice-relend-prefix-copy-u32
-slice-relend-prefix-copy-u32 c = search needs
-
 slice-aggregate-copy-u32 : tie.Need-slice-aggregate-copy-u32
 slice-aggregate-copy-u32 c =
     let s = c .before .before .before .before .before .before .before in
@@ -79,12 +43,6 @@ mul-copy-u32 c =
     let s = c .before .before .before .before .before .before .before in
     omega (arith, marks-held (c .before), s .pre .m-small, s .pre .k-small)
 
-sub-copy-u32 : tie.Need-sub-copy-u32
-sub-copy-u32 c = search needs
-
-part-copy-u32-start : tie.Need-part-copy-u32-start
-part-copy-u32-start c = search needs
-
 part-copy-u32-end : tie.Need-part-copy-u32-end
 part-copy-u32-end c =
     let s = c .before .before .before .before .before .before .before in
@@ -96,9 +54,6 @@ copy-u32-requires c κs =
     let b = c .before .before .held-at2 .result in
     let h = marks-held (c .before .before) in
     alike (s .args .labels .now) (s .args .marks .now) (s .args .m) b (b + s .args .m - b) (omega arith) (s .pre .labels-long) (omega (arith, h .0))
-
-slice-relend-prefix-copy : tie.Need-slice-relend-prefix-copy
-slice-relend-prefix-copy c = search needs
 
 slice-aggregate-copy : tie.Need-slice-aggregate-copy
 slice-aggregate-copy c =
@@ -115,12 +70,6 @@ mul-copy c =
     let s = c .before .before .before .before .before .before .before .before .before .before .before .before in
     omega (arith, work-held (c .before .before .before .before .before .before), s .pre .m-small, s .pre .k-small, s .pre .mk-small, s .pre .kd-small)
 
-sub-copy : tie.Need-sub-copy
-sub-copy c = search needs
-
-part-copy-start : tie.Need-part-copy-start
-part-copy-start c = search needs
-
 part-copy-end : tie.Need-part-copy-end
 part-copy-end c =
     let s = c .before .before .before .before .before .before .before .before .before .before .before .before in
@@ -132,12 +81,6 @@ copy-requires c κs =
     let b = c .before .before .before .before .before .before .before .before .held-at .result in
     let h = work-held (c .before .before .before .before .before .before .before) in
     alike (s .args .directions .now) (s .args .work .now) (s .args .k * s .args .d) b (b + s .args .k * s .args .d - b) (omega arith) (s .pre .directions-long) (omega (arith, h .0))
-
-same-length : tie.Need-same-length
-same-length c = search needs
-
-same-length-2 : tie.Need-same-length-2
-same-length-2 c = search needs
 
 returns : tie.Need-returns
 returns c =
@@ -159,33 +102,33 @@ pub fill-outputs-spec : {M : Type 1} → statement M
 fill-outputs-spec =
     tie.close
     (tie.spec
-    mul-kd
-    mul-n
-    add-n
-    add-n-2
-    mul-n-2
-    add-n-3
-    mul-n-3
-    add-n-4
-    held-at-requires
-    add-held-at
-    held-at-requires-2
-    slice-relend-prefix-copy-u32
+    (λ c. search needs)
+    (λ c. search needs)
+    (λ c. search needs)
+    (λ c. search needs)
+    (λ c. search needs)
+    (λ c. search needs)
+    (λ c. search needs)
+    (λ c. search needs)
+    (λ c κs. search needs)
+    (λ c. search needs)
+    (λ c κs. search needs)
+    (λ c. search needs)
     slice-aggregate-copy-u32
     add-copy-u32
     mul-copy-u32
-    sub-copy-u32
-    part-copy-u32-start
+    (λ c. search needs)
+    (λ c. search needs)
     part-copy-u32-end
     copy-u32-requires
-    slice-relend-prefix-copy
+    (λ c. search needs)
     slice-aggregate-copy
     add-copy
     mul-copy
-    sub-copy
-    part-copy-start
+    (λ c. search needs)
+    (λ c. search needs)
     part-copy-end
     copy-requires
-    same-length
-    same-length-2
+    (λ c. search needs)
+    (λ c. search needs)
     returns)

@@ -33,18 +33,12 @@ arrays-passed c = sym (c .before .arrays-ok .ensures) ∙ not-false _ (c .if5 .l
 weights-passed : (c : tie.Else6) → let a = c .before .before .before .before .before .before .before .before .before .before .before .before .args in every weightOk (a .weights .now) ≡ true
 weights-passed c = sym (c .before .weights-ok .ensures) ∙ not-false _ (c .if6 .left)
 
-sizes-ok-requires : tie.Need-sizes-ok-requires
-sizes-ok-requires c κs = search needs
-
 returns : tie.Need-returns
 returns c =
     let a = c .before .before .before .before .args in
     sym
     (refusal-by (a .weights .now) (a .coords .now) (a .d) (a .k) (a .rounds) (a .restarts) (a .labels) (a .directions) (a .work) (a .marks) false _ _ _ _ _ _
     (sym (c .before .sizes-ok .ensures) ∙ not-true _ (c .if1 .taken)) refl refl refl refl refl refl)
-
-groups-ok-requires : tie.Need-groups-ok-requires
-groups-ok-requires c κs = search needs
 
 returns-2 : tie.Need-returns-2
 returns-2 c =
@@ -91,9 +85,6 @@ returns-5 c =
     (restarts-passed (c .before .before))
     (sym (c .before .arrays-ok .ensures) ∙ not-true _ (c .if5 .taken)) refl refl)
 
-weights-ok-requires : tie.Need-weights-ok-requires
-weights-ok-requires c κs = search needs
-
 returns-6 : tie.Need-returns-6
 returns-6 c =
     let a = c .before .before .before .before .before .before .before .before .before .before .before .before .args in
@@ -105,9 +96,6 @@ returns-6 c =
     (restarts-passed (c .before .before .before .before))
     (arrays-passed (c .before .before))
     (sym (c .before .weights-ok .ensures) ∙ not-true _ (c .if6 .taken)) refl)
-
-coordinates-ok-requires : tie.Need-coordinates-ok-requires
-coordinates-ok-requires c κs = search needs
 
 returns-7 : tie.Need-returns-7
 returns-7 c =
@@ -139,16 +127,16 @@ pub refusal-spec : {M : Type 1} → statement M
 refusal-spec =
     tie.close
     (tie.spec
-    sizes-ok-requires
+    (λ c κs. search needs)
     returns
-    groups-ok-requires
+    (λ c κs. search needs)
     returns-2
     returns-3
     returns-4
     arrays-ok-requires
     returns-5
-    weights-ok-requires
+    (λ c κs. search needs)
     returns-6
-    coordinates-ok-requires
+    (λ c κs. search needs)
     returns-7
     returns-8)

@@ -17,9 +17,6 @@ ready-at c =
     ready (a .weights .now) (a .coords .now) (a .d) (a .k) (a .rounds) (a .restarts) (length (a .labels .now)) (length (a .directions .now)) (length (a .work .now)) (length (a .marks .now))
     (sym (c .before .refusal .ensures) ∙ c .if1 .left)
 
-refusal-requires : tie.Need-refusal-requires
-refusal-requires c κs = search needs
-
 returns : tie.Need-returns
 returns c =
     let a = c .before .before .before .before .before .before .before .before .args in
@@ -41,12 +38,6 @@ fill-outputs-requires c κs =
     fillable-of (length (a .labels .now)) (length (a .directions .now)) (length (a .work .now)) _ (length (a .marks .now)) _ (length (a .weights .now)) (a .k) (a .d) (f .restart .kept .0)
     (f .restart .kept .1 .0) (fillable (a .weights .now) (a .coords .now) (a .d) (a .k) (a .rounds) (a .restarts) (length (a .labels .now)) (length (a .directions .now)) (length (a .work .now)) (length (a .marks .now)) (ready-at e))
 
-same-length : tie.Need-same-length
-same-length c = search needs
-
-same-length-2 : tie.Need-same-length-2
-same-length-2 c = search needs
-
 same-length-3 : tie.Need-same-length-3
 same-length-3 c = c .before .before .before .before .before .before .before .before .before .before .before .before .before .restart .kept .0
 
@@ -67,12 +58,12 @@ pub spherical-kmeans-spec : {M : Type 1} → statement M
 spherical-kmeans-spec =
     tie.close
     (tie.spec
-    refusal-requires
+    (λ c κs. search needs)
     returns
     restart-requires
     fill-outputs-requires
-    same-length
-    same-length-2
+    (λ c. search needs)
+    (λ c. search needs)
     same-length-3
     same-length-4
     returns-2)

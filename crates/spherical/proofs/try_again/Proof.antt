@@ -9,39 +9,6 @@ use Rattle.spherical.proofs.Halves.{tried-of, addable}
 use Rattle.spherical.proofs.try_again.Statement.{statement}
 use Rattle.spherical.proofs.try_again.Tie as tie
 
-mul-kd : tie.Need-mul-kd
-mul-kd c = search needs
-
-mul-n : tie.Need-mul-n
-mul-n c = search needs
-
-add-n : tie.Need-add-n
-add-n c = search needs
-
-add-n-2 : tie.Need-add-n-2
-add-n-2 c = search needs
-
-mul-n-2 : tie.Need-mul-n-2
-mul-n-2 c = search needs
-
-add-n-3 : tie.Need-add-n-3
-add-n-3 c = search needs
-
-mul-n-3 : tie.Need-mul-n-3
-mul-n-3 c = search needs
-
-add-n-4 : tie.Need-add-n-4
-add-n-4 c = search needs
-
-free-at-requires : tie.Need-free-at-requires
-free-at-requires c κs = search needs
-
-add-free-at : tie.Need-add-free-at
-add-free-at c = search needs
-
-free-at-requires-2 : tie.Need-free-at-requires-2
-free-at-requires-2 c κs = search needs
-
 run-at-requires : tie.Need-run-at-requires
 run-at-requires c κs =
     let s = c .before .before .before .before .before .before .before .before in
@@ -62,12 +29,6 @@ keep-requires c κs =
     addable _ (a .work .now) (f .run-at .last .0) (a .marks .now) (f .run-at .last .1 .0)
     (f .before .before .before .before .free-at .result) (f .before .before .before .free-at2 .result) (a .m) (a .k) (a .d) (a .h) (f .run-at .result) (s .pre .1) (f .run-at .ensures)
 
-same-length : tie.Need-same-length
-same-length c = search needs
-
-same-length-2 : tie.Need-same-length-2
-same-length-2 c = search needs
-
 returns : tie.Need-returns
 returns c =
     let f = c .before .before .before .before .before in
@@ -87,19 +48,19 @@ pub try-again-spec : {M : Type 1} → statement M
 try-again-spec =
     tie.close
     (tie.spec
-    mul-kd
-    mul-n
-    add-n
-    add-n-2
-    mul-n-2
-    add-n-3
-    mul-n-3
-    add-n-4
-    free-at-requires
-    add-free-at
-    free-at-requires-2
+    (λ c. search needs)
+    (λ c. search needs)
+    (λ c. search needs)
+    (λ c. search needs)
+    (λ c. search needs)
+    (λ c. search needs)
+    (λ c. search needs)
+    (λ c. search needs)
+    (λ c κs. search needs)
+    (λ c. search needs)
+    (λ c κs. search needs)
     run-at-requires
     keep-requires
-    same-length
-    same-length-2
+    (λ c. search needs)
+    (λ c. search needs)
     returns)

@@ -3,15 +3,6 @@ use borrow.Author.Needs.{needs}
 use Rattle.station.proofs.give_chosen.Statement.{statement}
 use Rattle.station.proofs.give_chosen.Tie as tie
 
-enum-known-a : tie.Need-enum-known-a
-enum-known-a c = search needs
-
-enum-known-a-2 : tie.Need-enum-known-a-2
-enum-known-a-2 c = search needs
-
-enum-known-a-3 : tie.Need-enum-known-a-3
-enum-known-a-3 c = search needs
-
 returns : tie.Need-returns
 returns c = rw (c .before .a .given .1)
 
@@ -23,4 +14,4 @@ returns-3 c = rw (c .before .before .a3 .given .1)
 
 pub give-chosen-spec : {M : Type 1} → statement M
 give-chosen-spec =
-    tie.close (tie.spec enum-known-a enum-known-a-2 enum-known-a-3 returns returns-2 returns-3)
+    tie.close (tie.spec (λ c. search needs) (λ c. search needs) (λ c. search needs) returns returns-2 returns-3)

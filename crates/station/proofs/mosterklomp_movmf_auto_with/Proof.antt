@@ -13,15 +13,6 @@ use borrow.Author.Needs.{needs}
 use Rattle.station.proofs.mosterklomp_movmf_auto_with.Statement.{statement}
 use Rattle.station.proofs.mosterklomp_movmf_auto_with.Tie as tie
 
-kappa-of-requires : tie.Need-kappa-of-requires
-kappa-of-requires c κs = search needs
-
-movmf-auto-with-requires : tie.Need-movmf-auto-with-requires
-movmf-auto-with-requires c κs = search needs
-
-give-chosen-requires : tie.Need-give-chosen-requires
-give-chosen-requires c κs = search needs
-
 same-length : tie.Need-same-length
 same-length c = c .before .before .before .before .before .before .before .before .before .before .before .before .before .before .before .before .before .before .before .before .before .movmf-auto-with .kept .1 .1 .1 .1 .1 .1 .0
 
@@ -65,9 +56,9 @@ pub mosterklomp-movmf-auto-with-spec : {M : Type 1} → statement M
 mosterklomp-movmf-auto-with-spec =
     tie.close
     (tie.spec
-    kappa-of-requires
-    movmf-auto-with-requires
-    give-chosen-requires
+    (λ c κs. search needs)
+    (λ c κs. search needs)
+    (λ c κs. search needs)
     same-length
     same-length-2
     same-length-3

@@ -9,15 +9,6 @@ use borrow.Author.Needs.{needs}
 use Rattle.station.proofs.mosterklomp_movmf_with.Statement.{statement}
 use Rattle.station.proofs.mosterklomp_movmf_with.Tie as tie
 
-kappa-of-requires : tie.Need-kappa-of-requires
-kappa-of-requires c κs = search needs
-
-movmf-with-requires : tie.Need-movmf-with-requires
-movmf-with-requires c κs = search needs
-
-give-fitted-requires : tie.Need-give-fitted-requires
-give-fitted-requires c κs = search needs
-
 same-length : tie.Need-same-length
 same-length c = c .before .before .before .before .before .before .before .before .before .before .before .before .before .before .before .before .before .before .before .before .movmf-with .kept .1 .1 .1 .1 .1 .0
 
@@ -57,9 +48,9 @@ pub mosterklomp-movmf-with-spec : {M : Type 1} → statement M
 mosterklomp-movmf-with-spec =
     tie.close
     (tie.spec
-    kappa-of-requires
-    movmf-with-requires
-    give-fitted-requires
+    (λ c κs. search needs)
+    (λ c κs. search needs)
+    (λ c κs. search needs)
     same-length
     same-length-2
     same-length-3

@@ -6,24 +6,6 @@ use borrow.Author.Needs.{needs}
 use Rattle.station.proofs.mosterklomp_spherical_kmeans.Statement.{statement}
 use Rattle.station.proofs.mosterklomp_spherical_kmeans.Tie as tie
 
-spherical-kmeans-requires : tie.Need-spherical-kmeans-requires
-spherical-kmeans-requires c κs = search needs
-
-give-clustered-requires : tie.Need-give-clustered-requires
-give-clustered-requires c κs = search needs
-
-same-length : tie.Need-same-length
-same-length c = search needs
-
-same-length-2 : tie.Need-same-length-2
-same-length-2 c = search needs
-
-same-length-3 : tie.Need-same-length-3
-same-length-3 c = search needs
-
-same-length-4 : tie.Need-same-length-4
-same-length-4 c = search needs
-
 returns : tie.Need-returns
 returns c =
     let a = c .before .before .before .before .before .before .before .before .before .before .before .before .before .before .before .before .before .before .before .before .before .before .args in
@@ -37,10 +19,10 @@ pub mosterklomp-spherical-kmeans-spec : {M : Type 1} → statement M
 mosterklomp-spherical-kmeans-spec =
     tie.close
     (tie.spec
-    spherical-kmeans-requires
-    give-clustered-requires
-    same-length
-    same-length-2
-    same-length-3
-    same-length-4
+    (λ c κs. search needs)
+    (λ c κs. search needs)
+    (λ c. search needs)
+    (λ c. search needs)
+    (λ c. search needs)
+    (λ c. search needs)
     returns)

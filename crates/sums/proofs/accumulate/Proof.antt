@@ -33,45 +33,6 @@ cleared-at f =
     cleared (a .weights .now) (a .coords .now) (a .m) (a .k) (a .d) (length (a .coords .now)) (a .work .now) (g .fill .last .0) (a .marks .now) (f .fill-u32 .last .0) (s .pre .0)
     (g .fill .ensures) (f .fill-u32 .ensures)
 
-mul-kd : tie.Need-mul-kd Inv-loop μ-loop
-mul-kd c = search needs
-
-add-fill : tie.Need-add-fill Inv-loop μ-loop
-add-fill c = search needs
-
-mul-fill : tie.Need-mul-fill Inv-loop μ-loop
-mul-fill c = search needs
-
-sub-fill : tie.Need-sub-fill Inv-loop μ-loop
-sub-fill c = search needs
-
-part-fill-start : tie.Need-part-fill-start Inv-loop μ-loop
-part-fill-start c = search needs
-
-part-fill-end : tie.Need-part-fill-end Inv-loop μ-loop
-part-fill-end c = search needs
-
-fill-requires : tie.Need-fill-requires Inv-loop μ-loop
-fill-requires c κs = search needs
-
-add-fill-u32 : tie.Need-add-fill-u32 Inv-loop μ-loop
-add-fill-u32 c = search needs
-
-mul-fill-u32 : tie.Need-mul-fill-u32 Inv-loop μ-loop
-mul-fill-u32 c = search needs
-
-sub-fill-u32 : tie.Need-sub-fill-u32 Inv-loop μ-loop
-sub-fill-u32 c = search needs
-
-part-fill-u32-start : tie.Need-part-fill-u32-start Inv-loop μ-loop
-part-fill-u32-start c = search needs
-
-part-fill-u32-end : tie.Need-part-fill-u32-end Inv-loop μ-loop
-part-fill-u32-end c = search needs
-
-fill-u32-requires : tie.Need-fill-u32-requires Inv-loop μ-loop
-fill-u32-requires c κs = search needs
-
 loop-holds : tie.Need-loop-holds Inv-loop μ-loop
 loop-holds c =
     let s = c .before .before .before .before .before .before .before .before .before .before .before .before in
@@ -93,12 +54,6 @@ gain-requires c κs =
           (c .before .before .loop-test .taken) (s .pre .0 .m-small) (s .pre .1 .0),
     )
 
-add-i : tie.Need-add-i Inv-loop μ-loop
-add-i c = search needs
-
-loop-less : tie.Need-loop-less Inv-loop μ-loop
-loop-less c = search needs
-
 loop-again : tie.Need-loop-again Inv-loop μ-loop
 loop-again c =
     let g = c .before .before .before .before in
@@ -113,12 +68,6 @@ loop-again c =
       eu ∙ l .inv .4,
     )
 
-same-length : tie.Need-same-length Inv-loop μ-loop
-same-length c = search needs
-
-same-length-2 : tie.Need-same-length-2 Inv-loop μ-loop
-same-length-2 c = search needs
-
 returns : tie.Need-returns Inv-loop μ-loop
 returns c =
     let l = c .before .loop in
@@ -132,24 +81,24 @@ accumulate-spec =
     (tie.spec
     Inv-loop
     μ-loop
-    mul-kd
-    add-fill
-    mul-fill
-    sub-fill
-    part-fill-start
-    part-fill-end
-    fill-requires
-    add-fill-u32
-    mul-fill-u32
-    sub-fill-u32
-    part-fill-u32-start
-    part-fill-u32-end
-    fill-u32-requires
+    (λ c. search needs)
+    (λ c. search needs)
+    (λ c. search needs)
+    (λ c. search needs)
+    (λ c. search needs)
+    (λ c. search needs)
+    (λ c κs. search needs)
+    (λ c. search needs)
+    (λ c. search needs)
+    (λ c. search needs)
+    (λ c. search needs)
+    (λ c. search needs)
+    (λ c κs. search needs)
     loop-holds
     gain-requires
-    add-i
-    loop-less
+    (λ c. search needs)
+    (λ c. search needs)
     loop-again
-    same-length
-    same-length-2
+    (λ c. search needs)
+    (λ c. search needs)
     returns)

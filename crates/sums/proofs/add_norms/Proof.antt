@@ -22,9 +22,6 @@ abbrev μ-loop : tie.MeasureT-loop
 within : (c : tie.In-loop Inv-loop μ-loop) → let a = c .before .before .before .args in c .before .loop .c * a .d + a .d ≤ a .k * a .d
 within c = let a = c .before .before .before .args in row-within (c .before .loop .c) (a .k) (a .d) (c .loop-test .taken)
 
-mul-kd : tie.Need-mul-kd Inv-loop μ-loop
-mul-kd c = search needs
-
 loop-holds : tie.Need-loop-holds Inv-loop μ-loop
 unfolding ofBits normsUpTo
 loop-holds c = (omega arith, refl)
@@ -50,15 +47,6 @@ part-norm-start c = let r = within c in omega (arith, r)
 part-norm-end : tie.Need-part-norm-end Inv-loop μ-loop
 part-norm-end c = let r = within c in omega (arith, r)
 
-norm-requires : tie.Need-norm-requires Inv-loop μ-loop
-norm-requires c κs = search needs
-
-add-c : tie.Need-add-c Inv-loop μ-loop
-add-c c = search needs
-
-loop-less : tie.Need-loop-less Inv-loop μ-loop
-loop-less c = search needs
-
 loop-again : tie.Need-loop-again Inv-loop μ-loop
 loop-again c =
     let l = c .before .before .before .loop in
@@ -79,7 +67,7 @@ add-norms-spec =
     (tie.spec
     Inv-loop
     μ-loop
-    mul-kd
+    (λ c. search needs)
     loop-holds
     mul-at
     add-at
@@ -88,8 +76,8 @@ add-norms-spec =
     sub-norm
     part-norm-start
     part-norm-end
-    norm-requires
-    add-c
-    loop-less
+    (λ c κs. search needs)
+    (λ c. search needs)
+    (λ c. search needs)
     loop-again
     returns)

@@ -6,21 +6,12 @@ use borrow.Author.Needs.{needs}
 use Rattle.sums.proofs.cohesion_of.Statement.{statement}
 use Rattle.sums.proofs.cohesion_of.Tie as tie
 
-accumulate-requires : tie.Need-accumulate-requires
-accumulate-requires c κs = search needs
-
 add-norms-requires : tie.Need-add-norms-requires
 add-norms-requires c κs =
     let g = c .before .before .before .before .before in
     let s = c .before .before .before .before .before .before .before .before .before .before .before .before in
     let a = s .args in
     area-of _ _ (length (a .coords .now)) (a .m) (a .k) (a .d) (sized-of _ _ _ _ (length (a .coords .now)) (a .m) (a .k) (a .d) (g .accumulate .kept .0) (g .accumulate .kept .1 .0) (s .pre .0))
-
-same-length : tie.Need-same-length
-same-length c = search needs
-
-same-length-2 : tie.Need-same-length-2
-same-length-2 c = search needs
 
 returns : tie.Need-returns
 returns c =
@@ -32,4 +23,4 @@ returns c =
     )
 
 pub cohesion-of-spec : {M : Type 1} → statement M
-cohesion-of-spec = tie.close (tie.spec accumulate-requires add-norms-requires same-length same-length-2 returns)
+cohesion-of-spec = tie.close (tie.spec (λ c κs. search needs) add-norms-requires (λ c. search needs) (λ c. search needs) returns)

@@ -29,14 +29,8 @@ fillable-at s work e =
 four-runs-requires : tie.Need-four-runs-requires
 four-runs-requires c κs = c .before .before .before .before .before .before .before .before .before .before .before .before .pre .0 .roomy
 
-kept-loglik-requires : tie.Need-kept-loglik-requires
-kept-loglik-requires c κs = search needs
-
 score-at-requires : tie.Need-score-at-requires
 score-at-requires c κs = let r = c .before .before .before .before .before .before .before .before .before .before .before .before .before .before .before .before .before .before .pre .0 .roomy in (r .k-some, r .k-small, r .kd-small)
-
-beats-requires : tie.Need-beats-requires
-beats-requires c κs = search needs
 
 fill-outputs-requires : tie.Need-fill-outputs-requires
 fill-outputs-requires c κs = fillable-at (c .before .before .before .before .before .before .before .before .before .before .before .before .before .before .before .before .before .before .before .before .before .before .before .before .before .before .before .before) _ (c .before .before .before .before .before .before .before .before .before .before .before .before .before .before .before .four-runs .kept .0)
@@ -124,9 +118,9 @@ try-number-spec =
     tie.close
     (tie.spec
     four-runs-requires
-    kept-loglik-requires
+    (λ c κs. search needs)
     score-at-requires
-    beats-requires
+    (λ c κs. search needs)
     fill-outputs-requires
     tally-kept-requires
     same-length

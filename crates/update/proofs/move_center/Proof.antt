@@ -7,42 +7,6 @@ use Rattle.update.proofs.Updates.{move-done, move-sums}
 use Rattle.update.proofs.move_center.Statement.{statement}
 use Rattle.update.proofs.move_center.Tie as tie
 
-mul-kd : tie.Need-mul-kd
-mul-kd c = search needs
-
-mul-to : tie.Need-mul-to
-mul-to c = search needs
-
-add-from : tie.Need-add-from
-add-from c = search needs
-
-turned-requires : tie.Need-turned-requires
-turned-requires c κs = search needs
-
-add-drift : tie.Need-add-drift
-add-drift c = search needs
-
-add-drift-2 : tie.Need-add-drift-2
-add-drift-2 c = search needs
-
-add-drift-3 : tie.Need-add-drift-3
-add-drift-3 c = search needs
-
-add-drift-4 : tie.Need-add-drift-4
-add-drift-4 c = search needs
-
-add-drift-5 : tie.Need-add-drift-5
-add-drift-5 c = search needs
-
-add-work : tie.Need-add-work
-add-work c = search needs
-
-mul-work : tie.Need-mul-work
-mul-work c = search needs
-
-slice-write-work : tie.Need-slice-write-work
-slice-write-work c = search needs
-
 copy-within-requires : tie.Need-copy-within-requires
 copy-within-requires c κs =
     let s = c .before .before .before .before in
@@ -68,18 +32,18 @@ pub move-center-spec : {M : Type 1} → statement M
 move-center-spec =
     tie.close
     (tie.spec
-    mul-kd
-    mul-to
-    add-from
-    turned-requires
-    add-drift
-    add-drift-2
-    add-drift-3
-    add-drift-4
-    add-drift-5
-    add-work
-    mul-work
-    slice-write-work
+    (λ c. search needs)
+    (λ c. search needs)
+    (λ c. search needs)
+    (λ c κs. search needs)
+    (λ c. search needs)
+    (λ c. search needs)
+    (λ c. search needs)
+    (λ c. search needs)
+    (λ c. search needs)
+    (λ c. search needs)
+    (λ c. search needs)
+    (λ c. search needs)
     copy-within-requires
     same-length
     returns)

@@ -34,12 +34,6 @@ refresh-leaf-requires c κs =
     let h = c .before .loop-test .taken in
     (l .inv .1, (leaf-of (l .i) (a .m) (a .d) h, group-of _ (a .k) (a .d) (label-below (a .m) (a .k) (a .d) (a .work .now) (a .marks .now) (l .i) h (s .pre .1))))
 
-add-i : tie.Need-add-i Inv-loop μ-loop
-add-i c = search needs
-
-loop-less : tie.Need-loop-less Inv-loop μ-loop
-loop-less c = search needs
-
 loop-again : tie.Need-loop-again Inv-loop μ-loop
 loop-again c =
     let g = c .before .before in
@@ -57,9 +51,6 @@ loop-again c =
       _∙_ {a = sumsIn (a .k) (a .d) w'} (g .refresh-leaf .ensures .1) (l .inv .3),
       ew ∙ l .inv .4,
     )
-
-same-length : tie.Need-same-length Inv-loop μ-loop
-same-length c = search needs
 
 returns : tie.Need-returns Inv-loop μ-loop
 returns c =
@@ -80,8 +71,8 @@ refresh-spec =
     μ-loop
     loop-holds
     refresh-leaf-requires
-    add-i
-    loop-less
+    (λ c. search needs)
+    (λ c. search needs)
     loop-again
-    same-length
+    (λ c. search needs)
     returns)

@@ -51,12 +51,6 @@ refreshed-at j =
     ))
     (j .if1 .came)
 
-accumulate-requires : tie.Need-accumulate-requires
-accumulate-requires c κs = search needs
-
-has-empty-requires : tie.Need-has-empty-requires
-has-empty-requires c κs = search needs
-
 refresh-requires : tie.Need-refresh-requires
 refresh-requires c κs =
     let g = c .before .before .before .before .before .before .before .before .before in
@@ -82,9 +76,6 @@ same-length c =
     let j = f .before .before .before in
     f .update .kept .0 ∙ refreshed-at j .0 ∙ accumulated j .accumulate .kept .0
 
-same-length-2 : tie.Need-same-length-2
-same-length-2 c = search needs
-
 returns : tie.Need-returns
 returns c =
     let f = c .before .before in
@@ -99,10 +90,10 @@ pub settle-spec : {M : Type 1} → statement M
 settle-spec =
     tie.close
     (tie.spec
-    accumulate-requires
-    has-empty-requires
+    (λ c κs. search needs)
+    (λ c κs. search needs)
     refresh-requires
     update-requires
     same-length
-    same-length-2
+    (λ c. search needs)
     returns)

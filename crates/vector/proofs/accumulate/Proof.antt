@@ -16,21 +16,6 @@ Inv-loop start v s₀ j₀ s j = (j ≤ length v) × (sumFrom s (drop j v) ≡ s
 abbrev μ-loop : tie.MeasureT-loop
 μ-loop start v s₀ j₀ s j = length v - j
 
-loop-holds : tie.Need-loop-holds Inv-loop μ-loop
-loop-holds c = search needs
-
-mul-s : tie.Need-mul-s Inv-loop μ-loop
-mul-s c = search needs
-
-shared-slice-read-s : tie.Need-shared-slice-read-s Inv-loop μ-loop
-shared-slice-read-s c = search needs
-
-add-j : tie.Need-add-j Inv-loop μ-loop
-add-j c = search needs
-
-loop-less : tie.Need-loop-less Inv-loop μ-loop
-loop-less c = search needs
-
 loop-again : tie.Need-loop-again Inv-loop μ-loop
 loop-again c =
     let l = c .before .before in
@@ -47,10 +32,10 @@ accumulate-spec =
     (tie.spec
     Inv-loop
     μ-loop
-    loop-holds
-    mul-s
-    shared-slice-read-s
-    add-j
-    loop-less
+    (λ c. search needs)
+    (λ c. search needs)
+    (λ c. search needs)
+    (λ c. search needs)
+    (λ c. search needs)
     loop-again
     returns)

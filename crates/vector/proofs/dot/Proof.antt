@@ -17,30 +17,9 @@ Inv-loop a b n s₀ j₀ s j = (n ≡ min (length a) (length b)) × (j ≤ n) ×
 abbrev μ-loop : tie.MeasureT-loop
 μ-loop a b n s₀ j₀ s j = n - j
 
-shorter-requires : tie.Need-shorter-requires Inv-loop μ-loop
-shorter-requires c κs = search needs
-
 loop-holds : tie.Need-loop-holds Inv-loop μ-loop
 unfolding neg ofBits
 loop-holds c = (c .shorter .ensures, omega arith, refl)
-
-mul-s : tie.Need-mul-s Inv-loop μ-loop
-mul-s c = search needs
-
-shared-slice-read-s : tie.Need-shared-slice-read-s Inv-loop μ-loop
-shared-slice-read-s c = search needs
-
-mul-s-2 : tie.Need-mul-s-2 Inv-loop μ-loop
-mul-s-2 c = search needs
-
-shared-slice-read-s-2 : tie.Need-shared-slice-read-s-2 Inv-loop μ-loop
-shared-slice-read-s-2 c = search needs
-
-add-j : tie.Need-add-j Inv-loop μ-loop
-add-j c = search needs
-
-loop-less : tie.Need-loop-less Inv-loop μ-loop
-loop-less c = search needs
 
 loop-again : tie.Need-loop-again Inv-loop μ-loop
 loop-again c =
@@ -60,13 +39,13 @@ dot-spec =
     (tie.spec
     Inv-loop
     μ-loop
-    shorter-requires
+    (λ c κs. search needs)
     loop-holds
-    mul-s
-    shared-slice-read-s
-    mul-s-2
-    shared-slice-read-s-2
-    add-j
-    loop-less
+    (λ c. search needs)
+    (λ c. search needs)
+    (λ c. search needs)
+    (λ c. search needs)
+    (λ c. search needs)
+    (λ c. search needs)
     loop-again
     returns)

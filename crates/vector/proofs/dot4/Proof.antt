@@ -14,51 +14,12 @@ Inv-loop x p q r s n a₀ b₀ c₀ e₀ j₀ a b c e j = Going x p q r s n a b 
 abbrev μ-loop : tie.MeasureT-loop
 μ-loop x p q r s n a₀ b₀ c₀ e₀ j₀ a b c e j = n - j
 
-shorter-requires : tie.Need-shorter-requires Inv-loop μ-loop
-shorter-requires c κs = search needs
-
 loop-holds : tie.Need-loop-holds Inv-loop μ-loop
 unfolding neg ofBits
 loop-holds c =
     let t = c .before .before .before .before .before .before in
     let x = t .args in
     begun (x .x .now) (x .p .now) (x .q .now) (x .r .now) (x .s .now) (c .shorter .result) (t .pre) (c .shorter .ensures)
-
-mul-v : tie.Need-mul-v Inv-loop μ-loop
-mul-v c = search needs
-
-shared-slice-read-v : tie.Need-shared-slice-read-v Inv-loop μ-loop
-shared-slice-read-v c = search needs
-
-mul-a : tie.Need-mul-a Inv-loop μ-loop
-mul-a c = search needs
-
-shared-slice-read-a : tie.Need-shared-slice-read-a Inv-loop μ-loop
-shared-slice-read-a c = search needs
-
-mul-b : tie.Need-mul-b Inv-loop μ-loop
-mul-b c = search needs
-
-shared-slice-read-b : tie.Need-shared-slice-read-b Inv-loop μ-loop
-shared-slice-read-b c = search needs
-
-mul-c : tie.Need-mul-c Inv-loop μ-loop
-mul-c c = search needs
-
-shared-slice-read-c : tie.Need-shared-slice-read-c Inv-loop μ-loop
-shared-slice-read-c c = search needs
-
-mul-e : tie.Need-mul-e Inv-loop μ-loop
-mul-e c = search needs
-
-shared-slice-read-e : tie.Need-shared-slice-read-e Inv-loop μ-loop
-shared-slice-read-e c = search needs
-
-add-j : tie.Need-add-j Inv-loop μ-loop
-add-j c = search needs
-
-loop-less : tie.Need-loop-less Inv-loop μ-loop
-loop-less c = search needs
 
 loop-again : tie.Need-loop-again Inv-loop μ-loop
 loop-again c =
@@ -78,19 +39,19 @@ dot4-spec =
     (tie.spec
     Inv-loop
     μ-loop
-    shorter-requires
+    (λ c κs. search needs)
     loop-holds
-    mul-v
-    shared-slice-read-v
-    mul-a
-    shared-slice-read-a
-    mul-b
-    shared-slice-read-b
-    mul-c
-    shared-slice-read-c
-    mul-e
-    shared-slice-read-e
-    add-j
-    loop-less
+    (λ c. search needs)
+    (λ c. search needs)
+    (λ c. search needs)
+    (λ c. search needs)
+    (λ c. search needs)
+    (λ c. search needs)
+    (λ c. search needs)
+    (λ c. search needs)
+    (λ c. search needs)
+    (λ c. search needs)
+    (λ c. search needs)
+    (λ c. search needs)
     loop-again
     returns)

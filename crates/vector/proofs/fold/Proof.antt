@@ -4,12 +4,9 @@ use lib.Ieee.{ofBits}
 use Rattle.vector.proofs.fold.Statement.{statement}
 use Rattle.vector.proofs.fold.Tie as tie
 
-accumulate-requires : tie.Need-accumulate-requires
-accumulate-requires c κs = search needs
-
 returns : tie.Need-returns
 unfolding ofBits
 returns c = c .accumulate .ensures
 
 pub fold-spec : {M : Type 1} → statement M
-fold-spec = tie.close (tie.spec accumulate-requires returns)
+fold-spec = tie.close (tie.spec (λ c κs. search needs) returns)

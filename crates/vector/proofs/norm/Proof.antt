@@ -3,14 +3,8 @@ use borrow.Author.Needs.{needs}
 use Rattle.vector.proofs.norm.Statement.{statement}
 use Rattle.vector.proofs.norm.Tie as tie
 
-dot-requires : tie.Need-dot-requires
-dot-requires c κs = search needs
-
-root-requires : tie.Need-root-requires
-root-requires c κs = search needs
-
 returns : tie.Need-returns
 returns c = cc
 
 pub norm-spec : {M : Type 1} → statement M
-norm-spec = tie.close (tie.spec dot-requires root-requires returns)
+norm-spec = tie.close (tie.spec (λ c κs. search needs) (λ c κs. search needs) returns)

@@ -4,12 +4,9 @@ use lib.Ieee.{neg, ofBits}
 use Rattle.vector.proofs.sum.Statement.{statement}
 use Rattle.vector.proofs.sum.Tie as tie
 
-accumulate-requires : tie.Need-accumulate-requires
-accumulate-requires c κs = search needs
-
 returns : tie.Need-returns
 unfolding neg ofBits
 returns c = c .accumulate .ensures
 
 pub sum-spec : {M : Type 1} → statement M
-sum-spec = tie.close (tie.spec accumulate-requires returns)
+sum-spec = tie.close (tie.spec (λ c κs. search needs) returns)

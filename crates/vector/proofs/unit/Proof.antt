@@ -19,18 +19,6 @@ module _ (v w to : List Float) (n : Float) (norm : n ≡ normOf v) (copy : w ≡
   unfolding unitVector
   kept t = rw (← norm, t) copy
 
-norm-requires : tie.Need-norm-requires
-norm-requires c κs = search needs
-
-copy-requires : tie.Need-copy-requires
-copy-requires c κs = search needs
-
-divide-by-requires : tie.Need-divide-by-requires
-divide-by-requires c κs = search needs
-
-same-length : tie.Need-same-length
-same-length c = search needs
-
 returns : tie.Need-returns
 unfolding ofBits
 returns c =
@@ -39,9 +27,6 @@ returns c =
     let k = t .before .before .before in
     let m = k .before .before in
     divided (m .before .before .before .args .from .now) (k .copy .last .0) (d .divide-by .last .0) (m .norm .result) (m .norm .ensures) (k .copy .ensures) (t .if1 .taken) (d .divide-by .ensures)
-
-same-length-2 : tie.Need-same-length-2
-same-length-2 c = search needs
 
 returns-2 : tie.Need-returns-2
 unfolding ofBits
@@ -55,10 +40,10 @@ pub unit-spec : {M : Type 1} → statement M
 unit-spec =
     tie.close
     (tie.spec
-    norm-requires
-    copy-requires
-    divide-by-requires
-    same-length
+    (λ c κs. search needs)
+    (λ c κs. search needs)
+    (λ c κs. search needs)
+    (λ c. search needs)
     returns
-    same-length-2
+    (λ c. search needs)
     returns-2)
