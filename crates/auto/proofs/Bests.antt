@@ -8,20 +8,20 @@ use native.Mathlib.Omega.{arith}
 use lib.Dec.{T-not}
 use lib.ListN.{length}
 use lib.Ieee.{Float, nan, inf, lt}
-use Rattle.lloyd.specs.Totals.{sumOver}
-use Rattle.mixture.specs.Fits.{Once}
-use Rattle.groups.specs.declared.Settings.{Settings}
-use Rattle.outputs.specs.Outputs.{Outputs, written}
-use Rattle.choice.specs.Choice.{heldScore, chooseBy, choose, chosen, BestOf}
-use Rattle.tries.specs.Tries.{Auto, tallyBy, outputsBy, lone, score, autoUpTo}
+use Rattle.kmeans_lloyd.specs.Totals.{sumOver}
+use Rattle.mixture_run.specs.Fits.{Once}
+use Rattle.mixture_kappa.specs.declared.Settings.{Settings}
+use Rattle.mixture_outputs.specs.Outputs.{Outputs, written}
+use Rattle.auto_choice.specs.Choice.{heldScore, chooseBy, choose, chosen, BestOf}
+use Rattle.auto_tries.specs.Tries.{Auto, tallyBy, outputsBy, lone, score, autoUpTo}
 use Rattle.auto.specs.Outcome.{answerBy, ended}
 use Rattle.auto.specs.Best.{refusalIn, Keeps, products, Best}
-use Rattle.choice.specs.declared.Choice.{Choice}
-use Rattle.choice.specs.declared.Choice.the-variants.{Number, Nothing}
-use Rattle.tries.specs.declared.Tally.{Tally}
+use Rattle.auto_choice.specs.declared.Choice.{Choice}
+use Rattle.auto_choice.specs.declared.Choice.the-variants.{Number, Nothing}
+use Rattle.auto_tries.specs.declared.Tally.{Tally}
 use Rattle.auto.specs.declared.Chosen.{Chosen}
 use Rattle.auto.specs.declared.Chosen.the-variants.{Refused, Unscored, Done}
-use Rattle.choice.proofs.Choices.{Means, chosen-means, one-best}
+use Rattle.auto_choice.proofs.Choices.{Means, chosen-means, one-best}
 use Rattle.auto.proofs.Counts.{made-sum, saved-sum, work-sum, work-most}
 
 -- ---- the parts of an answer

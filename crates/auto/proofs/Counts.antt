@@ -9,21 +9,21 @@ use native.Mathlib.Omega.{arith}
 use lib.ListN.{length}
 use lib.Ieee.{Float, lt, le}
 use Rattle.rng.specs.SplitMix.{restartSeedOf}
-use Rattle.lloyd.specs.Lloyd.{startedFrom}
-use Rattle.seeding.specs.Seeding.{seedsOf}
-use Rattle.lloyd.specs.Runs.{freshRun}
-use Rattle.lloyd.specs.Results.{resultOf}
-use Rattle.lloyd.specs.Totals.{sumOver}
-use Rattle.lloyd.proofs.Runs.{run-counts}
-use Rattle.lloyd.proofs.Tallies.{begun-most}
-use Rattle.mixture.specs.Fits.{Once, onceOf}
-use Rattle.groups.specs.declared.Settings.{Settings}
-use Rattle.runs.specs.Runs.{keepBy, runOf, runsUpTo}
-use Rattle.outputs.specs.Outputs.{Outputs}
-use Rattle.choice.specs.Choice.{heldScore}
-use Rattle.tries.specs.Tries.{tallyBy, lone, score, autoUpTo}
+use Rattle.kmeans_lloyd.specs.Lloyd.{startedFrom}
+use Rattle.kmeans_seeding.specs.Seeding.{seedsOf}
+use Rattle.kmeans_lloyd.specs.Runs.{freshRun}
+use Rattle.kmeans_lloyd.specs.Results.{resultOf}
+use Rattle.kmeans_lloyd.specs.Totals.{sumOver}
+use Rattle.kmeans_lloyd.proofs.Runs.{run-counts}
+use Rattle.kmeans_lloyd.proofs.Tallies.{begun-most}
+use Rattle.mixture_run.specs.Fits.{Once, onceOf}
+use Rattle.mixture_kappa.specs.declared.Settings.{Settings}
+use Rattle.mixture_restarts.specs.Runs.{keepBy, runOf, runsUpTo}
+use Rattle.mixture_outputs.specs.Outputs.{Outputs}
+use Rattle.auto_choice.specs.Choice.{heldScore}
+use Rattle.auto_tries.specs.Tries.{tallyBy, lone, score, autoUpTo}
 use Rattle.auto.specs.Best.{begun, products}
-use Rattle.tries.specs.declared.Tally.{Tally}
+use Rattle.auto_tries.specs.declared.Tally.{Tally}
 
 -- ---- sums
 sums-add : (f g h : ℕ → ℕ) → ((j : ℕ) → f j + g j ≡ h j) → (lo n : ℕ) → sumOver f lo n + sumOver g lo n ≡ sumOver h lo n

@@ -4,10 +4,10 @@ use Prim.Native.Nat.{ℕ, _+_, _-_, _≤_, _<_}
 use mathlib.Core.Path.{refl}
 use native.Mathlib.Omega.{arith}
 use lib.ListN.{length}
-use Rattle.choice.specs.Choice.{highest, lowest}
+use Rattle.auto_choice.specs.Choice.{highest, lowest}
 use Rattle.limits.proofs.Limits.{sizes-met}
-use Rattle.lloyd.proofs.Doubled.{none-over}
-use Rattle.runs.proofs.Doubled.{fit-never-doubled}
+use Rattle.kmeans_lloyd.proofs.Doubled.{none-over}
+use Rattle.mixture_restarts.proofs.Doubled.{fit-never-doubled}
 use Rattle.auto.specs.Doubled.{CallsNeverDoubled}
 use Rattle.auto.proofs.Refusals.{leaves-ok}
 use Rattle.auto.proofs.Outcomes.{highest-some, lowest-some}

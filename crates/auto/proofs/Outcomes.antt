@@ -5,14 +5,14 @@ use Prim.Native.Nat.{ℕ, zero, suc, _+_, _-_, _≤_}
 use native.Mathlib.Omega.{arith}
 use lib.ListN.{length}
 use lib.Ieee.{Float}
-use Rattle.groups.specs.declared.Settings.{Settings}
-use Rattle.outputs.specs.Outputs.{Outputs, lengthsOf}
-use Rattle.choice.specs.Choice.{highest, lowest}
+use Rattle.mixture_kappa.specs.declared.Settings.{Settings}
+use Rattle.mixture_outputs.specs.Outputs.{Outputs, lengthsOf}
+use Rattle.auto_choice.specs.Choice.{highest, lowest}
 use Rattle.auto.specs.Refusals.{refusalOf}
-use Rattle.tries.specs.Tries.{Auto, autoUpTo}
+use Rattle.auto_tries.specs.Tries.{Auto, autoUpTo}
 use Rattle.auto.specs.Outcome.{Outcome, answerBy, ended, outcomeIn, outcome}
 use Rattle.auto.specs.Best.{Best}
-use Rattle.tries.specs.declared.Tally.{Tally}
+use Rattle.auto_tries.specs.declared.Tally.{Tally}
 use Rattle.auto.specs.declared.Chosen.{Chosen}
 use Rattle.auto.specs.declared.Chosen.the-variants.{Refused}
 

@@ -9,11 +9,11 @@ use lib.Ieee.{Float}
 use borrow.Author.Tests.{leb-true}
 use Rattle.limits.specs.Limits.{need, weightOk, coordinateOk, every, sizesOk, roundsOk, LeavesOk}
 use Rattle.limits.proofs.Limits.{Admitted, admitted, sizes-met}
-use Rattle.outputs.specs.Refusals.{arraysOk}
-use Rattle.outputs.specs.declared.Lengths.{Lengths}
-use Rattle.outputs.proofs.Refusals.{arrays-met, roomy-by, fillable}
+use Rattle.mixture_outputs.specs.Refusals.{arraysOk}
+use Rattle.mixture_outputs.specs.declared.Lengths.{Lengths}
+use Rattle.mixture_outputs.proofs.Refusals.{arrays-met, roomy-by, fillable}
 use Rattle.auto.specs.Refusals.{refusalOf}
-use Rattle.tries.specs.Ready.{Ready}
+use Rattle.auto_tries.specs.Ready.{Ready}
 
 module _ (weights coords : List Float) (d hi rounds : ℕ) (l : Lengths) where
   tests : refusalOf weights coords d hi rounds l ≡ 0

@@ -8,12 +8,12 @@ use lib.Dec.{T}
 use lib.ListN.{length}
 use lib.Ieee.{Float, inf, lt}
 use Rattle.rng.specs.SplitMix.{restartSeedOf}
-use Rattle.lloyd.specs.Totals.{sumOver}
-use Rattle.mixture.specs.Fits.{warmOf}
-use Rattle.groups.specs.declared.Settings.{Settings}
-use Rattle.outputs.specs.Outputs.{Outputs, written}
-use Rattle.choice.specs.Choice.{BestOf}
-use Rattle.tries.specs.Tries.{lone, score}
+use Rattle.kmeans_lloyd.specs.Totals.{sumOver}
+use Rattle.mixture_run.specs.Fits.{warmOf}
+use Rattle.mixture_kappa.specs.declared.Settings.{Settings}
+use Rattle.mixture_outputs.specs.Outputs.{Outputs, written}
+use Rattle.auto_choice.specs.Choice.{BestOf}
+use Rattle.auto_tries.specs.Tries.{lone, score}
 use Rattle.auto.specs.declared.Chosen.{Chosen}
 use Rattle.auto.specs.declared.Chosen.the-variants.{Refused, Unscored, Done}
 

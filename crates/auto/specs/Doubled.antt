@@ -5,11 +5,11 @@ use mathlib.Core.List.{List}
 use Prim.Native.Nat.{ℕ, _+_, _-_}
 use lib.ListN.{length}
 use lib.Ieee.{Float}
-use Rattle.groups.specs.declared.Settings.{Settings}
-use Rattle.outputs.specs.declared.Lengths.{Lengths}
-use Rattle.lloyd.specs.Totals.{sumOver}
-use Rattle.runs.specs.Doubled.{doubledInFit}
-use Rattle.choice.specs.Choice.{highest, lowest}
+use Rattle.mixture_kappa.specs.declared.Settings.{Settings}
+use Rattle.mixture_outputs.specs.declared.Lengths.{Lengths}
+use Rattle.kmeans_lloyd.specs.Totals.{sumOver}
+use Rattle.mixture_restarts.specs.Doubled.{doubledInFit}
+use Rattle.auto_choice.specs.Choice.{highest, lowest}
 use Rattle.auto.specs.Refusals.{refusalOf}
 
 -- over all numbers tried, from lo to hi

@@ -3,16 +3,16 @@ use mathlib.Core.List.{List}
 use Prim.Native.Nat.{ℕ, zero, suc, _+_, _-_}
 use lib.ListN.{length}
 use lib.Ieee.{Float}
-use Rattle.groups.specs.declared.Settings.{Settings}
-use Rattle.outputs.specs.Outputs.{Outputs, lengthsOf}
-use Rattle.choice.specs.Choice.{highest, lowest}
+use Rattle.mixture_kappa.specs.declared.Settings.{Settings}
+use Rattle.mixture_outputs.specs.Outputs.{Outputs, lengthsOf}
+use Rattle.auto_choice.specs.Choice.{highest, lowest}
 use Rattle.auto.specs.Refusals.{refusalOf}
-use Rattle.choice.specs.declared.Choice.{Choice}
-use Rattle.choice.specs.declared.Choice.the-variants.{Number, Nothing}
-use Rattle.tries.specs.declared.Tally.{Tally}
+use Rattle.auto_choice.specs.declared.Choice.{Choice}
+use Rattle.auto_choice.specs.declared.Choice.the-variants.{Number, Nothing}
+use Rattle.auto_tries.specs.declared.Tally.{Tally}
 use Rattle.auto.specs.declared.Chosen.{Chosen}
 use Rattle.auto.specs.declared.Chosen.the-variants.{Refused, Unscored, Done}
-use Rattle.tries.specs.Tries.{Auto, autoUpTo}
+use Rattle.auto_tries.specs.Tries.{Auto, autoUpTo}
 
 pub record Outcome : Type 0 where
   pub answer : Chosen

@@ -5,8 +5,8 @@ use lib.Dec.{leb}
 use lib.ListN.{length}
 use lib.Ieee.{Float}
 use Rattle.limits.specs.Limits.{need, weightOk, coordinateOk, every, sizesOk, roundsOk}
-use Rattle.outputs.specs.Refusals.{arraysOk}
-use Rattle.outputs.specs.declared.Lengths.{Lengths}
+use Rattle.mixture_outputs.specs.Refusals.{arraysOk}
+use Rattle.mixture_outputs.specs.declared.Lengths.{Lengths}
 
 -- the order of `movmf_with`, 2 meaning k_hi above 64, the arrays long enough for k_hi; 0 for none
 unfoldable pub refusalOf : List Float → List Float → ℕ → ℕ → ℕ → Lengths → ℕ

@@ -2,9 +2,9 @@
 // call'): what must be refused is, and the numbers of the clamped range are tried.
 ghost use mathlib.Core.Path.{_≡_};
 ghost use lib.ListN.{length};
-ghost use Rattle.groups.specs.declared.Kappa.the-variants.{Free};
-ghost use Rattle.outputs.specs.Outputs.{arrays, lengthsOf};
-ghost use Rattle.choice.specs.Choice.{highest, lowest};
+ghost use Rattle.mixture_kappa.specs.declared.Kappa.the-variants.{Free};
+ghost use Rattle.mixture_outputs.specs.Outputs.{arrays, lengthsOf};
+ghost use Rattle.auto_choice.specs.Choice.{highest, lowest};
 ghost use Rattle.auto.specs.Refusals.{refusalOf};
 ghost use Rattle.auto.specs.Outcome.{Outcome, answerBy, outcome};
 ghost use Rattle.auto.specs.Best.{Best};
@@ -18,7 +18,7 @@ fn refusal(
     d: usize,
     hi: usize,
     rounds: usize,
-    l: outputs::Lengths,
+    l: mixture_outputs::Lengths,
 ) -> u32
     ensures { λ r. ⌜ r ≡ refusalOf (now (weights .entry)) (now (coords .entry)) d hi rounds l ⌝ }
 {
@@ -32,7 +32,7 @@ fn refusal(
     if rounds > 10000 {
         return 3;
     }
-    if !outputs::arrays_ok(m, hi, d, l) {
+    if !mixture_outputs::arrays_ok(m, hi, d, l) {
         return 4;
     }
     if !limits::weights_ok(weights) {
@@ -63,19 +63,19 @@ pub enum Chosen {
 }
 
 // The answer after the last number.
-fn answer(t: tries::Tally) -> Chosen
+fn answer(t: auto_tries::Tally) -> Chosen
     ensures { λ r. ⌜ r ≡ answerBy (t .choice) t ⌝ }
 {
     let choice = t.choice;
     match choice {
-        choice::Choice::Number(k, score) => Chosen::Done {
+        auto_choice::Choice::Number(k, score) => Chosen::Done {
             k,
             loglik: t.loglik,
             score,
             made: t.made,
             saved: t.saved,
         },
-        choice::Choice::Nothing => Chosen::Unscored {
+        auto_choice::Choice::Nothing => Chosen::Unscored {
             made: t.made,
             saved: t.saved,
         },
@@ -90,7 +90,7 @@ pub fn movmf_auto_with(
     d: usize,
     k_min: usize,
     k_max: usize,
-    s: groups::Settings,
+    s: mixture_kappa::Settings,
     labels: &mut [u32],
     responsibilities: &mut [f64],
     group_weights: &mut [f64],
@@ -111,9 +111,9 @@ pub fn movmf_auto_with(
         (arrays (now (labels .exit)) (now (responsibilities .exit)) (now («group_weights» .exit)) (now (directions .exit)) (now (concentrations .exit)) (now (logw .exit)))) ⌝ }
 {
     let m = weights.len();
-    let hi = choice::highest_number(k_max, m);
-    let lo = choice::lowest_number(k_min, hi);
-    let l = outputs::Lengths {
+    let hi = auto_choice::highest_number(k_max, m);
+    let lo = auto_choice::lowest_number(k_min, hi);
+    let l = mixture_outputs::Lengths {
         labels: labels.len(),
         responsibilities: responsibilities.len(),
         weights: group_weights.len(),
@@ -128,7 +128,7 @@ pub fn movmf_auto_with(
         return Chosen::Refused(code);
     }
     let ln_total = logarithm::ln(vector::sum(weights));
-    let t = tries::try_numbers(
+    let t = auto_tries::try_numbers(
         weights,
         coords,
         d,
@@ -176,10 +176,10 @@ pub fn movmf_auto(
         (now (weights .entry)) (now (coords .entry)) d (record { rounds = rounds; seed = seed; kappa = Free }) (lowest «k_min» (highest «k_max» (length (now (weights .entry))))) (highest «k_max» (length (now (weights .entry)))) r
         (arrays (now (labels .exit)) (now (responsibilities .exit)) (now («group_weights» .exit)) (now (directions .exit)) (now (concentrations .exit)) (now (logw .exit)))) ⌝ }
 {
-    let s = groups::Settings {
+    let s = mixture_kappa::Settings {
         rounds,
         seed,
-        kappa: groups::Kappa::Free,
+        kappa: mixture_kappa::Kappa::Free,
     };
     movmf_auto_with(
         weights,

@@ -12,11 +12,11 @@ use Rattle.root.specs.Root.{rootOf}
 use Rattle.exponential.specs.Exponential.{expOf}
 use Rattle.logarithm.specs.Logarithm.{lnOf}
 use Rattle.bessel.specs.Concentration.{estimateOf, kappaMax}
-use Rattle.bounds.specs.declared.Slowest.{Slowest}
-use Rattle.bounds.specs.Shifts.{shiftLower, shiftUpper, slowestUpTo}
-use Rattle.choice.specs.Choice.{chosen}
-use Rattle.choice.specs.declared.Choice.{Choice}
-use Rattle.choice.specs.declared.Choice.the-variants.{Number, Nothing}
+use Rattle.kmeans_bounds.specs.declared.Slowest.{Slowest}
+use Rattle.kmeans_bounds.specs.Shifts.{shiftLower, shiftUpper, slowestUpTo}
+use Rattle.auto_choice.specs.Choice.{chosen}
+use Rattle.auto_choice.specs.declared.Choice.{Choice}
+use Rattle.auto_choice.specs.declared.Choice.the-variants.{Number, Nothing}
 
 -- an answer is one or more values
 pub data Value : Type 0 where

@@ -229,11 +229,11 @@ fn fit_code(r: movmf::Fitted) -> u32 {
     }
 }
 
-fn settings(rounds: usize) -> groups::Settings {
-    groups::Settings {
+fn settings(rounds: usize) -> mixture_kappa::Settings {
+    mixture_kappa::Settings {
         rounds,
         seed: 7,
-        kappa: groups::Kappa::Free,
+        kappa: mixture_kappa::Kappa::Free,
     }
 }
 

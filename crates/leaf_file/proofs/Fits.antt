@@ -7,10 +7,10 @@ use lib.ListN.{length, take, drop, replicate}
 use lib.Seq.{length-take-le, take-at}
 use lib.Ieee.{Float}
 use Rattle.float.specs.Arithmetic.{plusZero}
-use Rattle.groups.specs.Kappas.{tabulate}
-use Rattle.mixture.proofs.Regions.{tabulate-length}
-use Rattle.outputs.specs.Outputs.{arrays, lengthsOf}
-use Rattle.choice.specs.Choice.{highest, lowest}
+use Rattle.mixture_kappa.specs.Kappas.{tabulate}
+use Rattle.mixture_run.proofs.Regions.{tabulate-length}
+use Rattle.mixture_outputs.specs.Outputs.{arrays, lengthsOf}
+use Rattle.auto_choice.specs.Choice.{highest, lowest}
 use Rattle.auto.specs.Refusals.{refusalOf}
 use Rattle.auto.specs.Outcome.{Outcome, outcome}
 use Rattle.auto.specs.Best.{Best}

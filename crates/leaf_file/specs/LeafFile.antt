@@ -9,11 +9,11 @@ use lib.ListN.{length, getD, replicate}
 use lib.Ieee.{Float, binary64, ofBits}
 use Rattle.float.specs.Arithmetic.{plusZero}
 use Rattle.limits.specs.Limits.{need, workLength, marksLength}
-use Rattle.groups.specs.Kappas.{tabulate}
-use Rattle.groups.specs.declared.Settings.{Settings}
-use Rattle.groups.specs.declared.Kappa.the-variants.{Free}
-use Rattle.outputs.specs.Outputs.{Outputs, arrays, lengthsOf}
-use Rattle.choice.specs.Choice.{highest, lowest}
+use Rattle.mixture_kappa.specs.Kappas.{tabulate}
+use Rattle.mixture_kappa.specs.declared.Settings.{Settings}
+use Rattle.mixture_kappa.specs.declared.Kappa.the-variants.{Free}
+use Rattle.mixture_outputs.specs.Outputs.{Outputs, arrays, lengthsOf}
+use Rattle.auto_choice.specs.Choice.{highest, lowest}
 use Rattle.auto.specs.Refusals.{refusalOf}
 use Rattle.auto.specs.Outcome.{Outcome, outcome}
 use Rattle.auto.specs.Best.{Best}

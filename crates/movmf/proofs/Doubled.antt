@@ -1,6 +1,6 @@
 -- A call of `movmf_with` that is not refused doubles none: its leaves are within the limits. Assumes nothing.
 use mathlib.Core.Path.{refl, sym}
-use Rattle.runs.proofs.Doubled.{fit-never-doubled}
+use Rattle.mixture_restarts.proofs.Doubled.{fit-never-doubled}
 use Rattle.movmf.specs.Doubled.{CallsNeverDoubled}
 use Rattle.movmf.proofs.Refusals.{ready}
 

@@ -5,14 +5,14 @@ use mathlib.Core.List.{List}
 use Prim.Native.Nat.{ℕ, zero, suc}
 use lib.ListN.{length}
 use lib.Ieee.{Float}
-use Rattle.mixture.specs.Mixture.{Em}
-use Rattle.groups.specs.declared.Settings.{Settings}
-use Rattle.runs.specs.Runs.{runOf, runsUpTo, fitOf}
-use Rattle.runs.specs.Halves.{Both, keptEm}
-use Rattle.keeper.specs.Kept.{keptLoglik}
-use Rattle.keeper.specs.declared.Runs.{Runs}
-use Rattle.outputs.specs.Outputs.{Outputs, written, lengthsOf}
-use Rattle.outputs.proofs.Kept.{fit-em, fit-counts}
+use Rattle.mixture_run.specs.Mixture.{Em}
+use Rattle.mixture_kappa.specs.declared.Settings.{Settings}
+use Rattle.mixture_restarts.specs.Runs.{runOf, runsUpTo, fitOf}
+use Rattle.mixture_restarts.specs.Halves.{Both, keptEm}
+use Rattle.mixture_keeper.specs.Kept.{keptLoglik}
+use Rattle.mixture_keeper.specs.declared.Runs.{Runs}
+use Rattle.mixture_outputs.specs.Outputs.{Outputs, written, lengthsOf}
+use Rattle.mixture_outputs.proofs.Kept.{fit-em, fit-counts}
 use Rattle.movmf.specs.Refusals.{refusalOf}
 use Rattle.movmf.specs.Outcome.{Outcome, outcome}
 use Rattle.movmf.specs.declared.Fitted.the-variants.{Refused, Done}

@@ -9,10 +9,10 @@ use lib.Ieee.{Float}
 use borrow.Author.Tests.{leb-true}
 use Rattle.limits.specs.Limits.{need, weightOk, coordinateOk, every, sizesOk, groupsOk, roundsOk, LeavesOk}
 use Rattle.limits.proofs.Limits.{admitted, sizes-met, groups-met}
-use Rattle.runs.specs.Halves.{Roomy}
-use Rattle.outputs.specs.Refusals.{arraysOk}
-use Rattle.outputs.specs.declared.Lengths.{Lengths}
-use Rattle.outputs.proofs.Refusals.{Arrays, arrays-met, roomy-by}
+use Rattle.mixture_restarts.specs.Halves.{Roomy}
+use Rattle.mixture_outputs.specs.Refusals.{arraysOk}
+use Rattle.mixture_outputs.specs.declared.Lengths.{Lengths}
+use Rattle.mixture_outputs.proofs.Refusals.{Arrays, arrays-met, roomy-by}
 use Rattle.movmf.specs.Refusals.{refusalOf}
 
 -- what it says that nothing is refused

@@ -4,9 +4,9 @@ use mathlib.Core.List.{List}
 use Prim.Native.Nat.{ℕ}
 use lib.ListN.{length}
 use lib.Ieee.{Float}
-use Rattle.groups.specs.declared.Settings.{Settings}
-use Rattle.outputs.specs.declared.Lengths.{Lengths}
-use Rattle.runs.specs.Doubled.{doubledInFit}
+use Rattle.mixture_kappa.specs.declared.Settings.{Settings}
+use Rattle.mixture_outputs.specs.declared.Lengths.{Lengths}
+use Rattle.mixture_restarts.specs.Doubled.{doubledInFit}
 use Rattle.movmf.specs.Refusals.{refusalOf}
 
 -- in a call that is not refused doubled is zero, over its four restarts

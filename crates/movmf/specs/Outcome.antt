@@ -3,10 +3,10 @@ use mathlib.Core.List.{List}
 use Prim.Native.Nat.{ℕ, zero, suc}
 use lib.ListN.{length}
 use lib.Ieee.{Float}
-use Rattle.mixture.specs.Fits.{Once}
-use Rattle.groups.specs.declared.Settings.{Settings}
-use Rattle.runs.specs.Runs.{fitOf}
-use Rattle.outputs.specs.Outputs.{Outputs, written, lengthsOf}
+use Rattle.mixture_run.specs.Fits.{Once}
+use Rattle.mixture_kappa.specs.declared.Settings.{Settings}
+use Rattle.mixture_restarts.specs.Runs.{fitOf}
+use Rattle.mixture_outputs.specs.Outputs.{Outputs, written, lengthsOf}
 use Rattle.movmf.specs.Refusals.{refusalOf}
 use Rattle.movmf.specs.declared.Fitted.{Fitted}
 use Rattle.movmf.specs.declared.Fitted.the-variants.{Refused, Done}

@@ -4,8 +4,8 @@ use Prim.Native.Nat.{ℕ}
 use lib.ListN.{length}
 use lib.Ieee.{Float}
 use Rattle.limits.specs.Limits.{need, weightOk, coordinateOk, every, sizesOk, groupsOk, roundsOk}
-use Rattle.outputs.specs.Refusals.{arraysOk}
-use Rattle.outputs.specs.declared.Lengths.{Lengths}
+use Rattle.mixture_outputs.specs.Refusals.{arraysOk}
+use Rattle.mixture_outputs.specs.declared.Lengths.{Lengths}
 
 -- the same order as in `spherical_kmeans`, without restarts; 0 for none
 unfoldable pub refusalOf : List Float → List Float → ℕ → ℕ → ℕ → Lengths → ℕ

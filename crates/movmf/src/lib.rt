@@ -2,8 +2,8 @@
 // is, the four runs are made, and the outputs are filled from the part of the kept one.
 ghost use mathlib.Core.Path.{_≡_};
 ghost use lib.ListN.{length};
-ghost use Rattle.groups.specs.declared.Kappa.the-variants.{Free};
-ghost use Rattle.outputs.specs.Outputs.{arrays};
+ghost use Rattle.mixture_kappa.specs.declared.Kappa.the-variants.{Free};
+ghost use Rattle.mixture_outputs.specs.Outputs.{arrays};
 ghost use Rattle.movmf.specs.Refusals.{refusalOf};
 ghost use Rattle.movmf.specs.Outcome.{Outcome, outcome};
 
@@ -16,7 +16,7 @@ fn refusal(
     d: usize,
     k: usize,
     rounds: usize,
-    l: outputs::Lengths,
+    l: mixture_outputs::Lengths,
 ) -> u32
     ensures { λ r. ⌜ r ≡ refusalOf (now (weights .entry)) (now (coords .entry)) d k rounds l ⌝ }
 {
@@ -30,7 +30,7 @@ fn refusal(
     if rounds > 10000 {
         return 3;
     }
-    if !outputs::arrays_ok(m, k, d, l) {
+    if !mixture_outputs::arrays_ok(m, k, d, l) {
         return 4;
     }
     if !limits::weights_ok(weights) {
@@ -62,7 +62,7 @@ pub fn movmf_with(
     coords: &[f64],
     d: usize,
     k: usize,
-    s: groups::Settings,
+    s: mixture_kappa::Settings,
     labels: &mut [u32],
     responsibilities: &mut [f64],
     group_weights: &mut [f64],
@@ -77,7 +77,7 @@ pub fn movmf_with(
         (outcome (arrays (now (labels .entry)) (now (responsibilities .entry)) (now («group_weights» .entry)) (now (directions .entry)) (now (concentrations .entry)) (now (logw .entry)))
         (now (weights .entry)) (now (coords .entry)) d k s (length (now (work .entry))) (length (now (marks .entry)))) ⌝ }
 {
-    let l = outputs::Lengths {
+    let l = mixture_outputs::Lengths {
         labels: labels.len(),
         responsibilities: responsibilities.len(),
         weights: group_weights.len(),
@@ -92,8 +92,8 @@ pub fn movmf_with(
         return Fitted::Refused(code);
     }
     let m = weights.len();
-    let r = runs::four_runs(work, marks, weights, coords, s, m, k, d);
-    outputs::fill_outputs(
+    let r = mixture_restarts::four_runs(work, marks, weights, coords, s, m, k, d);
+    mixture_outputs::fill_outputs(
         labels,
         responsibilities,
         group_weights,
@@ -108,7 +108,7 @@ pub fn movmf_with(
     );
     Fitted::Done {
         k,
-        loglik: keeper::kept_loglik(r),
+        loglik: mixture_keeper::kept_loglik(r),
         made: r.made,
         saved: r.saved,
     }
@@ -136,10 +136,10 @@ pub fn movmf(
         (outcome (arrays (now (labels .entry)) (now (responsibilities .entry)) (now («group_weights» .entry)) (now (directions .entry)) (now (concentrations .entry)) (now (logw .entry)))
         (now (weights .entry)) (now (coords .entry)) d k (record { rounds = rounds; seed = seed; kappa = Free }) (length (now (work .entry))) (length (now (marks .entry)))) ⌝ }
 {
-    let s = groups::Settings {
+    let s = mixture_kappa::Settings {
         rounds,
         seed,
-        kappa: groups::Kappa::Free,
+        kappa: mixture_kappa::Kappa::Free,
     };
     movmf_with(
         weights,

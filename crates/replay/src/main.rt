@@ -449,16 +449,16 @@ fn groups_agree(text: &[u8], weights: &[f64], coords: &[f64], h: Head, at: usize
     rows_agree(&directions, times(k, d), text, q).same
 }
 
-fn kappa_of(x: u64) -> groups::Kappa {
+fn kappa_of(x: u64) -> mixture_kappa::Kappa {
     if x == 0 {
-        groups::Kappa::Free
+        mixture_kappa::Kappa::Free
     } else {
-        groups::Kappa::Shared
+        mixture_kappa::Kappa::Shared
     }
 }
 
-fn settings(rounds: u64, seed: u64, kappa: u64) -> groups::Settings {
-    groups::Settings {
+fn settings(rounds: u64, seed: u64, kappa: u64) -> mixture_kappa::Settings {
+    mixture_kappa::Settings {
         rounds: rounds as usize,
         seed,
         kappa: kappa_of(kappa),

@@ -2,7 +2,7 @@
 -- nothing.
 use lib.ListN.{length}
 use Prim.Native.Nat.{ℕ, max}
-use Rattle.lloyd.proofs.Doubled.{never-doubled, none-over}
+use Rattle.kmeans_lloyd.proofs.Doubled.{never-doubled, none-over}
 use Rattle.spherical.specs.Doubled.{stateBefore, CallsNeverDoubled}
 use Rattle.spherical.proofs.Refusals.{ready}
 

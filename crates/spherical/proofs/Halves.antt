@@ -11,12 +11,12 @@ use lib.Seq.{take-take}
 use lib.Ieee.{Float, le}
 use Rattle.rows.specs.Rows.{part, putPart}
 use Rattle.rows.proofs.Rows.{length-part}
-use Rattle.areas.specs.State.{State}
-use Rattle.lloyd.specs.Results.{Result, resultOf}
-use Rattle.areas.specs.Areas.{stateIn}
-use Rattle.lloyd.specs.Runs.{Runnable, RunDone}
-use Rattle.lloyd.specs.declared.Ran.{Ran}
-use Rattle.areas.proofs.Regions.{labels-are, centers-are}
+use Rattle.kmeans_layout.specs.State.{State}
+use Rattle.kmeans_lloyd.specs.Results.{Result, resultOf}
+use Rattle.kmeans_layout.specs.Areas.{stateIn}
+use Rattle.kmeans_lloyd.specs.Runs.{Runnable, RunDone}
+use Rattle.kmeans_lloyd.specs.declared.Ran.{Ran}
+use Rattle.kmeans_layout.proofs.Regions.{labels-are, centers-are}
 use Rattle.spherical.specs.Restarts.{keepBy, keep, restartsUpTo, kmeansOf}
 use Rattle.spherical.specs.Refusals.{refusalOf}
 use Rattle.spherical.specs.Outcome.{Outcome, outcome}

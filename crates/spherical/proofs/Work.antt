@@ -7,8 +7,8 @@ use Prim.Native.Nat.{ℕ, zero, suc, _+_, _*_, _-_, max}
 use native.Mathlib.Nat.{mul-add}
 use native.Mathlib.Omega.{arith}
 use lib.Ieee.{Float, le}
-use Rattle.lloyd.specs.Results.{Result, resultOf}
-use Rattle.lloyd.proofs.Runs.{run-counts}
+use Rattle.kmeans_lloyd.specs.Results.{Result, resultOf}
+use Rattle.kmeans_lloyd.proofs.Runs.{run-counts}
 use Rattle.spherical.specs.Restarts.{keepBy, restartsUpTo, kmeansOf}
 
 -- all the dot products of a run: k * m for each round begun

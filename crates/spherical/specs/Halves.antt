@@ -6,10 +6,10 @@ use Prim.Native.Nat.{ℕ, _+_, _*_, _≤_, _<_}
 use lib.ListN.{take, drop}
 use lib.Ieee.{Float, le}
 use Rattle.rows.specs.Rows.{part}
-use Rattle.areas.specs.State.{State}
-use Rattle.lloyd.specs.Results.{Result}
-use Rattle.areas.specs.Areas.{stateIn}
-use Rattle.lloyd.specs.declared.Ran.{Ran}
+use Rattle.kmeans_layout.specs.State.{State}
+use Rattle.kmeans_lloyd.specs.Results.{Result}
+use Rattle.kmeans_layout.specs.Areas.{stateIn}
+use Rattle.kmeans_lloyd.specs.declared.Ran.{Ran}
 use Rattle.limits.specs.Halves.{half, heldAt, freeAt}
 use Rattle.spherical.specs.declared.Held.{Held}
 

@@ -3,7 +3,7 @@ use mathlib.Core.List.{List, _++_}
 use Prim.Native.Nat.{ℕ, zero, suc, _*_}
 use lib.ListN.{length, drop}
 use lib.Ieee.{Float}
-use Rattle.lloyd.specs.Results.{Result}
+use Rattle.kmeans_lloyd.specs.Results.{Result}
 use Rattle.spherical.specs.Restarts.{kmeansOf}
 use Rattle.spherical.specs.Refusals.{refusalOf}
 use Rattle.spherical.specs.declared.Clustered.{Clustered}

@@ -3,7 +3,7 @@ use mathlib.Core.List.{List}
 use mathlib.Core.Bool.{Bool, true, false}
 use Prim.Native.Nat.{ℕ, zero, suc, _+_, _-_, max}
 use lib.Ieee.{Float, le}
-use Rattle.lloyd.specs.Results.{Result, resultOf}
+use Rattle.kmeans_lloyd.specs.Results.{Result, resultOf}
 
 -- what is held, with the counts and the rounds begun of one more run added, and the generator moved on
 abbrev pub counted : Result → Result → Result

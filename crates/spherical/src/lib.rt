@@ -5,7 +5,7 @@ ghost use mathlib.Core.Path.{_≡_};
 ghost use Prim.Native.Nat.{_+_, _*_, _≤_};
 ghost use mathlib.Core.List.{_++_};
 ghost use lib.ListN.{length, drop};
-ghost use Rattle.lloyd.specs.Results.{resultOf};
+ghost use Rattle.kmeans_lloyd.specs.Results.{resultOf};
 ghost use Rattle.spherical.specs.Restarts.{kmeansOf};
 ghost use Rattle.spherical.specs.Refusals.{arraysOk, refusalOf};
 ghost use Rattle.spherical.specs.Outcome.{Outcome, outcome};
@@ -86,7 +86,7 @@ fn run_at(
     rounds: usize,
     a: usize,
     b: usize,
-) -> lloyd::Ran
+) -> kmeans_lloyd::Ran
     requires { ⌜ Roomy (length (now work)) (length (now marks)) (length (now weights)) (length (now coords)) m k d rounds ⌝ }
     requires { ⌜ (a + half m k d ≤ length (now work)) × (b + (m + k) ≤ length (now marks)) ⌝ }
     ensures { λ r. ⌜ Tried (resultOf (now (weights .entry)) (now (coords .entry)) m k d rounds state) (now (work .entry)) (now (work .exit)) (now (marks .entry)) (now (marks .exit)) a b m k d r ⌝ }
@@ -94,7 +94,7 @@ fn run_at(
     let kd = k * d;
     let n = m * k + kd + kd + 4 * m + 8 * k;
     let p = m + k;
-    lloyd::run(
+    kmeans_lloyd::run(
         &mut work[a..a + n],
         &mut marks[b..b + p],
         weights,
@@ -117,7 +117,7 @@ pub struct Held {
 }
 
 // With one run more, which stands in the free half.
-fn keep(h: Held, r: lloyd::Ran) -> Held
+fn keep(h: Held, r: kmeans_lloyd::Ran) -> Held
     requires { ⌜ Addable h r ⌝ }
     ensures { λ q. ⌜ q ≡ keptHeld h r ⌝ }
 {

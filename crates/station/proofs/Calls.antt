@@ -5,8 +5,8 @@ use Prim.Native.Nat.{ℕ}
 use lib.Ieee.{Float}
 use Rattle.spherical.specs.Outcome.{Outcome as ClusteredOutcome}
 use Rattle.spherical.specs.declared.Clustered.{Clustered}
-use Rattle.groups.specs.declared.Kappa.{Kappa}
-use Rattle.outputs.specs.Outputs.{Outputs}
+use Rattle.mixture_kappa.specs.declared.Kappa.{Kappa}
+use Rattle.mixture_outputs.specs.Outputs.{Outputs}
 use Rattle.movmf.specs.Outcome.{Outcome as FittedOutcome}
 use Rattle.movmf.specs.declared.Fitted.{Fitted}
 use Rattle.auto.specs.Outcome.{Outcome as ChosenOutcome}

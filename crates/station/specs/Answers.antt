@@ -7,9 +7,9 @@ use lib.Ieee.{Float}
 use Rattle.spherical.specs.Outcome.{Outcome as ClusteredOutcome}
 use Rattle.spherical.specs.declared.Clustered.{Clustered}
 use Rattle.spherical.specs.declared.Clustered.the-variants.{Refused as NotClustered, Done as ClusteredDone}
-use Rattle.groups.specs.declared.Kappa.{Kappa}
-use Rattle.groups.specs.declared.Kappa.the-variants.{Free, Shared}
-use Rattle.outputs.specs.Outputs.{Outputs}
+use Rattle.mixture_kappa.specs.declared.Kappa.{Kappa}
+use Rattle.mixture_kappa.specs.declared.Kappa.the-variants.{Free, Shared}
+use Rattle.mixture_outputs.specs.Outputs.{Outputs}
 use Rattle.movmf.specs.Outcome.{Outcome as FittedOutcome}
 use Rattle.movmf.specs.declared.Fitted.{Fitted}
 use Rattle.movmf.specs.declared.Fitted.the-variants.{Refused as NotFitted, Done as FittedDone}

@@ -3,9 +3,9 @@
 ghost use mathlib.Core.Path.{_≡_};
 ghost use lib.ListN.{length};
 ghost use Rattle.spherical.specs.Outcome.{outcome as clusteredOutcome};
-ghost use Rattle.outputs.specs.Outputs.{arrays, lengthsOf};
+ghost use Rattle.mixture_outputs.specs.Outputs.{arrays, lengthsOf};
 ghost use Rattle.movmf.specs.Outcome.{outcome as fittedOutcome};
-ghost use Rattle.choice.specs.Choice.{highest, lowest};
+ghost use Rattle.auto_choice.specs.Choice.{highest, lowest};
 ghost use Rattle.auto.specs.Refusals.{refusalOf};
 ghost use Rattle.auto.specs.Outcome.{outcome as chosenOutcome};
 ghost use Rattle.auto.specs.Best.{Best};
@@ -14,13 +14,13 @@ ghost use Rattle.station.specs.Answers.{kappaOf, ClusteredNumbers, clust
 // ---- the answers' cases
 
 // Shared or Free.
-fn kappa_of(shared: bool) -> groups::Kappa
+fn kappa_of(shared: bool) -> mixture_kappa::Kappa
     ensures { λ r. ⌜ r ≡ kappaOf shared ⌝ }
 {
     if shared {
-        groups::Kappa::Shared
+        mixture_kappa::Kappa::Shared
     } else {
-        groups::Kappa::Free
+        mixture_kappa::Kappa::Free
     }
 }
 
@@ -171,7 +171,7 @@ pub extern "C" fn mosterklomp_movmf_with(
         (now (weights .entry)) (now (coords .entry)) d k (record { rounds = rounds; seed = seed; kappa = kappaOf shared }) (length (now (work .entry))) (length (now (marks .entry))))) ⌝ }
 {
     let kappa = kappa_of(shared);
-    let s = groups::Settings {
+    let s = mixture_kappa::Settings {
         rounds,
         seed,
         kappa,
@@ -235,7 +235,7 @@ pub extern "C" fn mosterklomp_movmf_auto_with(
         (arrays (now (labels .exit)) (now (responsibilities .exit)) (now («group_weights» .exit)) (now (directions .exit)) (now (concentrations .exit)) (now (logw .exit)))) ⌝ }
 {
     let kappa = kappa_of(shared);
-    let s = groups::Settings {
+    let s = mixture_kappa::Settings {
         rounds,
         seed,
         kappa,

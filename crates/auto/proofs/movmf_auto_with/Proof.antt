@@ -3,7 +3,7 @@
 use mathlib.Core.Path.{sym, ap, _∙_}
 use lib.ListN.{length}
 use Rattle.logarithm.specs.Logarithm.{lnOf}
-use Rattle.outputs.specs.Outputs.{Outputs, lengthsOf, arrays}
+use Rattle.mixture_outputs.specs.Outputs.{Outputs, lengthsOf, arrays}
 use Rattle.auto.proofs.Refusals.{ready}
 use Rattle.auto.proofs.Bests.{auto-best}
 use Rattle.auto.proofs.Outcomes.{highest-some, lowest-some, lowest-most, refused, not-refused, done, done-best}

@@ -7,7 +7,7 @@ use lib.ListN.{length}
 use borrow.Author.Tests.{le-leb, lt-leb, not-true, not-false}
 use Rattle.limits.specs.Limits.{weightOk, every, sizesOk, roundsOk}
 use Rattle.limits.proofs.Limits.{sizes-met}
-use Rattle.outputs.specs.Refusals.{arraysOk}
+use Rattle.mixture_outputs.specs.Refusals.{arraysOk}
 use Rattle.auto.proofs.Refusals.{refusal-by}
 use borrow.Author.Needs.{needs}
 use Rattle.auto.proofs.refusal.Statement.{statement}

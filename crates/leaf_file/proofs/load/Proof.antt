@@ -4,8 +4,8 @@ use Prim.Native.Nat.{ℕ, _+_, _*_, _-_, _≤_}
 use native.Mathlib.Omega.{arith}
 use lib.ListN.{length, take}
 use lib.Ieee.{Float}
-use Rattle.groups.specs.Kappas.{tabulate}
-use Rattle.outputs.proofs.Listed.{listed-turn, listed-end}
+use Rattle.mixture_kappa.specs.Kappas.{tabulate}
+use Rattle.mixture_outputs.proofs.Listed.{listed-turn, listed-end}
 use Rattle.leaf_file.specs.LeafFile.{f64At, f64sAt}
 use borrow.Author.Needs.{needs}
 use Rattle.leaf_file.proofs.load.Statement.{statement}

@@ -1,8 +1,8 @@
 -- What is not refused is within the limits, so both halves have room and the outputs can be filled; each end is the outcome at the number of the refusal. Assumes
 -- nothing.
 use lib.ListN.{length}
-use Rattle.outputs.specs.Outputs.{Outputs, lengthsOf}
-use Rattle.outputs.proofs.Refusals.{fillable}
+use Rattle.mixture_outputs.specs.Outputs.{Outputs, lengthsOf}
+use Rattle.mixture_outputs.proofs.Refusals.{fillable}
 use Rattle.movmf.proofs.Refusals.{Ready, ready}
 use Rattle.movmf.proofs.Outcomes.{refused, done}
 use borrow.Author.Needs.{needs}

@@ -6,7 +6,7 @@ use lib.ListN.{length}
 use borrow.Author.Tests.{le-leb, lt-leb, not-true, not-false}
 use Rattle.limits.specs.Limits.{weightOk, every, sizesOk, groupsOk, roundsOk}
 use Rattle.limits.proofs.Limits.{sizes-met, groups-met}
-use Rattle.outputs.specs.Refusals.{arraysOk}
+use Rattle.mixture_outputs.specs.Refusals.{arraysOk}
 use Rattle.movmf.proofs.Refusals.{refusal-by}
 use borrow.Author.Needs.{needs}
 use Rattle.movmf.proofs.refusal.Statement.{statement}

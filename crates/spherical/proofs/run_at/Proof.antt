@@ -3,7 +3,7 @@ use Prim.Native.Nat.{_+_, _-_}
 use native.Mathlib.Omega.{arith}
 use lib.ListN.{length}
 use borrow.Author.Needs.{needs}
-use Rattle.lloyd.specs.Results.{resultOf}
+use Rattle.kmeans_lloyd.specs.Results.{resultOf}
 use Rattle.limits.specs.Halves.{half}
 use Rattle.spherical.proofs.Halves.{runnable, try-done}
 use Rattle.spherical.proofs.run_at.Statement.{statement}

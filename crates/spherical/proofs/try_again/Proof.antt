@@ -2,7 +2,7 @@
 use Prim.Native.Nat.{_+_}
 use lib.ListN.{length}
 use borrow.Author.Needs.{needs}
-use Rattle.lloyd.specs.Results.{resultOf}
+use Rattle.kmeans_lloyd.specs.Results.{resultOf}
 use Rattle.limits.specs.Halves.{half, freeAt}
 use Rattle.limits.proofs.Halves.{free-within}
 use Rattle.spherical.proofs.Halves.{tried-of, addable}

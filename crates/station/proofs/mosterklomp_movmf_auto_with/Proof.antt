@@ -1,9 +1,9 @@
 -- The call is the definition's: the entry ensures its outcome, the giver the numbers of its answer, and the settings' Kappa is the one that was passed; what is best in the
 -- entry's answer is best in the definition's. Assumes nothing.
 use lib.ListN.{length}
-use Rattle.groups.specs.declared.Kappa.{Kappa}
-use Rattle.outputs.specs.Outputs.{arrays}
-use Rattle.choice.specs.Choice.{highest, lowest}
+use Rattle.mixture_kappa.specs.declared.Kappa.{Kappa}
+use Rattle.mixture_outputs.specs.Outputs.{arrays}
+use Rattle.auto_choice.specs.Choice.{highest, lowest}
 use Rattle.auto.specs.Outcome.{outcome, Outcome}
 use Rattle.auto.specs.Best.{Best}
 use Rattle.auto.specs.declared.Chosen.{Chosen}

@@ -1,7 +1,7 @@
 -- The call is the definition's: the entry ensures its outcome, the giver the numbers of its answer, and the settings' Kappa is the one that was passed. Assumes nothing.
 use lib.ListN.{length}
-use Rattle.groups.specs.declared.Kappa.{Kappa}
-use Rattle.outputs.specs.Outputs.{arrays}
+use Rattle.mixture_kappa.specs.declared.Kappa.{Kappa}
+use Rattle.mixture_outputs.specs.Outputs.{arrays}
 use Rattle.movmf.specs.Outcome.{outcome}
 use Rattle.station.specs.Answers.{kappaOf}
 use Rattle.station.proofs.Calls.{fitted}

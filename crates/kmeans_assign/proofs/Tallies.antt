@@ -1,0 +1,25 @@
+-- What the definition of a pass counts: it makes or saves k products for each leaf. By recursion on the leaves. Assumes nothing.
+use mathlib.Core.Path.{_≡_}
+use mathlib.Core.List.{List}
+use mathlib.Core.Bool.{Bool, true, false, cond}
+use Prim.Native.Nat.{ℕ, zero, suc, _+_, _*_}
+use native.Mathlib.Nat.{mul-suc}
+use native.Mathlib.Omega.{arith}
+use lib.Ieee.{Float}
+use Rattle.kmeans_bounds.specs.Shifts.{skips}
+use Rattle.kmeans_layout.specs.State.{State}
+use Rattle.kmeans_assign.specs.Pass.{Pass, boundsAt, passUpTo}
+
+either-pass : (b : Bool) (x y : Pass) (n : ℕ) → x .made + x .saved ≡ n → y .made + y .saved ≡ n → cond b x y .made + cond b x y .saved ≡ n
+either-pass true x y n e f = e
+either-pass false x y n e f = f
+
+-- products made and saved by a pass over the first n leaves
+pub counts-of-pass : (coords : List Float) (k d it : ℕ) (s : State) (n : ℕ) → passUpTo coords k d it s n .made + passUpTo coords k d it s n .saved ≡ k * n
+unfolding passUpTo
+counts-of-pass coords k d it s zero = omega arith
+counts-of-pass coords k d it s (suc n) =
+    let p = passUpTo coords k d it s n in
+    let e : p .made + p .saved ≡ k * n = counts-of-pass coords k d it s n in
+    let f : k * suc n ≡ k * n + k = mul-suc k n in
+    either-pass (skips it (boundsAt (p .state) n)) _ _ (k * suc n) (omega (arith, e, f)) (omega (arith, e, f))

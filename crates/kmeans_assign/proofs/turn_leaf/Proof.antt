@@ -1,0 +1,78 @@
+-- `kmeans_assign::turn_leaf` meets its contract: the leaf's two ways, by whether it is given new bounds anyway. Assumes nothing.
+use mathlib.Core.Path.{_≡_, refl, subst}
+use lib.ListN.{length}
+use Rattle.kmeans_layout.specs.State.{State}
+use Rattle.kmeans_assign.specs.Pass.{shiftLeaf}
+use Rattle.kmeans_layout.specs.Areas.{stateIn}
+use Rattle.kmeans_assign.specs.Turns.{LeafPassed}
+use Rattle.kmeans_layout.proofs.Sizes.{sized-of}
+use Rattle.kmeans_assign.proofs.Passes.{shift-done}
+use Rattle.kmeans_assign.proofs.Fused.{leaf-anew}
+use borrow.Author.Needs.{needs}
+use Rattle.kmeans_assign.proofs.turn_leaf.Statement.{statement}
+use Rattle.kmeans_assign.proofs.turn_leaf.Tie as tie
+
+returns : tie.Need-returns
+returns c =
+    let f = c .before .before .before .before in
+    let q = f .before .before .before in
+    let b = q .before .before in
+    let o = b .before .before in
+    let s = o .before .before .before .before .before .before in
+    let a = s .args in
+    leaf-anew (a .m) (a .k) (a .d) (a .work .now) (a .marks .now) (a .coords .now) (a .it) (a .i) (a .t) _ _ (o .other-drift .result) (b .bounds-at .result) (f .place-leaf .result)
+    (s .pre .0 .work-long) (s .pre .1 .0 .below) (s .pre .1 .1) refl (o .other-drift .ensures) (b .bounds-at .ensures (a .marks .now)) (q .before .is-spent .ensures (q .if1 .taken))
+    (f .place-leaf .ensures .0) (f .place-leaf .ensures .1)
+
+assign-leaf-requires : tie.Need-assign-leaf-requires
+assign-leaf-requires c κs =
+    let f = c .before .before .before .before in
+    let s = c .before .before .before .before .before .before .before .before .before .before .before .before .before .before .before .before .before in
+    let a = s .args in
+    (sized-of _ _ _ _ (length (a .coords .now)) (a .m) (a .k) (a .d) (f .put-bounds .kept .0) refl (s .pre .0), s .pre .1 .0)
+
+returns-2 : tie.Need-returns-2
+returns-2 c =
+    let g = c .before .before .before .before in
+    let f = g .before .before .before .before .before in
+    let n = f .before .before in
+    let b = n .before .before .before in
+    let o = b .before .before in
+    let s = o .before .before .before .before .before .before in
+    let a = s .args in
+    let e : stateIn (a .m) (a .k) (a .d) (f .put-bounds .last .0) (a .marks .now) ≡ shiftLeaf (a .k) (a .t) (a .i) (stateIn (a .m) (a .k) (a .d) (a .work .now) (a .marks .now)) =
+    shift-done (a .m) (a .k) (a .d) (a .work .now) (f .put-bounds .last .0) (a .marks .now) (a .i) (a .t) _ (o .other-drift .result) (b .bounds-at .result) (n .shifted .result)
+    (s .pre .1 .0 .below) (s .pre .1 .1) refl (o .other-drift .ensures) (b .bounds-at .ensures (a .marks .now)) (n .shifted .ensures) (f .put-bounds .ensures (a .marks .now)) in
+    subst
+    (λ (x : State). LeafPassed (a .coords .now) (a .k) (a .d) (a .it) (a .i) x (stateIn (a .m) (a .k) (a .d) (g .assign-leaf .last .0) (g .assign-leaf .last .1 .0)) (g .assign-leaf .result .skipped) (g .assign-leaf .result .changed))
+    e (g .assign-leaf .ensures)
+
+pub turn-leaf-spec : {M : Type 1} → statement M
+turn-leaf-spec =
+    tie.close
+    (tie.spec
+    (λ c. search needs)
+    (λ c. search needs)
+    (λ c. search needs)
+    (λ c. search needs)
+    (λ c. search needs)
+    (λ c. search needs)
+    (λ c. search needs)
+    (λ c. search needs)
+    (λ c. search needs)
+    (λ c. search needs)
+    (λ c. search needs)
+    (λ c. search needs)
+    (λ c κs. search needs)
+    (λ c κs. search needs)
+    (λ c κs. search needs)
+    (λ c κs. search needs)
+    (λ c. search needs)
+    (λ c. search needs)
+    returns
+    (λ c κs. search needs)
+    (λ c κs. search needs)
+    assign-leaf-requires
+    (λ c. search needs)
+    (λ c. search needs)
+    returns-2)

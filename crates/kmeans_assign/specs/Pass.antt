@@ -1,0 +1,100 @@
+-- Document 01, 'Spherical k-means': the bounds' shift and the assignment pass of a round of `spherical_lloyd`, with the products that it makes and saves. Definitions only.
+use mathlib.Core.List.{List}
+use mathlib.Core.Bool.{Bool, true, false, not, _||_, cond}
+use Prim.Native.Nat.{ℕ, zero, suc, _+_, _-_}
+use lib.Dec.{eqb, ltb}
+use lib.ListN.{getD, set}
+use lib.Ieee.{Float, nan, inf, binary64, div, lt}
+use Rattle.float.specs.Arithmetic.{plusZero}
+use Rattle.rows.specs.Rows.{rowOf}
+use Rattle.kmeans_bounds.specs.Shifts.{shiftedBounds, skips, slowestUpTo, otherThan}
+use Rattle.kmeans_nearest.specs.Nearest.{bestTo}
+use Rattle.kmeans_bounds.specs.declared.Bounds.{Bounds}
+use Rattle.kmeans_bounds.specs.declared.Slowest.{Slowest}
+use Rattle.kmeans_nearest.specs.declared.Best.{Best}
+use Rattle.kmeans_layout.specs.State.{State}
+
+-- ---- a leaf's bounds and label in the state
+abbrev pub boundsAt : State → ℕ → Bounds
+boundsAt s i = record { scale = getD (s .scale) i nan; low = getD (s .low) i nan; high = getD (s .high) i nan }
+
+-- new bounds of leaf i; its scale stays
+unfoldable pub putBounds : ℕ → Bounds → State → State
+putBounds i b s =
+    record {
+      centers = s .centers;
+      scale = s .scale;
+      low = set (s .low) i (b .low);
+      high = set (s .high) i (b .high);
+      served = s .served;
+      drift = s .drift;
+      labels = s .labels;
+    }
+
+-- leaf i is served so well, by this centre
+unfoldable pub putLabel : ℕ → Float → ℕ → State → State
+putLabel i v c s =
+    record {
+      centers = s .centers;
+      scale = s .scale;
+      low = s .low;
+      high = s .high;
+      served = set (s .served) i v;
+      drift = s .drift;
+      labels = set (s .labels) i c;
+    }
+
+-- ---- a pass: the state after it, whether a label changed, and the products made and saved
+pub record Pass : Type 0 where
+  pub state : State
+  pub changed : Bool
+  pub made : ℕ
+  pub saved : ℕ
+
+-- ---- the shift: the bounds of the first n leaves, by how far the centres turned
+abbrev pub shiftLeaf : ℕ → Slowest → ℕ → State → State
+shiftLeaf k t i s =
+    putBounds i (shiftedBounds (ltb 1 k) (getD (s .drift) (getD (s .labels) i 0) nan) (otherThan t (getD (s .labels) i 0)) (boundsAt s i)) s
+
+unfoldable pub shiftUpTo : ℕ → Slowest → State → ℕ → State
+shiftUpTo k t s zero = s
+shiftUpTo k t s (suc i) = shiftLeaf k t i (shiftUpTo k t s i)
+
+-- after the first round
+abbrev pub shiftedFor : ℕ → ℕ → ℕ → State → State
+shiftedFor m k it s = cond (ltb 0 it) (shiftUpTo k (slowestUpTo (s .drift) k) s m) s
+
+-- ---- the assignment pass
+
+-- a leaf's bounds from its best and its second best dot; they stay where its scale is not above 0
+abbrev pub boundsBy : ℕ → Best → Bounds → Bounds
+boundsBy k b o =
+    cond (lt plusZero (o .scale))
+    (record { scale = o .scale; low = div binary64 (b .dot) (o .scale); high = cond (ltb 1 k) (div binary64 (b .second) (o .scale)) (inf true) })
+    o
+
+abbrev pub bestOf : List Float → ℕ → ℕ → State → ℕ → Best
+bestOf coords k d s i = bestTo (rowOf coords d i) (s .centers) d (k - 1)
+
+abbrev pub putBest : ℕ → ℕ → Best → State → State
+putBest k i b s = putBounds i (boundsBy k b (boundsAt s i)) (putLabel i (b .dot) (b .index) s)
+
+-- leaf i in a pass of round `it`: skipped, or given its best centre
+abbrev pub passLeaf : List Float → ℕ → ℕ → ℕ → ℕ → Pass → Pass
+passLeaf coords k d it i p =
+    cond (skips it (boundsAt (p .state) i))
+    (record { state = p .state; changed = p .changed; made = p .made; saved = p .saved + k })
+    (record {
+      state = putBest k i (bestOf coords k d (p .state) i) (p .state);
+      changed = p .changed || not (eqb (getD (p .state .labels) i 0) (bestOf coords k d (p .state) i .index));
+      made = p .made + k;
+      saved = p .saved;
+    })
+
+unfoldable pub passUpTo : List Float → ℕ → ℕ → ℕ → State → ℕ → Pass
+passUpTo coords k d it s zero = record { state = s; changed = false; made = 0; saved = 0 }
+passUpTo coords k d it s (suc i) = passLeaf coords k d it i (passUpTo coords k d it s i)
+
+-- the whole pass of round `it`, after the shift
+abbrev pub passOf : List Float → ℕ → ℕ → ℕ → ℕ → State → Pass
+passOf coords m k d it s = passUpTo coords k d it (shiftedFor m k it s) m

@@ -1,0 +1,32 @@
+-- What a leaf's turn in a pass does and how it is counted, as the functions of the pass promise it. No definition of document 01 stands on this file.
+use mathlib.Core.Path.{_≡_}
+use mathlib.Core.List.{List}
+use mathlib.Core.Bool.{Bool, true, false, not, _&&_, _||_, cond}
+use Prim.Native.Nat.{ℕ, _+_}
+use lib.ListN.{getD}
+use lib.Ieee.{Float, lt}
+use lib.Dec.{eqb, ltb}
+use Rattle.float.specs.Arithmetic.{plusZero}
+use Rattle.kmeans_bounds.specs.declared.Bounds.{Bounds}
+use Rattle.kmeans_bounds.specs.Shifts.{shiftedBounds, skips}
+use Rattle.kmeans_layout.specs.State.{State}
+use Rattle.kmeans_assign.specs.Pass.{boundsAt, bestOf, putBest}
+use Rattle.kmeans_assign.specs.declared.Passed.{Passed}
+use Rattle.kmeans_assign.specs.declared.Turn.{Turn}
+
+-- a leaf that no pass skips once its bounds are shifted, and whose new bounds come from its dots alone
+pub record Spent (k : ℕ) (own other : Float) (b : Bounds) : Type 0 where
+  pub several : ltb 1 k ≡ true
+  pub scaled : lt plusZero (b .scale) ≡ true
+  pub stays : (it : ℕ) → skips it (shiftedBounds true own other b) ≡ false
+
+pub record LeafPassed (coords : List Float) (k d it i : ℕ) (s s' : State) (skipped changed : Bool) : Type 0 where
+  pub skip : skipped ≡ skips it (boundsAt s i)
+  pub change : changed ≡ not (skips it (boundsAt s i)) && not (eqb (getD (s .labels) i 0) (bestOf coords k d s i .index))
+  pub state : s' ≡ cond (skips it (boundsAt s i)) s (putBest k i (bestOf coords k d s i) s)
+
+abbrev pub tallied : Passed → Turn → ℕ → Passed
+tallied p t k =
+    cond (t .skipped)
+    (record { changed = p .changed; made = p .made; saved = p .saved + k })
+    (record { changed = p .changed || t .changed; made = p .made + k; saved = p .saved })

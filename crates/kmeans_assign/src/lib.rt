@@ -1,0 +1,294 @@
+// The assignment pass of a round of spherical k-means with its bounds, their shift and the skip (vmf.rs; document 01, 'Spherical k-means'), in the work areas of a run:
+// m leaves of d coordinates, k groups.
+ghost use mathlib.Core.Path.{_≡_};
+ghost use mathlib.Core.Bool.{true, not};
+ghost use mathlib.Core.List.{List};
+ghost use Prim.Native.Nat.{ℕ, _+_, _*_, _<_, _≤_};
+ghost use lib.Dec.{eqb};
+ghost use lib.ListN.{length, getD};
+ghost use Rattle.kmeans_bounds.specs.Shifts.{slowestUpTo, otherThan};
+ghost use Rattle.kmeans_assign.specs.Pass.{Pass, boundsAt, putBounds, shiftLeaf, shiftUpTo, boundsBy, bestOf, putBest, passUpTo, passOf};
+ghost use Rattle.kmeans_layout.specs.Areas.{stateIn, Sized, LeafOf, Labelled, Area};
+ghost use Rattle.kmeans_assign.specs.Turns.{Spent, LeafPassed, tallied};
+
+// ---- the bounds of a leaf
+
+// The bounds of leaf i.
+fn bounds_at(work: &[f64], i: usize, m: usize, k: usize, d: usize) -> kmeans_bounds::Bounds
+    requires { ⌜ Area (length (now work)) m k d ⌝ }
+    requires { ⌜ LeafOf i m d ⌝ }
+    ensures { λ r. ⌜ ((u : List ℕ) → r ≡ boundsAt (stateIn m k d (now (work .entry)) u) i) ⌝ }
+{
+    let kd = k * d;
+    let scale = kd + kd;
+    let low = scale + m;
+    let high = low + m;
+    kmeans_bounds::Bounds {
+        scale: work[scale + i],
+        low: work[low + i],
+        high: work[high + i],
+    }
+}
+
+// New bounds of leaf i.
+fn put_bounds(work: &mut [f64], i: usize, b: kmeans_bounds::Bounds, m: usize, k: usize, d: usize)
+    requires { ⌜ Area (length (now work)) m k d ⌝ }
+    requires { ⌜ LeafOf i m d ⌝ }
+    ensures { λ _. ⌜ ((u : List ℕ) → stateIn m k d (now (work .exit)) u ≡ putBounds i b (stateIn m k d (now (work .entry)) u)) ⌝ }
+{
+    let kd = k * d;
+    let low = kd + kd + m;
+    let high = low + m;
+    work[low + i] = b.low;
+    work[high + i] = b.high;
+}
+
+// The smallest drift of the centres other than the leaf's own.
+fn other_drift(t: kmeans_bounds::Slowest, label: usize) -> f64
+    ensures { λ r. ⌜ r ≡ otherThan t label ⌝ }
+{
+    if t.at == label { t.next } else { t.least }
+}
+
+// Whether the leaf is given new bounds from its dots however its own are shifted.
+fn is_spent(b: kmeans_bounds::Bounds, own: f64, other: f64, k: usize) -> bool
+    ensures { λ r. ⌜ (r ≡ true → Spent k own other b) ⌝ }
+{
+    if k > 1 {
+        if b.scale > 0.0 {
+            return !kmeans_bounds::may_skip(b, own, other);
+        }
+    }
+    false
+}
+
+// ---- the pass
+
+// The bounds of a leaf from its best and its second best dot.
+fn bounds_by(b: kmeans_nearest::Best, o: kmeans_bounds::Bounds, k: usize) -> kmeans_bounds::Bounds
+    ensures { λ r. ⌜ r ≡ boundsBy k b o ⌝ }
+{
+    if o.scale > 0.0 {
+        if k > 1 {
+            return kmeans_bounds::Bounds {
+                scale: o.scale,
+                low: b.dot / o.scale,
+                high: b.second / o.scale,
+            };
+        }
+        return kmeans_bounds::Bounds {
+            scale: o.scale,
+            low: b.dot / o.scale,
+            high: -1.0 / 0.0,
+        };
+    }
+    o
+}
+
+// Leaf i is given its best centre; whether its label changes.
+fn place_leaf(
+    work: &mut [f64],
+    marks: &mut [u32],
+    coords: &[f64],
+    i: usize,
+    m: usize,
+    k: usize,
+    d: usize,
+) -> bool
+    requires { ⌜ Sized (length (now work)) (length (now marks)) (length (now coords)) m k d ⌝ }
+    requires { ⌜ LeafOf i m d ⌝ }
+    ensures { λ r. ⌜ (r ≡ not (eqb (getD (stateIn m k d (now (work .entry)) (now (marks .entry)) .labels) i 0) (bestOf (now (coords .entry)) k d (stateIn m k d (now (work .entry)) (now (marks .entry))) i .index)))
+        × (stateIn m k d (now (work .exit)) (now (marks .exit))
+        ≡ putBest k i (bestOf (now (coords .entry)) k d (stateIn m k d (now (work .entry)) (now (marks .entry))) i) (stateIn m k d (now (work .entry)) (now (marks .entry)))) ⌝ }
+{
+    let kd = k * d;
+    let at = i * d;
+    let s = &work[..];
+    let b = kmeans_nearest::best_of(&coords[at..at + d], &s[..kd], k, d);
+    let o = bounds_at(s, i, m, k, d);
+    let served = kd + kd + m + m + m;
+    work[served + i] = b.dot;
+    put_bounds(work, i, bounds_by(b, o, k), m, k, d);
+    let label = b.index as u32;
+    let changed = marks[i] != label;
+    marks[i] = label;
+    changed
+}
+
+// What a leaf's turn in a pass answers.
+pub struct Turn {
+    pub skipped: bool,
+    pub changed: bool,
+}
+
+// Leaf i in a pass of round `it`: skipped, or given its best centre.
+fn assign_leaf(
+    work: &mut [f64],
+    marks: &mut [u32],
+    coords: &[f64],
+    it: usize,
+    i: usize,
+    m: usize,
+    k: usize,
+    d: usize,
+) -> Turn
+    requires { ⌜ Sized (length (now work)) (length (now marks)) (length (now coords)) m k d ⌝ }
+    requires { ⌜ LeafOf i m d ⌝ }
+    ensures { λ r. ⌜ LeafPassed (now (coords .entry)) k d it i (stateIn m k d (now (work .entry)) (now (marks .entry))) (stateIn m k d (now (work .exit)) (now (marks .exit))) (r .skipped) (r .changed) ⌝ }
+{
+    let b = bounds_at(work, i, m, k, d);
+    if kmeans_bounds::is_skipped(b, it) {
+        return Turn {
+            skipped: true,
+            changed: false,
+        };
+    }
+    Turn {
+        skipped: false,
+        changed: place_leaf(work, marks, coords, i, m, k, d),
+    }
+}
+
+// Leaf i in a pass after the first round: its bounds are shifted by how far the centres turned, unless it gets new ones anyway.
+fn turn_leaf(
+    work: &mut [f64],
+    marks: &mut [u32],
+    coords: &[f64],
+    t: kmeans_bounds::Slowest,
+    it: usize,
+    i: usize,
+    m: usize,
+    k: usize,
+    d: usize,
+) -> Turn
+    requires { ⌜ Sized (length (now work)) (length (now marks)) (length (now coords)) m k d ⌝ }
+    requires { ⌜ (LeafOf i m d) × (getD (now marks) i 0 < k) ⌝ }
+    ensures { λ r. ⌜ LeafPassed (now (coords .entry)) k d it i (shiftLeaf k t i (stateIn m k d (now (work .entry)) (now (marks .entry)))) (stateIn m k d (now (work .exit)) (now (marks .exit))) (r .skipped) (r .changed) ⌝ }
+{
+    let label = marks[i] as usize;
+    let kd = k * d;
+    let drift = kd + kd + m + m + m + m;
+    let own = work[drift + label];
+    let other = other_drift(t, label);
+    let b = bounds_at(work, i, m, k, d);
+    if is_spent(b, own, other, k) {
+        return Turn {
+            skipped: false,
+            changed: place_leaf(work, marks, coords, i, m, k, d),
+        };
+    }
+    let s = kmeans_bounds::shifted(b, own, other, k > 1);
+    put_bounds(work, i, s, m, k, d);
+    assign_leaf(work, marks, coords, it, i, m, k, d)
+}
+
+// What a pass answers: whether a label changed, and the products made and saved.
+pub struct Passed {
+    pub changed: bool,
+    pub made: u64,
+    pub saved: u64,
+}
+
+// With one leaf more.
+fn tally(p: Passed, t: Turn, k: usize) -> Passed
+    requires { ⌜ (p .made ≤ 262144) × (p .saved ≤ 262144) × (k ≤ 64) ⌝ }
+    ensures { λ r. ⌜ r ≡ tallied p t k ⌝ }
+{
+    if t.skipped {
+        return Passed {
+            changed: p.changed,
+            made: p.made,
+            saved: p.saved + k as u64,
+        };
+    }
+    Passed {
+        changed: p.changed || t.changed,
+        made: p.made + k as u64,
+        saved: p.saved,
+    }
+}
+
+// The pass of round `it` over the bounds as they are.
+fn assign(
+    work: &mut [f64],
+    marks: &mut [u32],
+    coords: &[f64],
+    it: usize,
+    m: usize,
+    k: usize,
+    d: usize,
+) -> Passed
+    requires { ⌜ Sized (length (now work)) (length (now marks)) (length (now coords)) m k d ⌝ }
+    ensures { λ r. ⌜ _≡_ {A = Pass} (record { state = stateIn m k d (now (work .exit)) (now (marks .exit)); changed = r .changed; made = r .made; saved = r .saved })
+        (passUpTo (now (coords .entry)) k d it (stateIn m k d (now (work .entry)) (now (marks .entry))) m) ⌝ }
+    ensures { λ r. ⌜ (r .made ≤ 262144) × (r .saved ≤ 262144) ⌝ }
+{
+    let mut p = Passed {
+        changed: false,
+        made: 0,
+        saved: 0,
+    };
+    let mut i = 0;
+    while i < m {
+        let t = assign_leaf(work, marks, coords, it, i, m, k, d);
+        p = tally(p, t, k);
+        i += 1;
+    }
+    p
+}
+
+// The pass of round `it` after the first, with the shift of the bounds, leaf by leaf.
+fn shift_and_assign(
+    work: &mut [f64],
+    marks: &mut [u32],
+    coords: &[f64],
+    it: usize,
+    m: usize,
+    k: usize,
+    d: usize,
+) -> Passed
+    requires { ⌜ Sized (length (now work)) (length (now marks)) (length (now coords)) m k d ⌝ }
+    requires { ⌜ Labelled m k (stateIn m k d (now work) (now marks)) ⌝ }
+    ensures { λ r. ⌜ _≡_ {A = Pass} (record { state = stateIn m k d (now (work .exit)) (now (marks .exit)); changed = r .changed; made = r .made; saved = r .saved })
+        (passUpTo (now (coords .entry)) k d it (shiftUpTo k (slowestUpTo (stateIn m k d (now (work .entry)) (now (marks .entry)) .drift) k) (stateIn m k d (now (work .entry)) (now (marks .entry))) m) m) ⌝ }
+    ensures { λ r. ⌜ (r .made ≤ 262144) × (r .saved ≤ 262144) ⌝ }
+{
+    let kd = k * d;
+    let drift = kd + kd + m + m + m + m;
+    let s = &work[..];
+    let t = kmeans_bounds::two_smallest(&s[drift..drift + k]);
+    let mut p = Passed {
+        changed: false,
+        made: 0,
+        saved: 0,
+    };
+    let mut i = 0;
+    while i < m {
+        let turn = turn_leaf(work, marks, coords, t, it, i, m, k, d);
+        p = tally(p, turn, k);
+        i += 1;
+    }
+    p
+}
+
+// The pass, after the first round with the shift.
+pub fn pass(
+    work: &mut [f64],
+    marks: &mut [u32],
+    coords: &[f64],
+    it: usize,
+    m: usize,
+    k: usize,
+    d: usize,
+) -> Passed
+    requires { ⌜ Sized (length (now work)) (length (now marks)) (length (now coords)) m k d ⌝ }
+    requires { ⌜ Labelled m k (stateIn m k d (now work) (now marks)) ⌝ }
+    ensures { λ r. ⌜ _≡_ {A = Pass} (record { state = stateIn m k d (now (work .exit)) (now (marks .exit)); changed = r .changed; made = r .made; saved = r .saved })
+        (passOf (now (coords .entry)) m k d it (stateIn m k d (now (work .entry)) (now (marks .entry)))) ⌝ }
+    ensures { λ r. ⌜ (r .made ≤ 262144) × (r .saved ≤ 262144) ⌝ }
+{
+    if it > 0 {
+        return shift_and_assign(work, marks, coords, it, m, k, d);
+    }
+    assign(work, marks, coords, it, m, k, d)
+}

@@ -1,0 +1,191 @@
+// One run of spherical k-means in two lent work areas (vmf.rs; document 01, 'Spherical k-means'): seeding, rounds of pass and update, and cohesion. m leaves of d
+// coordinates, k groups.
+ghost use mathlib.Core.Path.{_≡_};
+ghost use mathlib.Core.List.{List};
+ghost use Prim.Native.Nat.{ℕ, _+_, _*_, _<_, _≤_};
+ghost use lib.ListN.{length};
+ghost use Rattle.kmeans_sums.specs.Sums.{normsUpTo};
+ghost use Rattle.kmeans_lloyd.specs.Lloyd.{roundsFrom, startedFrom};
+ghost use Rattle.kmeans_lloyd.specs.Results.{resultOf};
+ghost use Rattle.kmeans_layout.specs.Areas.{stateIn, Sized, Labelled, Area};
+ghost use Rattle.kmeans_lloyd.specs.Runs.{RoundDone, freshRun, Lloyded, putScale, fourNorms, Runnable, RunDone, RunLeft};
+
+// ---- rounds
+
+// What a round answers: whether it was the last, and its counts.
+pub struct Round {
+    pub ended: bool,
+    pub made: u64,
+    pub saved: u64,
+}
+
+// Round `it`: the pass, and unless it ends the run the update.
+fn one_round(
+    work: &mut [f64],
+    marks: &mut [u32],
+    weights: &[f64],
+    coords: &[f64],
+    it: usize,
+    m: usize,
+    k: usize,
+    d: usize,
+) -> Round
+    requires { ⌜ Sized (length (now work)) (length (now marks)) (length (now coords)) m k d ⌝ }
+    requires { ⌜ (length (now weights) ≡ m) × Labelled m k (stateIn m k d (now work) (now marks)) ⌝ }
+    ensures { λ r. ⌜ RoundDone (now (weights .entry)) (now (coords .entry)) m k d it (stateIn m k d (now (work .entry)) (now (marks .entry))) (stateIn m k d (now (work .exit)) (now (marks .exit))) r ⌝ }
+{
+    let p = kmeans_assign::pass(work, marks, coords, it, m, k, d);
+    if !p.changed & (it > 0) {
+        return Round {
+            ended: true,
+            made: p.made,
+            saved: p.saved,
+        };
+    }
+    kmeans_update::settle(work, marks, weights, coords, m, k, d);
+    Round {
+        ended: false,
+        made: p.made,
+        saved: p.saved,
+    }
+}
+
+// The counts of a run.
+pub struct Counts {
+    pub made: u64,
+    pub saved: u64,
+}
+
+// Rounds until no label changes after the first, at most `rounds`.
+fn lloyd(
+    work: &mut [f64],
+    marks: &mut [u32],
+    weights: &[f64],
+    coords: &[f64],
+    m: usize,
+    k: usize,
+    d: usize,
+    rounds: usize,
+) -> Counts
+    requires { ⌜ Sized (length (now work)) (length (now marks)) (length (now coords)) m k d ⌝ }
+    requires { ⌜ (length (now weights) ≡ m) × (rounds ≤ 10000) × Labelled m k (stateIn m k d (now work) (now marks)) ⌝ }
+    ensures { λ r. ⌜ Lloyded (roundsFrom (now (weights .entry)) (now (coords .entry)) m k d rounds 0 (freshRun (stateIn m k d (now (work .entry)) (now (marks .entry))))) (stateIn m k d (now (work .exit)) (now (marks .exit))) r ⌝ }
+{
+    let mut c = Counts { made: 0, saved: 0 };
+    let mut it = 0;
+    while it < rounds {
+        let r = one_round(work, marks, weights, coords, it, m, k, d);
+        c = Counts {
+            made: c.made + r.made,
+            saved: c.saved + r.saved,
+        };
+        if r.ended {
+            break;
+        }
+        it += 1;
+    }
+    c
+}
+
+// ---- the start of a run
+
+// The norms of leaves i to i + 3, their roots in step.
+fn four_norms(coords: &[f64], i: usize, d: usize) -> float::Four
+    requires { ⌜ (i + 4) * d ≤ length (now coords) ⌝ }
+    ensures { λ r. ⌜ r ≡ fourNorms (now (coords .entry)) d i ⌝ }
+{
+    let p = i * d;
+    let q = p + d;
+    let r = q + d;
+    let s = r + d;
+    let x = &coords[p..q];
+    let y = &coords[q..r];
+    let z = &coords[r..s];
+    let w = &coords[s..s + d];
+    root::root4(float::Four {
+        a: vector::dot(x, x),
+        b: vector::dot(y, y),
+        c: vector::dot(z, z),
+        e: vector::dot(w, w),
+    })
+}
+
+// The norm of each leaf becomes its scale: by fours, then singly.
+fn measure(work: &mut [f64], coords: &[f64], m: usize, k: usize, d: usize)
+    requires { ⌜ (Area (length (now work)) m k d) × (length (now coords) ≡ m * d) × (m * d ≤ 1048576) ⌝ }
+    ensures { λ _. ⌜ ((u : List ℕ) → stateIn m k d (now (work .exit)) u ≡ putScale (normsUpTo (now (coords .entry)) d m) (stateIn m k d (now (work .entry)) u)) ⌝ }
+{
+    let kd = k * d;
+    let scale = kd + kd;
+    let mut i = 0;
+    while 4 <= m - i {
+        let n = four_norms(coords, i, d);
+        let to = scale + i;
+        work[to] = n.a;
+        work[to + 1] = n.b;
+        work[to + 2] = n.c;
+        work[to + 3] = n.e;
+        i += 4;
+    }
+    while i < m {
+        let at = i * d;
+        work[scale + i] = vector::norm(&coords[at..at + d]);
+        i += 1;
+    }
+}
+
+// Everything but the centres as before the first round.
+fn start(work: &mut [f64], marks: &mut [u32], coords: &[f64], m: usize, k: usize, d: usize)
+    requires { ⌜ Sized (length (now work)) (length (now marks)) (length (now coords)) m k d ⌝ }
+    ensures { λ _. ⌜ stateIn m k d (now (work .exit)) (now (marks .exit)) ≡ startedFrom (now (coords .entry)) m k d (stateIn m k d (now (work .entry)) (now (marks .entry)) .centers) ⌝ }
+{
+    let kd = k * d;
+    let low = kd + kd + m;
+    let high = low + m;
+    let served = high + m;
+    let drift = served + m;
+    measure(work, coords, m, k, d);
+    kmeans_layout::fill_at(work, low, m, -1.0 / 0.0);
+    kmeans_layout::fill_at(work, high, m, 1.0 / 0.0);
+    kmeans_layout::fill_at(work, served, m, -1.0 / 0.0);
+    kmeans_layout::fill_at(work, drift, k, 1.0);
+    rows::fill_u32(&mut marks[..m], 0);
+}
+
+// ---- a whole run
+
+// What a run answers: its cohesion and counts, and the generator's next state.
+pub struct Ran {
+    pub cohesion: f64,
+    pub made: u64,
+    pub saved: u64,
+    pub state: u64,
+}
+
+// One run of spherical k-means: seeding, rounds and cohesion. Labels, centres and the sums of the groups stay in the areas.
+pub fn run(
+    work: &mut [f64],
+    marks: &mut [u32],
+    weights: &[f64],
+    coords: &[f64],
+    state: u64,
+    m: usize,
+    k: usize,
+    d: usize,
+    rounds: usize,
+) -> Ran
+    requires { ⌜ Runnable (length (now work)) (length (now marks)) (length (now weights)) (length (now coords)) m k d rounds ⌝ }
+    ensures { λ r. ⌜ RunDone (resultOf (now (weights .entry)) (now (coords .entry)) m k d rounds state) (stateIn m k d (now (work .exit)) (now (marks .exit))) r ⌝ }
+    ensures { λ _. ⌜ RunLeft (now (weights .entry)) (now (coords .entry)) m k d (now (work .exit)) (now (marks .exit)) ⌝ }
+{
+    let next = kmeans_seeding::seed(work, weights, coords, state, m, k, d);
+    start(work, marks, coords, m, k, d);
+    let c = lloyd(work, marks, weights, coords, m, k, d, rounds);
+    let cohesion = kmeans_sums::cohesion_of(work, marks, weights, coords, m, k, d);
+    Ran {
+        cohesion,
+        made: c.made,
+        saved: c.saved,
+        state: next,
+    }
+}

@@ -1,0 +1,191 @@
+// The seeding of a run of spherical k-means (vmf.rs, spherical_pp; document 01, 'Spherical k-means'): the distances stand in the place of the lower bounds, the chances
+// in that of the upper ones. m leaves of d coordinates, k groups.
+ghost use mathlib.Core.Path.{_≡_};
+ghost use mathlib.Core.Bool.{cond};
+ghost use mathlib.Core.List.{List};
+ghost use Prim.Native.Nat.{ℕ, _+_, _*_, _<_, _≤_};
+ghost use lib.ListN.{length};
+ghost use lib.Ieee.{lt};
+ghost use Rattle.rows.specs.Rows.{rowOf};
+ghost use Rattle.kmeans_seeding.specs.Seeding.{angleOf, anglesUpTo, lowered, chances, seedsOf};
+ghost use Rattle.vector.specs.Vectors.{unitVector};
+ghost use Rattle.kmeans_layout.specs.Areas.{stateIn, LeafOf, GroupOf, Area};
+ghost use Rattle.kmeans_seeding.specs.Distances.{putLow, putHigh, putCenter, fourAngles, lowerAt, lowerFour, Seeding, SeededNext};
+
+// How far leaf i is from centre c.
+fn angle(work: &[f64], coords: &[f64], c: usize, i: usize, m: usize, k: usize, d: usize) -> f64
+    requires { ⌜ (Area (length (now work)) m k d) × (length (now coords) ≡ m * d) × (m * d ≤ 1048576) ⌝ }
+    requires { ⌜ (LeafOf i m d) × (GroupOf c k d) ⌝ }
+    ensures { λ r. ⌜ ((u : List ℕ) → r ≡ angleOf (rowOf (now (coords .entry)) d i) (rowOf (stateIn m k d (now (work .entry)) u .centers) d c)) ⌝ }
+{
+    let at = i * d;
+    let row = c * d;
+    float::max(
+        1.0 - vector::dot(&coords[at..at + d], &work[row..row + d]),
+        0.0,
+    )
+}
+
+// How far leaves i to i + 3 are from centre c.
+fn four_angles(
+    work: &[f64],
+    coords: &[f64],
+    c: usize,
+    i: usize,
+    m: usize,
+    k: usize,
+    d: usize,
+) -> float::Four
+    requires { ⌜ (Area (length (now work)) m k d) × (length (now coords) ≡ m * d) × (m * d ≤ 1048576) ⌝ }
+    requires { ⌜ ((i + 4) * d ≤ m * d) × (GroupOf c k d) ⌝ }
+    ensures { λ r. ⌜ ((u : List ℕ) → r ≡ fourAngles (now (coords .entry)) d (rowOf (stateIn m k d (now (work .entry)) u .centers) d c) i) ⌝ }
+{
+    let row = c * d;
+    let f = kmeans_nearest::row_dots(&work[row..row + d], coords, i, d);
+    float::Four {
+        a: float::max(1.0 - f.a, 0.0),
+        b: float::max(1.0 - f.b, 0.0),
+        c: float::max(1.0 - f.c, 0.0),
+        e: float::max(1.0 - f.e, 0.0),
+    }
+}
+
+// The smaller of a distance and a new one.
+fn nearer(v: f64, held: f64) -> f64
+    ensures { λ r. ⌜ r ≡ cond (lt v held) v held ⌝ }
+{
+    if v < held { v } else { held }
+}
+
+// A distance lowered where the new one is smaller.
+fn lower_at(work: &mut [f64], at: usize, v: f64)
+    requires { ⌜ at < length (now work) ⌝ }
+    ensures { λ _. ⌜ now (work .exit) ≡ lowerAt (now (work .entry)) at v ⌝ }
+{
+    work[at] = nearer(v, work[at]);
+}
+
+// Four distances likewise.
+fn lower_four(work: &mut [f64], at: usize, f: float::Four)
+    requires { ⌜ at + 4 ≤ length (now work) ⌝ }
+    ensures { λ _. ⌜ now (work .exit) ≡ lowerFour (now (work .entry)) at f ⌝ }
+{
+    lower_at(work, at, f.a);
+    lower_at(work, at + 1, f.b);
+    lower_at(work, at + 2, f.c);
+    lower_at(work, at + 3, f.e);
+}
+
+// The distance of each leaf lowered where centre c is nearer: by fours, then singly.
+fn lower_distances(work: &mut [f64], coords: &[f64], c: usize, m: usize, k: usize, d: usize)
+    requires { ⌜ (Area (length (now work)) m k d) × (length (now coords) ≡ m * d) × (m * d ≤ 1048576) ⌝ }
+    requires { ⌜ GroupOf c k d ⌝ }
+    ensures { λ _. ⌜ ((u : List ℕ) → stateIn m k d (now (work .exit)) u
+        ≡ putLow (lowered (now (coords .entry)) d (rowOf (stateIn m k d (now (work .entry)) u .centers) d c) 0 (stateIn m k d (now (work .entry)) u .low)) (stateIn m k d (now (work .entry)) u)) ⌝ }
+{
+    let kd = k * d;
+    let low = kd + kd + m;
+    let mut i = 0;
+    while 4 <= m - i {
+        let f = four_angles(work, coords, c, i, m, k, d);
+        lower_four(work, low + i, f);
+        i += 4;
+    }
+    while i < m {
+        let v = angle(work, coords, c, i, m, k, d);
+        lower_at(work, low + i, v);
+        i += 1;
+    }
+}
+
+// The distance of each leaf from the first centre, lowered from an infinite one.
+fn first_distances(work: &mut [f64], coords: &[f64], m: usize, k: usize, d: usize)
+    requires { ⌜ (Area (length (now work)) m k d) × (length (now coords) ≡ m * d) × (m * d ≤ 1048576) × (0 < k) ⌝ }
+    ensures { λ _. ⌜ ((u : List ℕ) → stateIn m k d (now (work .exit)) u
+        ≡ putLow (anglesUpTo (now (coords .entry)) d (rowOf (stateIn m k d (now (work .entry)) u .centers) d 0) m) (stateIn m k d (now (work .entry)) u)) ⌝ }
+{
+    let kd = k * d;
+    kmeans_layout::fill_at(work, kd + kd + m, m, 1.0 / 0.0);
+    lower_distances(work, coords, 0, m, k, d);
+}
+
+// Weight times distance, leaf by leaf.
+fn put_chances(work: &mut [f64], weights: &[f64], m: usize, k: usize, d: usize)
+    requires { ⌜ (Area (length (now work)) m k d) × (length (now weights) ≡ m) ⌝ }
+    ensures { λ _. ⌜ ((u : List ℕ) → stateIn m k d (now (work .exit)) u
+        ≡ putHigh (chances (now (weights .entry)) (stateIn m k d (now (work .entry)) u .low)) (stateIn m k d (now (work .entry)) u)) ⌝ }
+{
+    let kd = k * d;
+    let low = kd + kd + m;
+    let high = low + m;
+    let mut i = 0;
+    while i < m {
+        work[high + i] = weights[i] * work[low + i];
+        i += 1;
+    }
+}
+
+// Centre c becomes leaf i as a unit vector.
+fn seed_center(work: &mut [f64], coords: &[f64], c: usize, i: usize, m: usize, k: usize, d: usize)
+    requires { ⌜ (Area (length (now work)) m k d) × (length (now coords) ≡ m * d) × (m * d ≤ 1048576) ⌝ }
+    requires { ⌜ (LeafOf i m d) × (GroupOf c k d) ⌝ }
+    ensures { λ _. ⌜ ((u : List ℕ) → stateIn m k d (now (work .exit)) u
+        ≡ putCenter d c (unitVector (rowOf (now (coords .entry)) d i)) (stateIn m k d (now (work .entry)) u)) ⌝ }
+{
+    let to = c * d;
+    let from = i * d;
+    vector::unit(&mut work[to..to + d], &coords[from..from + d]);
+}
+
+// One centre more, by the weights times the distances; the generator's next state.
+fn seed_next(
+    work: &mut [f64],
+    weights: &[f64],
+    coords: &[f64],
+    state: u64,
+    c: usize,
+    m: usize,
+    k: usize,
+    d: usize,
+) -> u64
+    requires { ⌜ Seeding (length (now work)) (length (now weights)) (length (now coords)) m k d ⌝ }
+    requires { ⌜ GroupOf c k d ⌝ }
+    ensures { λ r. ⌜ ((u : List ℕ) → SeededNext (now (weights .entry)) (now (coords .entry)) d c state (stateIn m k d (now (work .entry)) u) (stateIn m k d (now (work .exit)) u) r) ⌝ }
+{
+    put_chances(work, weights, m, k, d);
+    let kd = k * d;
+    let high = kd + kd + m + m;
+    let s = &work[..];
+    let p = pick::weighted_pick(&s[high..high + m], state);
+    let i = p.index;
+    seed_center(work, coords, c, i, m, k, d);
+    lower_distances(work, coords, c, m, k, d);
+    p.state
+}
+
+// The seeds of a run (spherical_pp); the generator's next state.
+pub fn seed(
+    work: &mut [f64],
+    weights: &[f64],
+    coords: &[f64],
+    state: u64,
+    m: usize,
+    k: usize,
+    d: usize,
+) -> u64
+    requires { ⌜ Seeding (length (now work)) (length (now weights)) (length (now coords)) m k d ⌝ }
+    ensures { λ r. ⌜ ((u : List ℕ) → (stateIn m k d (now (work .exit)) u .centers ≡ seedsOf (now (weights .entry)) (now (coords .entry)) m k d state .centers)
+        × (r ≡ seedsOf (now (weights .entry)) (now (coords .entry)) m k d state .state)) ⌝ }
+{
+    let p = pick::weighted_pick(weights, state);
+    let i = p.index;
+    seed_center(work, coords, 0, i, m, k, d);
+    first_distances(work, coords, m, k, d);
+    let mut s = p.state;
+    let mut c = 1;
+    while c < k {
+        s = seed_next(work, weights, coords, s, c, m, k, d);
+        c += 1;
+    }
+    s
+}

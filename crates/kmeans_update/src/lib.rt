@@ -1,0 +1,211 @@
+// The update of a round of spherical k-means: new centres, their drift, and reseeds of empty groups (vmf.rs; document 01, 'Spherical k-means'), in the work areas of a
+// run: m leaves of d coordinates, k groups.
+ghost use mathlib.Core.Path.{_≡_};
+ghost use mathlib.Core.List.{List};
+ghost use Prim.Native.Nat.{ℕ, _+_, _*_, _<_, _≤_};
+ghost use lib.ListN.{length, getD};
+ghost use Rattle.rows.specs.Rows.{part, rowOf};
+ghost use Rattle.kmeans_bounds.specs.Shifts.{cosine};
+ghost use Rattle.kmeans_update.specs.Update.{emptyUpTo, servedUpTo, putServed, moveCenter, reseeded, recentered};
+ghost use Rattle.kmeans_update.specs.Update.{freshUpdate, updateGroup, updateUpTo, updateOf};
+ghost use Rattle.pick.specs.Places.{argminOf};
+ghost use Rattle.vector.specs.Vectors.{dotOf};
+ghost use Rattle.kmeans_layout.specs.Areas.{stateIn, sumsIn, countsIn, Sized, LeafOf, GroupOf, Labelled, Area};
+ghost use Rattle.kmeans_update.specs.Groups.{serveLeaf, LaterRows, Leafed};
+
+// ---- how well the leaves are served
+
+// Whether a group has no leaf.
+fn has_empty(marks: &[u32], m: usize, k: usize) -> bool
+    requires { ⌜ (m ≤ 4096) × (k ≤ 64) × (m + k ≤ length (now marks)) ⌝ }
+    ensures { λ r. ⌜ r ≡ emptyUpTo (countsIn m k (now (marks .entry))) k ⌝ }
+{
+    let mut found = false;
+    let mut c = 0;
+    while c < k {
+        found = found | (marks[m + c] == 0);
+        c += 1;
+    }
+    found
+}
+
+// Leaf i is served as well as the centre of its label serves it.
+fn refresh_leaf(
+    work: &mut [f64],
+    marks: &[u32],
+    coords: &[f64],
+    i: usize,
+    m: usize,
+    k: usize,
+    d: usize,
+)
+    requires { ⌜ Sized (length (now work)) (length (now marks)) (length (now coords)) m k d ⌝ }
+    requires { ⌜ (LeafOf i m d) × GroupOf (getD (now marks) i 0) k d ⌝ }
+    ensures { λ _. ⌜ stateIn m k d (now (work .exit)) (now (marks .entry)) ≡ serveLeaf (now (coords .entry)) d i (stateIn m k d (now (work .entry)) (now (marks .entry))) ⌝ }
+    ensures { λ _. ⌜ sumsIn k d (now (work .exit)) ≡ sumsIn k d (now (work .entry)) ⌝ }
+{
+    let kd = k * d;
+    let c = marks[i] as usize;
+    let at = i * d;
+    let row = c * d;
+    let s = &work[..];
+    let v = vector::dot(&coords[at..at + d], &s[row..row + d]);
+    let served = kd + kd + m + m + m;
+    work[served + i] = v;
+}
+
+// Every leaf is served as well as the centre of its label serves it.
+fn refresh(work: &mut [f64], marks: &[u32], coords: &[f64], m: usize, k: usize, d: usize)
+    requires { ⌜ Sized (length (now work)) (length (now marks)) (length (now coords)) m k d ⌝ }
+    requires { ⌜ Labelled m k (stateIn m k d (now work) (now marks)) ⌝ }
+    ensures { λ _. ⌜ stateIn m k d (now (work .exit)) (now (marks .entry))
+        ≡ putServed (servedUpTo (now (coords .entry)) d (stateIn m k d (now (work .entry)) (now (marks .entry))) m) (stateIn m k d (now (work .entry)) (now (marks .entry))) ⌝ }
+    ensures { λ _. ⌜ sumsIn k d (now (work .exit)) ≡ sumsIn k d (now (work .entry)) ⌝ }
+{
+    let mut i = 0;
+    while i < m {
+        refresh_leaf(work, marks, coords, i, m, k, d);
+        i += 1;
+    }
+}
+
+// ---- new centres
+
+// How far a row turns into another one of the same array: their dot, held to [-1, 1].
+fn turned(w: &[f64], at: usize, to: usize, d: usize) -> f64
+    requires { ⌜ (at + d ≤ length (now w)) × (to + d ≤ length (now w)) ⌝ }
+    ensures { λ r. ⌜ r ≡ cosine (dotOf (part (now (w .entry)) at d) (part (now (w .entry)) to d)) ⌝ }
+{
+    float::clamp(vector::dot(&w[at..at + d], &w[to..to + d]), -1.0, 1.0)
+}
+
+// Centre c becomes the row that stands in its place among the sums; its drift is taken against the old row first.
+fn move_center(work: &mut [f64], c: usize, m: usize, k: usize, d: usize)
+    requires { ⌜ Area (length (now work)) m k d ⌝ }
+    requires { ⌜ GroupOf c k d ⌝ }
+    ensures { λ _. ⌜ ((u : List ℕ) → stateIn m k d (now (work .exit)) u ≡ moveCenter d c (rowOf (sumsIn k d (now (work .entry))) d c) (stateIn m k d (now (work .entry)) u)) ⌝ }
+    ensures { λ _. ⌜ sumsIn k d (now (work .exit)) ≡ sumsIn k d (now (work .entry)) ⌝ }
+{
+    let kd = k * d;
+    let to = c * d;
+    let from = kd + to;
+    let v = turned(work, to, from, d);
+    let drift = kd + kd + m + m + m + m;
+    work[drift + c] = v;
+    rows::copy_within(work, from, to, d);
+}
+
+// Centre c stays; its drift is that of a centre which did not turn.
+fn keep_center(work: &mut [f64], c: usize, m: usize, k: usize, d: usize)
+    requires { ⌜ Area (length (now work)) m k d ⌝ }
+    requires { ⌜ GroupOf c k d ⌝ }
+    ensures { λ _. ⌜ ((u : List ℕ) → stateIn m k d (now (work .exit)) u ≡ moveCenter d c (rowOf (stateIn m k d (now (work .entry)) u .centers) d c) (stateIn m k d (now (work .entry)) u)) ⌝ }
+    ensures { λ _. ⌜ sumsIn k d (now (work .exit)) ≡ sumsIn k d (now (work .entry)) ⌝ }
+{
+    let kd = k * d;
+    let at = c * d;
+    let v = turned(work, at, at, d);
+    let drift = kd + kd + m + m + m + m;
+    work[drift + c] = v;
+}
+
+// Centre c becomes its sum over the sum's norm, where that is above 0.
+fn recenter(work: &mut [f64], c: usize, m: usize, k: usize, d: usize)
+    requires { ⌜ Area (length (now work)) m k d ⌝ }
+    requires { ⌜ GroupOf c k d ⌝ }
+    ensures { λ _. ⌜ ((u : List ℕ) → stateIn m k d (now (work .exit)) u
+        ≡ recentered d (sumsIn k d (now (work .entry))) c (stateIn m k d (now (work .entry)) u)) ⌝ }
+    ensures { λ _. ⌜ LaterRows c k d (now (work .entry)) (now (work .exit)) ⌝ }
+{
+    let kd = k * d;
+    let from = kd + c * d;
+    let s = &work[..];
+    let n = vector::norm(&s[from..from + d]);
+    if 0.0 < n {
+        vector::divide_by(&mut work[from..from + d], n);
+        move_center(work, c, m, k, d);
+    } else {
+        keep_center(work, c, m, k, d);
+    }
+}
+
+// The empty group c is reseeded from the worst-served leaf, which no other group of this update picks.
+fn reseed(work: &mut [f64], coords: &[f64], c: usize, m: usize, k: usize, d: usize)
+    requires { ⌜ Leafed (length (now work)) (length (now coords)) m k d ⌝ }
+    requires { ⌜ GroupOf c k d ⌝ }
+    ensures { λ _. ⌜ ((u : List ℕ) → stateIn m k d (now (work .exit)) u
+        ≡ reseeded (now (coords .entry)) d c (argminOf (stateIn m k d (now (work .entry)) u .served))
+        (stateIn m k d (now (work .entry)) u)) ⌝ }
+    ensures { λ _. ⌜ LaterRows c k d (now (work .entry)) (now (work .exit)) ⌝ }
+{
+    let kd = k * d;
+    let served = kd + kd + m + m + m;
+    let s = &work[..];
+    let worst = pick::argmin(&s[served..served + m]);
+    let row = worst * d;
+    let from = kd + c * d;
+    vector::unit(&mut work[from..from + d], &coords[row..row + d]);
+    work[served + worst] = 1.0 / 0.0;
+    move_center(work, c, m, k, d);
+}
+
+// Group c: reseeded where it is empty, else its centre anew.
+fn update_group(
+    work: &mut [f64],
+    marks: &[u32],
+    coords: &[f64],
+    c: usize,
+    m: usize,
+    k: usize,
+    d: usize,
+)
+    requires { ⌜ Sized (length (now work)) (length (now marks)) (length (now coords)) m k d ⌝ }
+    requires { ⌜ GroupOf c k d ⌝ }
+    ensures { λ _. ⌜ stateIn m k d (now (work .exit)) (now (marks .entry))
+        ≡ updateGroup (now (coords .entry)) d (sumsIn k d (now (work .entry))) (countsIn m k (now (marks .entry))) c
+        (freshUpdate (stateIn m k d (now (work .entry)) (now (marks .entry)))) .state ⌝ }
+    ensures { λ _. ⌜ LaterRows c k d (now (work .entry)) (now (work .exit)) ⌝ }
+{
+    if marks[m + c] == 0 {
+        reseed(work, coords, c, m, k, d);
+    } else {
+        recenter(work, c, m, k, d);
+    }
+}
+
+// Every group's centre anew.
+fn update(work: &mut [f64], marks: &[u32], coords: &[f64], m: usize, k: usize, d: usize)
+    requires { ⌜ Sized (length (now work)) (length (now marks)) (length (now coords)) m k d ⌝ }
+    ensures { λ _. ⌜ stateIn m k d (now (work .exit)) (now (marks .entry))
+        ≡ updateUpTo (now (coords .entry)) d (sumsIn k d (now (work .entry))) (countsIn m k (now (marks .entry)))
+        (stateIn m k d (now (work .entry)) (now (marks .entry))) k .state ⌝ }
+{
+    let mut c = 0;
+    while c < k {
+        update_group(work, marks, coords, c, m, k, d);
+        c += 1;
+    }
+}
+
+// Sums and counts, served refreshed where a group is empty, and new centres.
+pub fn settle(
+    work: &mut [f64],
+    marks: &mut [u32],
+    weights: &[f64],
+    coords: &[f64],
+    m: usize,
+    k: usize,
+    d: usize,
+)
+    requires { ⌜ Sized (length (now work)) (length (now marks)) (length (now coords)) m k d ⌝ }
+    requires { ⌜ (length (now weights) ≡ m) × Labelled m k (stateIn m k d (now work) (now marks)) ⌝ }
+    ensures { λ _. ⌜ stateIn m k d (now (work .exit)) (now (marks .exit))
+        ≡ updateOf (now (weights .entry)) (now (coords .entry)) m k d
+        (stateIn m k d (now (work .entry)) (now (marks .entry))) .state ⌝ }
+{
+    kmeans_sums::accumulate(work, marks, weights, coords, m, k, d);
+    if has_empty(marks, m, k) {
+        refresh(work, marks, coords, m, k, d);
+    }
+    update(work, marks, coords, m, k, d);
+}

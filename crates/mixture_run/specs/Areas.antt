@@ -1,0 +1,154 @@
+-- How a run of the mixture lies in a lent work area, and what the functions on it ask. No definition of document 01 stands on this file.
+use mathlib.Core.Path.{_≡_}
+use mathlib.Core.List.{List, [], _∷_}
+use Prim.Native.Nat.{ℕ, _+_, _*_, _≤_, _<_}
+use lib.ListN.{getD}
+use lib.Ieee.{Float, nan, binary64, add, mul}
+use Rattle.float.specs.declared.Four.{Four}
+use Rattle.rows.specs.Rows.{cut}
+use Rattle.kmeans_layout.specs.Areas as areas
+use Rattle.mixture_run.specs.Mixture.{Model, Gathered, Em, likenessAt}
+use Rattle.mixture_run.specs.Fits.{Once}
+use Rattle.mixture_run.specs.declared.Ran.{Ran}
+
+-- the regions: directions, resultants, then of each group its weight, concentration, base, whole weight and length of resultant, then the responsibilities
+pub record Parts : Type 0 where
+  pub directions : List Float
+  pub sums : List Float
+  pub weights : List Float
+  pub kappas : List Float
+  pub bases : List Float
+  pub totals : List Float
+  pub norms : List Float
+  pub resp : List Float
+
+abbrev pub lengths : ℕ → ℕ → ℕ → List ℕ
+lengths m k d = k * d ∷ k * d ∷ k ∷ k ∷ k ∷ k ∷ k ∷ m * k ∷ []
+
+abbrev pub total : ℕ → ℕ → ℕ → ℕ
+total m k d = k * d + k * d + k + k + k + k + k + m * k
+
+abbrev pub named : List (List Float) → Parts
+named w =
+    record {
+      directions = getD w 0 [];
+      sums = getD w 1 [];
+      weights = getD w 2 [];
+      kappas = getD w 3 [];
+      bases = getD w 4 [];
+      totals = getD w 5 [];
+      norms = getD w 6 [];
+      resp = getD w 7 [];
+    }
+
+-- what an area holds
+unfoldable pub partsIn : ℕ → ℕ → ℕ → List Float → Parts
+partsIn m k d w = named (cut (lengths m k d) w)
+
+-- with another list in one place
+abbrev pub withDirections : List Float → Parts → Parts
+withDirections l p =
+    record { directions = l; sums = p .sums; weights = p .weights; kappas = p .kappas; bases = p .bases; totals = p .totals; norms = p .norms; resp = p .resp }
+
+abbrev pub withSums : List Float → Parts → Parts
+withSums l p =
+    record { directions = p .directions; sums = l; weights = p .weights; kappas = p .kappas; bases = p .bases; totals = p .totals; norms = p .norms; resp = p .resp }
+
+abbrev pub withWeights : List Float → Parts → Parts
+withWeights l p =
+    record { directions = p .directions; sums = p .sums; weights = l; kappas = p .kappas; bases = p .bases; totals = p .totals; norms = p .norms; resp = p .resp }
+
+abbrev pub withKappas : List Float → Parts → Parts
+withKappas l p =
+    record { directions = p .directions; sums = p .sums; weights = p .weights; kappas = l; bases = p .bases; totals = p .totals; norms = p .norms; resp = p .resp }
+
+abbrev pub withBases : List Float → Parts → Parts
+withBases l p =
+    record { directions = p .directions; sums = p .sums; weights = p .weights; kappas = p .kappas; bases = l; totals = p .totals; norms = p .norms; resp = p .resp }
+
+abbrev pub withTotals : List Float → Parts → Parts
+withTotals l p =
+    record { directions = p .directions; sums = p .sums; weights = p .weights; kappas = p .kappas; bases = p .bases; totals = l; norms = p .norms; resp = p .resp }
+
+abbrev pub withNorms : List Float → Parts → Parts
+withNorms l p =
+    record { directions = p .directions; sums = p .sums; weights = p .weights; kappas = p .kappas; bases = p .bases; totals = p .totals; norms = l; resp = p .resp }
+
+abbrev pub withResp : List Float → Parts → Parts
+withResp l p =
+    record { directions = p .directions; sums = p .sums; weights = p .weights; kappas = p .kappas; bases = p .bases; totals = p .totals; norms = p .norms; resp = l }
+
+-- the groups, the resultants and the state of the rounds that they hold
+abbrev pub modelOf : Parts → Model
+modelOf p = record { weights = p .weights; directions = p .directions; kappas = p .kappas }
+
+abbrev pub gatheredOf : Parts → Gathered
+gatheredOf p = record { totals = p .totals; sums = p .sums }
+
+abbrev pub withGathered : Gathered → Parts → Parts
+withGathered g p = withTotals (g .totals) (withSums (g .sums) p)
+
+abbrev pub emOf : Parts → Float → Em
+emOf p loglik = record { resp = p .resp; model = modelOf p; loglik = loglik }
+
+-- what four dots come to with the bases from place `base` of an area on and the concentrations from place `kappa` on
+abbrev pub basedFour : List Float → ℕ → ℕ → Four → Four
+basedFour w base kappa f =
+    record {
+      a = add binary64 (getD w base nan) (mul binary64 (getD w kappa nan) (f .a));
+      b = add binary64 (getD w (base + 1) nan) (mul binary64 (getD w (kappa + 1) nan) (f .b));
+      c = add binary64 (getD w (base + 2) nan) (mul binary64 (getD w (kappa + 2) nan) (f .c));
+      e = add binary64 (getD w (base + 3) nan) (mul binary64 (getD w (kappa + 3) nan) (f .e));
+    }
+
+-- the likenesses of a leaf to four groups, from c on
+abbrev pub fourLikenesses : ℕ → List Float → Model → List Float → ℕ → Four
+fourLikenesses d bases p x c =
+    record { a = likenessAt d bases p x c; b = likenessAt d bases p x (c + 1); c = likenessAt d bases p x (c + 2); e = likenessAt d bases p x (c + 3) }
+
+-- the length of an area and the limits: m leaves of d coordinates, k groups
+pub record Area (work m k d : ℕ) : Type 0 where
+  pub m-small : m ≤ 4096
+  pub k-some : 0 < k
+  pub k-small : k ≤ 64
+  pub d-some : 1 ≤ d
+  pub d-small : d ≤ 256
+  pub mk-small : m * k ≤ 262144
+  pub kd-small : k * d ≤ 16384
+  pub work-long : total m k d ≤ work
+
+-- the leaves beside it
+pub record Leaves (weights coords m d : ℕ) : Type 0 where
+  pub md-small : m * d ≤ 1048576
+  pub weights-long : weights ≡ m
+  pub coords-long : coords ≡ m * d
+
+-- leaf i with its rows of coordinates and of responsibilities; group c with its row
+pub record LeafOf (i m k d : ℕ) : Type 0 where
+  pub below : i < m
+  pub row : i * d + d ≤ m * d
+  pub shares : i * k + k ≤ m * k
+
+pub record GroupOf (c k d : ℕ) : Type 0 where
+  pub below : c < k
+  pub row : c * d + d ≤ k * d
+
+-- the labels by which a run starts
+abbrev pub Labels : ℕ → ℕ → List ℕ → Type 0
+Labels m k labels = (i : ℕ) → i < m → getD labels i 0 < k
+
+-- ---- a whole run
+pub record Runnable (work marks weights coords m k d rounds : ℕ) : Type 0 where
+  pub m-some : 0 < m
+  pub area : Area work m k d
+  pub warm-long : areas.total m k d ≤ work
+  pub marks-long : m + k ≤ marks
+  pub leaves : Leaves weights coords m d
+  pub rounds-small : rounds ≤ 10000
+
+pub record RunDone (once : Once) (p : Parts) (r : Ran) : Type 0 where
+  pub em : emOf p (r .loglik) ≡ once .em
+  pub made : r .made ≡ once .made
+  pub saved : r .saved ≡ once .saved
+  pub made-small : r .made ≤ 2621440000
+  pub saved-small : r .saved ≤ 2621440000
