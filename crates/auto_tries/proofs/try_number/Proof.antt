@@ -26,20 +26,39 @@ fillable-at s work e =
     fillable-of (length (a .labels .now)) (length (a .responsibilities .now)) (length (a .group-weights .now)) (length (a .directions .now)) (length (a .concentrations .now))
     (length (a .logw .now)) (length (a .work .now)) work (length (a .weights .now)) (a .k) (a .d) e (s .pre .0 .fillable)
 
+-- places, each from a later one
+abbrev start : tie.After-four-runs-arg2 → tie.Start
+start p = let q = p .before .before .before .before .before .before in q .before .before .before .before .before .before
+
+abbrev four-runs-at : tie.After-kept-loglik → tie.After-four-runs
+four-runs-at p = p .before .before .before .before .before
+
+abbrev beats-at : tie.Then1 → tie.After-beats
+beats-at p = p .before
+
+abbrev fill-outputs-at : tie.After-slice-known16 → tie.After-fill-outputs
+fill-outputs-at p = let q = p .before .before .before .before .before .before in q .before .before .before .before .before .before
+
+abbrev then1-at : tie.After-fill-outputs → tie.Then1
+then1-at p = let q = p .before .before .before .before in q .before .before .before .before
+
 four-runs-requires : tie.Need-four-runs-requires
-four-runs-requires c κs = c .before .before .before .before .before .before .before .before .before .before .before .before .pre .0 .roomy
+four-runs-requires c κs = start c .pre .0 .roomy
 
 score-at-requires : tie.Need-score-at-requires
-score-at-requires c κs = let r = c .before .before .before .before .before .before .before .before .before .before .before .before .before .before .before .before .before .before .pre .0 .roomy in (r .k-some, r .k-small, r .kd-small)
+score-at-requires c κs = let r = start (four-runs-at c .before) .pre .0 .roomy in (r .k-some, r .k-small, r .kd-small)
 
 fill-outputs-requires : tie.Need-fill-outputs-requires
-fill-outputs-requires c κs = fillable-at (c .before .before .before .before .before .before .before .before .before .before .before .before .before .before .before .before .before .before .before .before .before .before .before .before .before .before .before .before) _ (c .before .before .before .before .before .before .before .before .before .before .before .before .before .before .before .four-runs .kept .0)
+fill-outputs-requires c κs =
+    let four = four-runs-at (beats-at (c .before .before .before .before .before .before .before) .before .before) in
+    fillable-at (start (four .before)) _ (four .four-runs .kept .0)
 
 tally-kept-requires : tie.Need-tally-kept-requires
 tally-kept-requires c κs =
-    let s = c .before .before .before .before .before .before .before .before .before .before .before .before .before .before .before .before .before .before .before .before .before .before .before .before .before .before .before .before .before .before .before .before .before .before .before .before .before .before .before .before .before in
+    let four = four-runs-at (beats-at (then1-at (fill-outputs-at c)) .before .before) in
+    let s = start (four .before) in
     let a = s .args in
-    let r = c .before .before .before .before .before .before .before .before .before .before .before .before .before .before .before .before .before .before .before .before .before .before .before .before .before .before .before .before .four-runs in
+    let r = four .four-runs in
     let m = length (a .weights .now) in (
       s .pre .1 .0,
       runs-small (runsUpTo (a .s) (a .weights .now) (a .coords .now) m (a .k) (a .d) 2) (runOf (a .s) (a .weights .now) (a .coords .now) m (a .k) (a .d) 3) (r .last .0) m (a .k) (a .d)
@@ -47,48 +66,53 @@ tally-kept-requires c κs =
     )
 
 same-length : tie.Need-same-length
-same-length c = c .before .before .before .before .before .before .before .before .before .before .before .before .before .fill-outputs .kept .0
+same-length c = fill-outputs-at (c .before) .fill-outputs .kept .0
 
 same-length-2 : tie.Need-same-length-2
-same-length-2 c = c .before .before .before .before .before .before .before .before .before .before .before .before .before .fill-outputs .kept .1 .0
+same-length-2 c = fill-outputs-at (c .before) .fill-outputs .kept .1 .0
 
 same-length-3 : tie.Need-same-length-3
-same-length-3 c = c .before .before .before .before .before .before .before .before .before .before .before .before .before .fill-outputs .kept .1 .1 .0
+same-length-3 c = fill-outputs-at (c .before) .fill-outputs .kept .1 .1 .0
 
 same-length-4 : tie.Need-same-length-4
-same-length-4 c = c .before .before .before .before .before .before .before .before .before .before .before .before .before .fill-outputs .kept .1 .1 .1 .0
+same-length-4 c = fill-outputs-at (c .before) .fill-outputs .kept .1 .1 .1 .0
 
 same-length-5 : tie.Need-same-length-5
-same-length-5 c = c .before .before .before .before .before .before .before .before .before .before .before .before .before .fill-outputs .kept .1 .1 .1 .1 .0
+same-length-5 c = fill-outputs-at (c .before) .fill-outputs .kept .1 .1 .1 .1 .0
 
 same-length-6 : tie.Need-same-length-6
-same-length-6 c = c .before .before .before .before .before .before .before .before .before .before .before .before .before .fill-outputs .kept .1 .1 .1 .1 .1 .0
+same-length-6 c = fill-outputs-at (c .before) .fill-outputs .kept .1 .1 .1 .1 .1 .0
 
 same-length-7 : tie.Need-same-length-7
-same-length-7 c = c .before .before .before .before .before .before .before .before .before .before .before .before .before .before .before .before .before .before .before .before .before .before .before .before .before .before .before .before .before .four-runs .kept .0
+same-length-7 c = four-runs-at (beats-at (then1-at (fill-outputs-at (c .before))) .before .before) .four-runs .kept .0
 
 same-length-8 : tie.Need-same-length-8
-same-length-8 c = c .before .before .before .before .before .before .before .before .before .before .before .before .before .before .before .before .before .before .before .before .before .before .before .before .before .before .before .before .before .four-runs .kept .1 .0
+same-length-8 c = four-runs-at (beats-at (then1-at (fill-outputs-at (c .before))) .before .before) .four-runs .kept .1 .0
 
 returns : tie.Need-returns
 returns c =
-    let s = c .before .before .before .before .before .before .before .before .before .before .before .before .before .before .before .before .before .before .before .before .before .before .before .before .before .before .before .before .before .before .before .before .before .before .before .before .before .before .before .before .before .before in
+    let fill = fill-outputs-at (c .before) in
+    let then1 = then1-at fill in
+    let beats = beats-at then1 in
+    let four = four-runs-at (beats .before .before) in
+    let s = start (four .before) in
     let a = s .args in
-    let r = c .before .before .before .before .before .before .before .before .before .before .before .before .before .before .before .before .before .before .before .before .before .before .before .before .before .before .before .before .before .four-runs in
-    let l = c .before .before .before .before .before .before .before .before .before .before .before .before .before .before .before .before .before .before .before .before .before .before .before .before .kept-loglik in
-    let x = c .before .before .before .before .before .before .before .before .before .before .before .before .before .before .before .before .before .before .before .before .before .before .before .score-at in
-    let h = c .before .before .before .before .before .before .before .before .before .before .before .before .before .before .before .before .before .before .before .before .before .before .beats in
+    let r = four .four-runs in
+    let l = beats .before .before .kept-loglik in
+    let x = beats .before .score-at in
+    let h = beats .beats in
     let f = fillable-at s (length (r .last .0)) (r .kept .0) in
-    let x' = c .before .before .before .before .before .before .before .before .before .before .before .before .before .fill-outputs .last in
+    let x' = fill .fill-outputs .last in
     let o = arrays (x' .0) (x' .1 .0) (x' .1 .1 .0) (x' .1 .1 .1 .0) (x' .1 .1 .1 .1 .0) (x' .1 .1 .1 .1 .1 .0) in
     tried-kept (a .weights .now) (a .coords .now) (a .d) (a .k) (a .s) (r .last .0) (r .result) (r .ensures)
-    (found s) o (a .t) (c .tally-kept .result) (l .result) (a .ln-total) (x .result) (h .result) (l .ensures) (s .pre .1 .1) (x .ensures) (h .ensures) _ _ _ _ _ _ f (c .before .before .before .before .before .before .before .before .before .before .before .before .before .before .before .before .before .before .before .before .before .if1 .taken) (c .before .before .before .before .before .before .before .before .before .before .before .before .before .fill-outputs .ensures) (c .tally-kept .ensures)
+    (found s) o (a .t) (c .tally-kept .result) (l .result) (a .ln-total) (x .result) (h .result) (l .ensures) (s .pre .1 .1) (x .ensures) (h .ensures) _ _ _ _ _ _ f (then1 .if1 .taken) (fill .fill-outputs .ensures) (c .tally-kept .ensures)
 
 tally-left-requires : tie.Need-tally-left-requires
 tally-left-requires c κs =
-    let s = c .before .before .before .before .before .before .before .before .before .before .before .before .before .before .before .before .before .before .before .before .before in
+    let four = four-runs-at (c .before .before .before) in
+    let s = start (four .before) in
     let a = s .args in
-    let r = c .before .before .before .before .before .before .before .before .four-runs in
+    let r = four .four-runs in
     let m = length (a .weights .now) in (
       s .pre .1 .0,
       runs-small (runsUpTo (a .s) (a .weights .now) (a .coords .now) m (a .k) (a .d) 2) (runOf (a .s) (a .weights .now) (a .coords .now) m (a .k) (a .d) 3) (r .last .0) m (a .k) (a .d)
@@ -96,16 +120,17 @@ tally-left-requires c κs =
     )
 
 same-length-9 : tie.Need-same-length-9
-same-length-9 c = c .before .before .before .before .before .before .before .before .before .four-runs .kept .0
+same-length-9 c = four-runs-at (c .before .before .before .before) .four-runs .kept .0
 
 same-length-10 : tie.Need-same-length-10
-same-length-10 c = c .before .before .before .before .before .before .before .before .before .four-runs .kept .1 .0
+same-length-10 c = four-runs-at (c .before .before .before .before) .four-runs .kept .1 .0
 
 returns-2 : tie.Need-returns-2
 returns-2 c =
-    let s = c .before .before .before .before .before .before .before .before .before .before .before .before .before .before .before .before .before .before .before .before .before .before in
+    let four = four-runs-at (c .before .before .before .before) in
+    let s = start (four .before) in
     let a = s .args in
-    let r = c .before .before .before .before .before .before .before .before .before .four-runs in
+    let r = four .four-runs in
     let l = c .before .before .before .before .kept-loglik in
     let x = c .before .before .before .score-at in
     let h = c .before .before .beats in

@@ -31,10 +31,20 @@ found s =
     let a = s .args in
     arrays (a .labels .now) (a .responsibilities .now) (a .group-weights .now) (a .directions .now) (a .concentrations .now) (a .logw .now)
 
+-- places, each from a later one
+abbrev start : tie.After-slice-known8 Inv-loop μ-loop → tie.Start Inv-loop μ-loop
+start p = let q = p .before .before .before .before .before in q .before .before .before .before .before
+
+abbrev loop-at : tie.After-try-number-arg8 Inv-loop μ-loop → tie.In-loop Inv-loop μ-loop
+loop-at p = let q = p .before .before .before .before in q .before .before .before .before
+
+abbrev try-number-at : tie.After-slice-known16 Inv-loop μ-loop → tie.After-try-number Inv-loop μ-loop
+try-number-at p = let q = p .before .before .before .before .before .before in let r = q .before .before .before .before .before in r .before .before .before .before .before
+
 loop-holds : tie.Need-loop-holds Inv-loop μ-loop
 unfolding autoUpTo div neg ofBits
 loop-holds c =
-    let s = c .before .before .before .before .before .before .before .before .before .before in
+    let s = start c in
     let a = s .args in (
       omega arith,
       omega (arith, s .pre .1 .1),
@@ -46,10 +56,11 @@ loop-holds c =
 
 try-number-requires : tie.Need-try-number-requires Inv-loop μ-loop
 try-number-requires c κs =
-    let s = c .before .before .before .before .before .before .before .before .before .before .before .before .before .before .before .before .before .before .before .before in
+    let loop = loop-at c in
+    let s = start (loop .before .before) in
     let a = s .args in
-    let l = c .before .before .before .before .before .before .before .before .before .loop in
-    let most = c .before .before .before .before .before .before .before .before .loop-test .taken in
+    let l = loop .before .loop in
+    let most = loop .loop-test .taken in
     let m = length (a .weights .now) in
     let n = length (a .coords .now) in
     let v = ready-below m n m (a .hi) (l .k) (a .d) (a .s .rounds) (lengthsOf (found s) (length (a .work .now)) (length (a .marks .now)))
@@ -59,18 +70,22 @@ try-number-requires c κs =
     )
 
 add-k : tie.Need-add-k Inv-loop μ-loop
-add-k c = omega (arith, c .before .before .before .before .before .before .before .before .before .before .before .before .before .before .before .before .before .before .before .before .before .before .before .before .before .loop-test .taken, c .before .before .before .before .before .before .before .before .before .before .before .before .before .before .before .before .before .before .before .before .before .before .before .before .before .before .before .before .before .before .before .before .before .before .before .before .before .pre .0 .roomy .k-small)
+add-k c =
+    let loop = loop-at (try-number-at c .before) in
+    omega (arith, loop .loop-test .taken, start (loop .before .before) .pre .0 .roomy .k-small)
 
 loop-less : tie.Need-loop-less Inv-loop μ-loop
-loop-less c = omega (arith, c .before .before .before .before .before .before .before .before .before .before .before .before .before .before .before .before .before .before .before .before .before .before .before .before .before .loop-test .taken)
+loop-less c = omega (arith, loop-at (try-number-at c .before) .loop-test .taken)
 
 loop-again : tie.Need-loop-again Inv-loop μ-loop
 loop-again c =
-    let s = c .before .before .before .before .before .before .before .before .before .before .before .before .before .before .before .before .before .before .before .before .before .before .before .before .before .before .before .before .before .before .before .before .before .before .before .before .before in
+    let try = try-number-at c in
+    let loop = loop-at (try .before) in
+    let s = start (loop .before .before) in
     let a = s .args in
-    let l = c .before .before .before .before .before .before .before .before .before .before .before .before .before .before .before .before .before .before .before .before .before .before .before .before .before .before .loop in
-    let n = c .before .before .before .before .before .before .before .before .before .before .before .before .before .before .before .before .try-number in
-    let most = c .before .before .before .before .before .before .before .before .before .before .before .before .before .before .before .before .before .before .before .before .before .before .before .before .before .loop-test .taken in
+    let l = loop .before .loop in
+    let n = try .try-number in
+    let most = loop .loop-test .taken in
     let w = a .weights .now in
     let x = a .coords .now in
     let o = arrays (l .labels) (l .responsibilities) (l .group-weights) (l .directions) (l .concentrations) (l .logw) in
@@ -112,7 +127,7 @@ same-length-8 c = ap (λ (l : Lengths). l .marks) (c .before .loop .inv .2)
 
 returns : tie.Need-returns Inv-loop μ-loop
 returns c =
-    let s = c .before .before .before .before .before .before .before .before .before .before .before .before in
+    let s = start (c .before .before) in
     let a = s .args in
     let l = c .before .loop in
     numbers-end (found s) (a .weights .now) (a .coords .now) (a .d) (a .s) (a .lo) (a .hi) (l .k) _ (omega (arith, l .inv .1, c .loop-test .left)) (l .inv .3)

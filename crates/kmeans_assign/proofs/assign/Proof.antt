@@ -30,10 +30,18 @@ assign-leaf-requires c κs =
     let a = c .before .before .before .before .before .before .before .args in
     (l .inv .1, leaf-of (l .i) (a .m) (a .d) (c .before .before .loop-test .taken))
 
+-- places, each from a later one
+abbrev loop-at : tie.After-slice-known4 Inv-loop μ-loop → tie.At-loop Inv-loop μ-loop
+loop-at p = let q = p .before .before .before .before in q .before .before .before .before
+
+abbrev start : tie.At-loop Inv-loop μ-loop → tie.Start Inv-loop μ-loop
+start p = p .before .before .before .before
+
 tally-requires : tie.Need-tally-requires Inv-loop μ-loop
 tally-requires c κs =
-    let l = c .before .before .before .before .before .before .before .before .loop in
-    let a = c .before .before .before .before .before .before .before .before .before .before .before .before .args in
+    let loop = loop-at c in
+    let l = loop .loop in
+    let a = start loop .args in
     let small = pass-small (a .coords .now) (a .k) (a .d) (a .it) _ (l .i) _ (l .p) (l .inv .2) (omega (arith, l .inv .0, l .inv .1 .m-small)) (l .inv .1 .k-small) in
     (small .0, small .1, l .inv .1 .k-small)
 
@@ -41,7 +49,7 @@ loop-again : tie.Need-loop-again Inv-loop μ-loop
 loop-again c =
     let f = c .before .before .before .before .before in
     let l = f .before .before .before .before .loop in
-    let a = f .before .before .before .before .before .before .before .before .args in
+    let a = start (f .before .before .before .before) .args in
     let ew = f .assign-leaf .kept .0 in
     let eu = f .assign-leaf .kept .1 .0 in (
       omega (arith, f .before .before .before .loop-test .taken),

@@ -32,9 +32,13 @@ best-of-requires c κs =
       long = length-take-le (s .args .k * s .args .d) (s .args .work .now) (omega (arith, s .pre .0 .work-long));
     }
 
+-- places, each from a later one
+abbrev start : tie.After-bounds-by → tie.Start
+start p = let q = p .before .before .before .before .before in q .before .before .before .before .before
+
 put-bounds-requires : tie.Need-put-bounds-requires
 put-bounds-requires c κs =
-    let s = c .before .before .before .before .before .before .before .before .before .before in
+    let s = start c in
     let a = s .args in
     (area-set (a .work .now) _ (a .m) (a .k) (a .d) _ (area-of _ _ _ (a .m) (a .k) (a .d) (s .pre .0)), s .pre .1)
 
@@ -47,13 +51,13 @@ cast-label c =
     omega (arith, below, s .pre .0 .k-small)
 
 slice-read-changed : tie.Need-slice-read-changed
-slice-read-changed c = let s = c .before .before .before .before .before .before .before .before .before .before .before .before .before .before .before in omega (arith, s .pre .0 .marks-long, s .pre .1 .below)
+slice-read-changed c = let s = start (c .before .before .before .before .before) in omega (arith, s .pre .0 .marks-long, s .pre .1 .below)
 
 mul-marks : tie.Need-mul-marks
-mul-marks c = let s = c .before .before .before .before .before .before .before .before .before .before .before .before .before .before .before in omega (arith, s .pre .0 .m-small, s .pre .1 .below)
+mul-marks c = let s = start (c .before .before .before .before .before) in omega (arith, s .pre .0 .m-small, s .pre .1 .below)
 
 slice-write-marks : tie.Need-slice-write-marks
-slice-write-marks c = let s = c .before .before .before .before .before .before .before .before .before .before .before .before .before .before .before in omega (arith, s .pre .0 .marks-long, s .pre .1 .below)
+slice-write-marks c = let s = start (c .before .before .before .before .before) in omega (arith, s .pre .0 .marks-long, s .pre .1 .below)
 
 same-length : tie.Need-same-length
 same-length c = simp length-set at (c .before .before .before .before .put-bounds .kept .0)

@@ -28,10 +28,17 @@ loop-holds : tie.Need-loop-holds Inv-loop μ-loop
 unfolding shiftUpTo passUpTo
 loop-holds c = (omega arith, c .before .before .before .before .before .before .pre .0, refl, refl, refl)
 
+-- places, each from a later one
+abbrev start : tie.At-loop Inv-loop μ-loop → tie.Start Inv-loop μ-loop
+start p = p .before .before .before .before .before .before .before
+
+abbrev loop-at : tie.After-slice-known4 Inv-loop μ-loop → tie.At-loop Inv-loop μ-loop
+loop-at p = let q = p .before .before .before .before in q .before .before .before .before
+
 turn-leaf-requires : tie.Need-turn-leaf-requires Inv-loop μ-loop
 turn-leaf-requires c κs =
     let l = c .before .before .before .loop in
-    let s = c .before .before .before .before .before .before .before .before .before .before in
+    let s = start (c .before .before .before) in
     let a = s .args in
     let h : l .i < a .m = c .before .before .loop-test .taken in
     let labelled = fused-labelled (a .coords .now) (a .k) (a .d) (a .it) _ (stateIn (a .m) (a .k) (a .d) (a .work .now) (a .marks .now)) (a .m) (s .pre .1) (s .pre .0 .k-some) (l .i)
@@ -40,8 +47,9 @@ turn-leaf-requires c κs =
 
 tally-requires : tie.Need-tally-requires Inv-loop μ-loop
 tally-requires c κs =
-    let l = c .before .before .before .before .before .before .before .before .loop in
-    let a = c .before .before .before .before .before .before .before .before .before .before .before .before .before .before .before .args in
+    let loop = loop-at c in
+    let l = loop .loop in
+    let a = start loop .args in
     let small = pass-small (a .coords .now) (a .k) (a .d) (a .it) _ (l .i) _ (l .p) (l .inv .2) (omega (arith, l .inv .0, l .inv .1 .m-small)) (l .inv .1 .k-small) in
     (small .0, small .1, l .inv .1 .k-small)
 
@@ -49,7 +57,7 @@ loop-again : tie.Need-loop-again Inv-loop μ-loop
 loop-again c =
     let f = c .before .before .before .before .before in
     let l = f .before .before .before .before .loop in
-    let a = f .before .before .before .before .before .before .before .before .before .before .before .args in
+    let a = start (f .before .before .before .before) .args in
     let ew = f .turn-leaf .kept .0 in
     let eu = f .turn-leaf .kept .1 .0 in (
       omega (arith, f .before .before .before .loop-test .taken),
@@ -70,7 +78,7 @@ returns : tie.Need-returns Inv-loop μ-loop
 returns c =
     let l = c .before .loop in
     let f = c .before .before in
-    let s = c .before .before .before .before .before .before .before .before in
+    let s = start (c .before) in
     let a = s .args in
     let s₀ = stateIn (a .m) (a .k) (a .d) (a .work .now) (a .marks .now) in
     let e : l .i ≡ a .m = omega (arith, l .inv .0, c .loop-test .left) in

@@ -24,10 +24,14 @@ returns c =
     (s .pre .0 .work-long) (s .pre .1 .0 .below) (s .pre .1 .1) refl (o .other-drift .ensures) (b .bounds-at .ensures (a .marks .now)) (q .before .is-spent .ensures (q .if1 .taken))
     (f .place-leaf .ensures .0) (f .place-leaf .ensures .1)
 
+-- places, each from a later one
+abbrev start : tie.After-assign-leaf-arg2 → tie.Start
+start p = let q = p .before .before .before .before .before .before in let r = q .before .before .before .before .before .before in r .before .before .before .before .before
+
 assign-leaf-requires : tie.Need-assign-leaf-requires
 assign-leaf-requires c κs =
     let f = c .before .before .before .before in
-    let s = c .before .before .before .before .before .before .before .before .before .before .before .before .before .before .before .before .before in
+    let s = start c in
     let a = s .args in
     (sized-of _ _ _ _ (length (a .coords .now)) (a .m) (a .k) (a .d) (f .put-bounds .kept .0) refl (s .pre .0), s .pre .1 .0)
 

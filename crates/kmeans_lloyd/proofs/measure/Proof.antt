@@ -86,10 +86,14 @@ mul-norm c = search (row-of c, needs)
 part-norm-end : tie.Need-part-norm-end Inv-loop μ-loop Inv-loop2 μ-loop2
 part-norm-end c = search (row-of c, needs)
 
+-- places, each from a later one
+abbrev start : tie.After-norm Inv-loop μ-loop Inv-loop2 μ-loop2 → tie.Start Inv-loop μ-loop Inv-loop2 μ-loop2
+start p = let q = p .before .before .before .before in q .before .before .before .before
+
 loop2-again : tie.Need-loop2-again Inv-loop μ-loop Inv-loop2 μ-loop2
 loop2-again c =
     let l = c .before .before .before .loop2 in
-    let a = c .before .before .before .before .before .before .before .before .args in (
+    let a = start c .args in (
       omega arith,
       search needs,
       λ u s g e. norms-turn (a .m) (a .k) (a .d) (a .coords .now) u s g (l .work) (l .i) (c .norm .result) (omega arith) (c .norm .ensures) (l .inv .2 u s g e),

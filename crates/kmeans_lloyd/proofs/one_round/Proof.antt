@@ -24,9 +24,13 @@ returns c =
     round-ended (a .weights .now) (a .coords .now) (a .m) (a .k) (a .d) (a .it) (passOf (a .coords .now) (a .m) (a .k) (a .d) (a .it) s) x
     (p .pass .result) (p .pass .ensures .0) (p .pass .ensures .1) (c .if1 .taken)
 
+-- places, each from a later one
+abbrev pass-at : tie.After-settle-arg2 → tie.After-pass
+pass-at p = let q = p .before .before .before .before in q .before .before .before .before
+
 settle-requires : tie.Need-settle-requires
 settle-requires c κs =
-    let p = c .before .before .before .before .before .before .before .before in
+    let p = pass-at c in
     let b = start p in
     let a = b .args in
     let s = stateIn (a .m) (a .k) (a .d) (a .work .now) (a .marks .now) in
@@ -42,7 +46,7 @@ settle-requires c κs =
 returns-2 : tie.Need-returns-2
 returns-2 c =
     let g = c .before .before .before .before in
-    let p = g .before .before .before .before .before .before .before .before .before in
+    let p = pass-at (g .before) in
     let a = start p .args in
     let s = stateIn (a .m) (a .k) (a .d) (a .work .now) (a .marks .now) in
     let x = stateIn (a .m) (a .k) (a .d) (p .pass .last .0) (p .pass .last .1 .0) in

@@ -9,9 +9,13 @@ use borrow.Author.Needs.{needs}
 use Rattle.kmeans_lloyd.proofs.start.Statement.{statement}
 use Rattle.kmeans_lloyd.proofs.start.Tie as tie
 
+-- places, each from a later one
+abbrev start : tie.After-fill-u32-arg → tie.Start
+start p = let q = p .before .before .before .before .before .before in let r = q .before .before .before .before .before .before in let s = r .before .before .before .before .before .before in s .before .before .before .before .before .before
+
 slice-aggregate-fill-u32 : tie.Need-slice-aggregate-fill-u32
 slice-aggregate-fill-u32 c =
-    let b = c .before .before .before .before .before .before .before .before .before .before .before .before .before .before .before .before .before .before .before .before .before .before .before .before in
+    let b = start c in
     sym (length-take-le (b .args .m) (b .args .marks .now) (omega (arith, b .pre .marks-long)))
 
 returns : tie.Need-returns

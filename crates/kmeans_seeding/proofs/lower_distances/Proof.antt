@@ -64,11 +64,15 @@ angle-requires c κs =
       (leaf-of (l .i) (a .m) (a .d) (omega arith), b .pre .1),
     )
 
+-- places, each from a later one
+abbrev start : tie.After-angle Inv-loop μ-loop Inv-loop2 μ-loop2 → tie.Start Inv-loop μ-loop Inv-loop2 μ-loop2
+start p = let q = p .before .before .before .before in q .before .before .before .before
+
 loop2-again : tie.Need-loop2-again Inv-loop μ-loop Inv-loop2 μ-loop2
 loop2-again c =
     let f = c .before .before .before .before in
     let l = f .before .before .before .loop2 in
-    let a = f .before .before .before .before .before .before .before .before .args in (
+    let a = start f .args in (
       omega arith,
       c .before .before .lower-at .kept .0 ∙ l .inv .1,
       λ u s g e. rw (c .before .before .lower-at .ensures)

@@ -21,21 +21,31 @@ Inv-loop work₀ marks₀ weights coords m k d kd i₀ work marks i =
 abbrev μ-loop : tie.MeasureT-loop
 μ-loop work₀ marks₀ weights coords m k d kd i₀ work marks i = m - i
 
+-- places, each from a later one
+abbrev start : tie.After-fill-u32 Inv-loop μ-loop → tie.Start Inv-loop μ-loop
+start p = let q = p .before .before .before .before .before in q .before .before .before .before .before
+
+abbrev fill-u32-at : tie.At-loop Inv-loop μ-loop → tie.After-fill-u32 Inv-loop μ-loop
+fill-u32-at p = p .before .before .before
+
+abbrev loop-at : tie.After-slice-known6 Inv-loop μ-loop → tie.At-loop Inv-loop μ-loop
+loop-at p = let q = p .before .before .before .before in q .before .before .before .before
+
 -- where the loop begins the sums and counts are cleared
-cleared-at : (f : tie.After-fill-u32 Inv-loop μ-loop) → let a = f .before .before .before .before .before .before .before .before .before .before .args in
+cleared-at : (f : tie.After-fill-u32 Inv-loop μ-loop) → let a = start f .args in
     Gathered (a .weights .now) (a .coords .now) (a .m) (a .k) (a .d) (stateIn (a .m) (a .k) (a .d) (a .work .now) (a .marks .now)) 0
     (putPart (a .work .now) (a .k * a .d) (a .k * a .d + a .k * a .d - a .k * a .d) (f .before .before .before .before .fill .last .0)) (putPart (a .marks .now) (a .m) (a .m + a .k - a .m) (f .fill-u32 .last .0))
 unfolding ofBits
 cleared-at f =
     let g = f .before .before .before .before in
-    let s = f .before .before .before .before .before .before .before .before .before .before in
+    let s = start f in
     let a = s .args in
     cleared (a .weights .now) (a .coords .now) (a .m) (a .k) (a .d) (length (a .coords .now)) (a .work .now) (g .fill .last .0) (a .marks .now) (f .fill-u32 .last .0) (s .pre .0)
     (g .fill .ensures) (f .fill-u32 .ensures)
 
 loop-holds : tie.Need-loop-holds Inv-loop μ-loop
 loop-holds c =
-    let s = c .before .before .before .before .before .before .before .before .before .before .before .before in
+    let s = start (c .before .before) in
     let a = s .args in (
       omega arith,
       sized-of _ _ _ _ (length (a .coords .now)) (a .m) (a .k) (a .d) (search needs) (search needs) (s .pre .0),
@@ -47,7 +57,7 @@ loop-holds c =
 gain-requires : tie.Need-gain-requires Inv-loop μ-loop
 gain-requires c κs =
     let l = c .before .before .before .loop in
-    let s = c .before .before .before .before .before .before .before .before .before .before .before .before .before .before .before .before in
+    let s = start (fill-u32-at (c .before .before .before)) in
     let a = s .args in (
       l .inv .1,
       gains-of (a .weights .now) (a .coords .now) (a .m) (a .k) (a .d) _ (l .i) (l .work) (l .marks) (l .inv .2) (stateIn (a .m) (a .k) (a .d) (a .work .now) (a .marks .now)) (cleared-at (c .before .before .before .before .before .before) .state) (s .pre .1 .1)
@@ -56,9 +66,10 @@ gain-requires c κs =
 
 loop-again : tie.Need-loop-again Inv-loop μ-loop
 loop-again c =
+    let loop = loop-at c in
     let g = c .before .before .before .before in
-    let l = c .before .before .before .before .before .before .before .before .loop in
-    let a = c .before .before .before .before .before .before .before .before .before .before .before .before .before .before .before .before .before .before .before .before .before .args in
+    let l = loop .loop in
+    let a = start (fill-u32-at loop) .args in
     let ew = g .gain .kept .0 in
     let eu = g .gain .kept .1 .0 in (
       omega (arith, c .before .before .before .before .before .before .before .loop-test .taken),
@@ -71,7 +82,7 @@ loop-again c =
 returns : tie.Need-returns Inv-loop μ-loop
 returns c =
     let l = c .before .loop in
-    let a = c .before .before .before .before .before .before .before .before .before .before .before .before .before .before .args in
+    let a = start (fill-u32-at (c .before)) .args in
     gather-end (a .weights .now) (a .coords .now) (a .m) (a .k) (a .d) _ (l .i) (l .work) (l .marks) (l .inv .2) (a .work .now) (a .marks .now) (cleared-at (c .before .before .before .before) .state)
     (omega (arith, c .loop-test .left))
 

@@ -5,10 +5,14 @@ use borrow.Author.Needs.{needs}
 use Rattle.kmeans_sums.proofs.gain.Statement.{statement}
 use Rattle.kmeans_sums.proofs.gain.Tie as tie
 
+-- places, each from a later one
+abbrev start : tie.After-slice-known5 → tie.Start
+start p = let q = p .before .before .before .before .before .before in q .before .before .before .before .before .before
+
 returns : tie.Need-returns
 returns c =
     let g = c .before .before .before in
-    let s = c .before .before .before .before .before .before .before .before .before .before .before .before in
+    let s = start c in
     let a = s .args in
     gain-done (a .weights .now) (a .coords .now) (a .i) (a .m) (a .k) (a .d) (length (a .marks .now)) (length (a .coords .now)) (a .work .now) (a .marks .now)
     (g .add-scaled .last .0) (s .pre .0) (s .pre .1) (g .add-scaled .ensures)

@@ -34,11 +34,15 @@ refresh-leaf-requires c κs =
     let h = c .before .loop-test .taken in
     (l .inv .1, (leaf-of (l .i) (a .m) (a .d) h, group-of _ (a .k) (a .d) (label-below (a .m) (a .k) (a .d) (a .work .now) (a .marks .now) (l .i) h (s .pre .1))))
 
+-- places, each from a later one
+abbrev start : tie.After-slice-known2 Inv-loop μ-loop → tie.Start Inv-loop μ-loop
+start p = let q = p .before .before .before .before .before in q .before .before .before .before
+
 loop-again : tie.Need-loop-again Inv-loop μ-loop
 loop-again c =
     let g = c .before .before in
     let l = c .before .before .before .before .before .loop in
-    let s = c .before .before .before .before .before .before .before .before .before in
+    let s = start c in
     let a = s .args in
     let s₀ = stateIn (a .m) (a .k) (a .d) (a .work .now) (a .marks .now) in
     let h = c .before .before .before .before .loop-test .taken in

@@ -5,9 +5,13 @@ use borrow.Author.Needs.{needs}
 use Rattle.kmeans_update.proofs.refresh_leaf.Statement.{statement}
 use Rattle.kmeans_update.proofs.refresh_leaf.Tie as tie
 
+-- places, each from a later one
+abbrev start : tie.After-dot → tie.Start
+start p = let q = p .before .before .before .before in q .before .before .before .before
+
 returns : tie.Need-returns
 returns c =
-    let s = c .before .before .before .before .before .before .before .before in
+    let s = start c in
     let a = s .args in (
       serve-done (a .coords .now) (a .i) (a .m) (a .k) (a .d) (a .work .now) (a .marks .now) (c .dot .result) (s .pre .1 .0 .below) (s .pre .1 .1 .below) (c .dot .ensures),
       set-served-sums (a .m) (a .k) (a .d) (a .work .now) (a .i) (c .dot .result) (s .pre .1 .0 .below),

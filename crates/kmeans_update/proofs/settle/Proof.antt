@@ -51,9 +51,13 @@ refreshed-at j =
     ))
     (j .if1 .came)
 
+-- places, each from a later one
+abbrev accumulate-at : tie.After-refresh-arg2 → tie.After-accumulate
+accumulate-at p = let q = p .before .before .before .before .before in q .before .before .before .before
+
 refresh-requires : tie.Need-refresh-requires
 refresh-requires c κs =
-    let g = c .before .before .before .before .before .before .before .before .before in
+    let g = accumulate-at c in
     let s = start g in
     let a = s .args in (
       sized-of _ _ _ _ (length (a .coords .now)) (a .m) (a .k) (a .d) (g .accumulate .kept .0) (g .accumulate .kept .1 .0) (s .pre .0),

@@ -15,13 +15,17 @@ use Rattle.mixture_run.proofs.clear.Tie as tie
 same-length : tie.Need-same-length
 same-length c = c .before .before .fill-at2 .kept .0 ∙ c .before .before .before .before .before .before .fill-at .kept .0
 
+-- places, each from a later one
+abbrev start : tie.After-slice-known3 → tie.Start
+start p = let q = p .before .before .before .before .before in q .before .before .before .before .before
+
 returns : tie.Need-returns
 unfolding ofBits
 returns c =
     let u = c .before .before in
     let v = c .before .before .before .before .before .before in
     let q = c .before .before .before .before .before .before .before in
-    let b = c .before .before .before .before .before .before .before .before .before .before in
+    let b = start c in
     let a = b .args in
     let p = partsIn (a .m) (a .k) (a .d) (a .work .now) in
     let weights = a .k * a .d + a .k * a .d in

@@ -38,10 +38,17 @@ add-it c = let t = c .before .before .before .before .before .before in omega (a
 loop-less : tie.Need-loop-less Inv-loop μ-loop
 loop-less c = omega (arith, c .before .before .before .before .before .before .loop-test .taken)
 
+-- places, each from a later one
+abbrev start : tie.Else1 Inv-loop μ-loop → tie.Start Inv-loop μ-loop
+start p = let q = p .before .before .before .before .before .before in q .before .before .before .before .before
+
+abbrev start-2 : tie.Then1 Inv-loop μ-loop → tie.Start Inv-loop μ-loop
+start-2 p = let q = p .before .before .before .before .before .before in q .before .before .before .before .before
+
 loop-again : tie.Need-loop-again Inv-loop μ-loop
 loop-again c =
     let l = c .before .before .before .before .before .before .before .loop in
-    let a = c .before .before .before .before .before .before .before .before .before .before .before .args in
+    let a = start c .args in
     let r = c .before .before .before .before .em-round in
     let more = c .before .before .before .before .before .before .loop-test .taken in
     let p = emOf (partsIn (a .m) (a .k) (a .d) (l .work)) (l .loglik) in
@@ -68,7 +75,7 @@ same-length-2 c = c .before .before .before .before .em-round .kept .0 ∙ c .be
 returns-2 : tie.Need-returns-2 Inv-loop μ-loop
 returns-2 c =
     let l = c .before .before .before .before .before .before .before .loop in
-    let a = c .before .before .before .before .before .before .before .before .before .before .before .args in
+    let a = start-2 c .args in
     let r = c .before .before .before .before .em-round in
     let p = emOf (partsIn (a .m) (a .k) (a .d) (l .work)) (l .loglik) in
     let q = emOf (partsIn (a .m) (a .k) (a .d) (r .last .0)) (r .result) in

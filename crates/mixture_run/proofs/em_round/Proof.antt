@@ -7,9 +7,16 @@ use borrow.Author.Needs.{needs}
 use Rattle.mixture_run.proofs.em_round.Statement.{statement}
 use Rattle.mixture_run.proofs.em_round.Tie as tie
 
+-- places, each from a later one
+abbrev start : tie.After-put-bases → tie.Start
+start p = p .before .before .before .before .before
+
+abbrev put-bases-at : tie.After-slice-known4 → tie.After-put-bases
+put-bases-at p = let q = p .before .before .before .before .before in q .before .before .before .before .before
+
 expect-requires : tie.Need-expect-requires
 expect-requires c κs =
-    let s = c .before .before .before .before .before .before .before .before in
+    let s = start (c .before .before .before) in
     (area-of _ _ (s .args .m) (s .args .k) (s .args .d) (c .before .before .before .put-bases .kept .0) (s .pre .0), s .pre .1)
 
 maximize-model-requires : tie.Need-maximize-model-requires
@@ -27,8 +34,9 @@ same-length c =
 
 returns : tie.Need-returns
 returns c =
-    let a = c .before .before .before .before .before .before .before .before .before .before .before .before .before .before .before .args in
-    let b = c .before .before .before .before .before .before .before .before .before .before .put-bases in
+    let put = put-bases-at c in
+    let a = start put .args in
+    let b = put .put-bases in
     let e = c .before .before .before .before .before .before .expect in
     let x = c .before .before .maximize-model in
     round-done (a .kappa) (a .weights .now) (a .coords .now) (a .m) (a .k) (a .d) (partsIn (a .m) (a .k) (a .d) (a .work .now))

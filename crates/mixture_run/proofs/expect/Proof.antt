@@ -31,11 +31,18 @@ put-likenesses-requires c κs =
       (s .pre .1 .coords-long, s .pre .1 .md-small, leaf-of (l .i) (a .m) (a .k) (a .d) (c .before .loop-test .taken)),
     )
 
+-- places, each from a later one
+abbrev start : tie.After-slice-known2 Inv-loop μ-loop → tie.Start Inv-loop μ-loop
+start p = let q = p .before .before .before .before .before in q .before .before .before .before
+
+abbrev start-2 : tie.After-slice-known3 Inv-loop μ-loop → tie.Start Inv-loop μ-loop
+start-2 p = let q = p .before .before .before .before .before in q .before .before .before .before
+
 loop-again : tie.Need-loop-again Inv-loop μ-loop
 loop-again c =
     let p = c .before .before .put-likenesses in
     let l = c .before .before .before .before .before .loop in
-    let a = c .before .before .before .before .before .before .before .before .before .args in (
+    let a = start c .args in (
       omega (arith, c .before .before .before .before .loop-test .taken),
       p .kept .0 ∙ l .inv .1,
       likes-turn (a .m) (a .k) (a .d) (a .work .now) (a .coords .now) (l .work) (p .last .0) (l .i) (l .inv .2) (p .ensures),
@@ -52,7 +59,7 @@ returns : tie.Need-returns Inv-loop μ-loop
 returns c =
     let x = c .before .before .soften in
     let l = c .before .before .before .before .before .loop in
-    let s = c .before .before .before .before .before .before .before .before .before in
+    let s = start-2 c in
     let a = s .args in
     let at = a .k * a .d + a .k * a .d + 5 * a .k in
     let n = at + a .m * a .k - at in

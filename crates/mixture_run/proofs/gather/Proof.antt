@@ -20,9 +20,13 @@ Inv-loop work₀ weights coords m k d kd i₀ work i =
 abbrev μ-loop : tie.MeasureT-loop
 μ-loop work₀ weights coords m k d kd i₀ work i = m - i
 
+-- places, each from a later one
+abbrev fill-at2-at : tie.After-slice-known4 Inv-loop μ-loop → tie.After-fill-at2 Inv-loop μ-loop
+fill-at2-at p = let q = p .before .before .before .before in q .before .before .before .before
+
 -- the start, and the area where the loop begins
 abbrev start : tie.After-fill-at2 Inv-loop μ-loop → tie.Start Inv-loop μ-loop
-start f = f .before .before .before .before .before .before .before .before .before
+start f = start f
 
 abbrev begun : tie.After-fill-at2 Inv-loop μ-loop → List Float
 begun f = f .fill-at2 .last .0
@@ -62,7 +66,7 @@ loop-again : tie.Need-loop-again Inv-loop μ-loop
 loop-again c =
     let g = c .before .before in
     let l = c .before .before .before .before .before .loop in
-    let f = c .before .before .before .before .before .before .before .before in
+    let f = fill-at2-at c in
     let a = start f .args in
     let p = partsIn (a .m) (a .k) (a .d) in (
       omega (arith, c .before .before .before .before .loop-test .taken),

@@ -35,11 +35,15 @@ gather-group-requires c κs =
       (s .pre .1 .0 .coords-long, s .pre .1 .0 .md-small, s .pre .1 .1, group-of (l .c) (a .k) (a .d) (c .before .loop-test .taken)),
     )
 
+-- places, each from a later one
+abbrev start : tie.After-slice-known2 Inv-loop μ-loop → tie.Start Inv-loop μ-loop
+start p = let q = p .before .before .before .before .before in q .before .before .before .before .before
+
 loop-again : tie.Need-loop-again Inv-loop μ-loop
 loop-again c =
     let g = c .before .before in
     let l = c .before .before .before .before .before .loop in
-    let a = c .before .before .before .before .before .before .before .before .before .before .args in
+    let a = start c .args in
     let p = partsIn (a .m) (a .k) (a .d) in (
       omega (arith, c .before .before .before .before .loop-test .taken),
       g .gather-group .kept .0 ∙ l .inv .1,

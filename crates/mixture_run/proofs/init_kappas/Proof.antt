@@ -14,9 +14,16 @@ use borrow.Author.Needs.{needs}
 use Rattle.mixture_run.proofs.init_kappas.Statement.{statement}
 use Rattle.mixture_run.proofs.init_kappas.Tie as tie
 
+-- places, each from a later one
+abbrev start : tie.After-put-norms-arg → tie.Start
+start p = let q = p .before .before .before .before in q .before .before .before .before
+
+abbrev put-norms-at : tie.After-slice-known4 → tie.After-put-norms
+put-norms-at p = let q = p .before .before .before .before .before in q .before .before .before .before
+
 put-norms-requires : tie.Need-put-norms-requires
 put-norms-requires c κs =
-    let s = c .before .before .before .before .before .before .before .before in
+    let s = start c in
     area-of _ _ (s .args .m) (s .args .k) (s .args .d) (c .before .before .before .label-totals .kept .0) (s .pre .0 .0)
 
 concentrate-requires : tie.Need-concentrate-requires
@@ -28,7 +35,7 @@ concentrate-requires c κs =
 
 same-length : tie.Need-same-length
 same-length c =
-    let n = c .before .before .before .before .before .before .before .before .before in
+    let n = put-norms-at c in
     let t = n .before .before .before .before in
     c .before .before .concentrate .kept .0 ∙ n .put-norms .kept .0 ∙ t .label-totals .kept .0
 

@@ -29,10 +29,17 @@ cleared f =
     let at = a .k * a .d + a .k * a .d + 3 * a .k in
     fill-in totalsR (a .m) (a .k) (a .d) (a .work .now) (f .fill-at .last .0) at (a .k) plusZero (omega arith) refl (b .pre .0 .0 .work-long) (f .fill-at .ensures)
 
+-- places, each from a later one
+abbrev start : tie.In-loop Inv-loop μ-loop → tie.Start Inv-loop μ-loop
+start p = let q = p .before .before .before .before .before in q .before .before .before .before
+
+abbrev start-2 : tie.After-loop Inv-loop μ-loop → tie.Start Inv-loop μ-loop
+start-2 p = let q = p .before .before .before .before .before in q .before .before .before .before
+
 -- the label of leaf i, in a turn
-label-of : (c : tie.In-loop Inv-loop μ-loop) → let a = c .before .before .before .before .before .before .before .before .before .args in
+label-of : (c : tie.In-loop Inv-loop μ-loop) → let a = start c .args in
     getD (a .marks .now) (c .before .loop .i) 0 < a .k
-label-of c = c .before .before .before .before .before .before .before .before .before .pre .1 (c .before .loop .i) (omega arith)
+label-of c = start c .pre .1 (c .before .loop .i) (omega arith)
 
 loop-holds : tie.Need-loop-holds Inv-loop μ-loop
 loop-holds c =
@@ -60,7 +67,7 @@ slice-write-work c = search (label-of (c .before .before .before), needs)
 loop-again : tie.Need-loop-again Inv-loop μ-loop
 loop-again c =
     let l = c .before .before .before .before .loop in
-    let b = c .before .before .before .before .before .before .before .before .before .before .before .before in
+    let b = start (c .before .before .before) in
     let a = b .args in (
       omega arith,
       search needs,
@@ -70,7 +77,7 @@ loop-again c =
 returns : tie.Need-returns Inv-loop μ-loop
 returns c =
     let l = c .before .loop in
-    let a = c .before .before .before .before .before .before .before .before .before .args in
+    let a = start-2 c .args in
     totals-end (a .m) (a .k) (a .d) _ (a .weights .now) (a .marks .now) (a .work .now) (l .work) (l .i) (omega arith) (cleared (c .before .before .before .before)) (l .inv .2)
 
 pub label-totals-spec : {M : Type 1} → statement M

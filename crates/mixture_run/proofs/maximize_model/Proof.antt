@@ -13,9 +13,13 @@ use borrow.Author.Needs.{needs}
 use Rattle.mixture_run.proofs.maximize_model.Statement.{statement}
 use Rattle.mixture_run.proofs.maximize_model.Tie as tie
 
+-- places, each from a later one
+abbrev start : tie.After-put-norms-arg → tie.Start
+start p = let q = p .before .before .before .before in q .before .before .before .before
+
 put-norms-requires : tie.Need-put-norms-requires
 put-norms-requires c κs =
-    let s = c .before .before .before .before .before .before .before .before in
+    let s = start c in
     area-of _ _ (s .args .m) (s .args .k) (s .args .d) (c .before .before .before .gather .kept .0) (s .pre .0)
 
 put-weights-requires : tie.Need-put-weights-requires

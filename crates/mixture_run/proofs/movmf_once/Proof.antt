@@ -14,9 +14,16 @@ run-requires c κs =
     let a = s .args in
     warm-sized (length (a .work .now)) (length (a .marks .now)) (length (a .weights .now)) (length (a .coords .now)) (a .m) (a .k) (a .d) (a .s .rounds) (s .pre)
 
+-- places, each from a later one
+abbrev start : tie.After-run → tie.Start
+start p = p .before .before .before .before .before .before .before
+
+abbrev run-at : tie.After-slice-known7 → tie.After-run
+run-at p = let q = p .before .before .before .before .before .before in let r = q .before .before .before .before .before .before in r .before .before .before .before .before
+
 init-kappas-requires : tie.Need-init-kappas-requires
 init-kappas-requires c κs =
-    let s = c .before .before .before .before .before .before .before .before .before .before .before .before .before in
+    let s = start (c .before .before .before .before .before .before) in
     let a = s .args in
     let r = c .before .before .before .before .before .before .run in (
       (area-of _ _ (a .m) (a .k) (a .d) (r .kept .0) (s .pre .area), s .pre .leaves .weights-long, omega (arith, r .kept .1 .0, s .pre .marks-long)),
@@ -47,7 +54,7 @@ same-length c =
     c .before .before .em .kept .0 ∙ e .clear .kept .0 ∙ i .init-kappas .kept .0 ∙ r .run .kept .0
 
 same-length-2 : tie.Need-same-length-2
-same-length-2 c = c .before .before .before .before .before .before .before .before .before .before .before .before .before .before .before .before .before .run .kept .1 .0
+same-length-2 c = run-at c .run .kept .1 .0
 
 returns : tie.Need-returns
 returns c =

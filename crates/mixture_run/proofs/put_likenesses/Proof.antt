@@ -72,11 +72,15 @@ likeness-requires c κs =
       (b .pre .1 .0, b .pre .1 .1, b .pre .1 .2, group-of (l .c) (a .k) (a .d) (c .before .loop2-test .taken)),
     )
 
+-- places, each from a later one
+abbrev start : tie.After-likeness Inv-loop μ-loop Inv-loop2 μ-loop2 → tie.Start Inv-loop μ-loop Inv-loop2 μ-loop2
+start p = let q = p .before .before .before .before in q .before .before .before .before
+
 loop2-again : tie.Need-loop2-again Inv-loop μ-loop Inv-loop2 μ-loop2
 loop2-again c =
     let l = c .before .before .before .loop2 in
     let u = c .before .before .before .before .before .loop in
-    let b = c .before .before .before .before .before .before .before .before in
+    let b = start c in
     let a = b .args in (
       omega arith,
       search needs,

@@ -13,11 +13,15 @@ use borrow.Author.Needs.{needs}
 use Rattle.mixture_run.proofs.shared_kappa.Statement.{statement}
 use Rattle.mixture_run.proofs.shared_kappa.Tie as tie
 
+-- places, each from a later one
+abbrev start : tie.After-slice-known2 → tie.Start
+start p = let q = p .before .before .before .before .before in q .before .before .before .before
+
 returns : tie.Need-returns
 returns c =
     let q = c .before .before .before in
     let s = c .before .before .before .before .before in
-    let b = c .before .before .before .before .before .before .before .before .before in
+    let b = start c in
     let a = b .args in
     let p = partsIn (a .m) (a .k) (a .d) (a .work .now) in
     let kappas = a .k * a .d + a .k * a .d + a .k in

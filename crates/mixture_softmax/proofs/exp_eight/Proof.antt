@@ -7,9 +7,13 @@ use borrow.Author.Needs.{needs}
 use Rattle.mixture_softmax.proofs.exp_eight.Statement.{statement}
 use Rattle.mixture_softmax.proofs.exp_eight.Tie as tie
 
+-- places, each from a later one
+abbrev start-2 : tie.After-q → tie.Start
+start-2 p = let q = p .before .before .before .before .before .before in q .before .before .before .before .before .before
+
 -- the length, where all is read
-start : (c : tie.After-q) → length (c .before .before .before .before .before .before .before .before .before .before .before .before .args .e .now) ≡ 8
-start c = c .before .before .before .before .before .before .before .before .before .before .before .before .pre
+start : (c : tie.After-q) → length (start-2 c .args .e .now) ≡ 8
+start c = start-2 c .pre
 
 slice-write-e-5 : tie.Need-slice-write-e-5
 slice-write-e-5 c = simp length-set (omega (arith, start c))
@@ -27,7 +31,7 @@ same-length : tie.Need-same-length
 same-length c = simp length-set
 
 returns : tie.Need-returns
-returns c = eight-done (c .before .before .before .before .before .before .before .before .before .before .before .before .args .e .now) (c .before .before .exp8 .result) (start c) (c .before .before .exp8 .ensures)
+returns c = eight-done (start-2 c .args .e .now) (c .before .before .exp8 .result) (start c) (c .before .before .exp8 .ensures)
 
 pub exp-eight-spec : {M : Type 1} → statement M
 exp-eight-spec =

@@ -18,13 +18,18 @@ abbrev μ-loop : tie.MeasureT-loop
 loop-holds : tie.Need-loop-holds Inv-loop μ-loop
 loop-holds c = (refl, omega arith, refl)
 
+-- places, each from a later one
+abbrev loop-at : tie.After-slice-known3 Inv-loop μ-loop → tie.In-loop Inv-loop μ-loop
+loop-at p = let q = p .before .before .before .before in q .before .before .before .before
+
 loop-again : tie.Need-loop-again Inv-loop μ-loop
 loop-again c =
+    let loop = loop-at c in
     let x = c .before .before .before .before .before .before .exp-eight in
     let y = c .before .before .exp-eight2 in
-    let l = c .before .before .before .before .before .before .before .before .before .loop in
-    let a = c .before .before .before .before .before .before .before .before .before .before .before .args in
-    let h : l .j + 16 ≤ length (a .e .now) = omega (arith, c .before .before .before .before .before .before .before .before .loop-test .taken, c .before .before .before .before .before .before .before .before .before .before .before .pre) in
+    let l = loop .before .loop in
+    let a = loop .before .before .before .args in
+    let h : l .j + 16 ≤ length (a .e .now) = omega (arith, loop .loop-test .taken, loop .before .before .before .pre) in
     let j = l .j + 8 in
     let first = exps-turn (a .e .now) (l .e) (l .j) (omega arith) (l .inv .2) (j - l .j) (x .last .0) (omega arith) (x .ensures) in
     let e : j + 8 ≡ l .j + 16 = omega arith in

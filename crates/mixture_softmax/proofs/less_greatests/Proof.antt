@@ -68,10 +68,14 @@ less-greatest-requires c κs =
     let r = row-in (c .before .before) in
     parts-alike (l .e) (a .rows .now) (l .i * a .k) (a .k) (omega arith) (r .0)
 
+-- places, each from a later one
+abbrev start : tie.After-slice-known2 Inv-loop μ-loop → tie.Start Inv-loop μ-loop
+start p = let q = p .before .before .before .before .before in q .before .before .before .before
+
 loop-again : tie.Need-loop-again Inv-loop μ-loop
 loop-again c =
     let l = c .before .before .before .before .before .before .loop in
-    let s = c .before .before .before .before .before .before .before .before .before in
+    let s = start c in
     let a = s .args in
     let g = c .before .before .less-greatest in (
       omega (arith, c .before .before .before .before .before .loop-test .taken),

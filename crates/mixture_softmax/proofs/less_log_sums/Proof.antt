@@ -30,11 +30,15 @@ loop-holds c =
       joined-none (fromLogAt (a .k) (a .rows .now) (a .e .now)) (a .k) (a .e .now) ∙ ap (λ (n : ℕ). fromLogs (a .k) (a .rows .now) (a .e .now) n ++ drop (n * a .k) (a .e .now)) z,
     )
 
+-- places, each from a later one
+abbrev start : tie.After-slice-known2 Inv-loop μ-loop → tie.Start Inv-loop μ-loop
+start p = let q = p .before .before .before .before .before in q .before .before .before .before .before
+
 loop-again : tie.Need-loop-again Inv-loop μ-loop
 loop-again c =
     let g = c .before .before .leaf-log-sum in
     let l = c .before .before .before .before .before .before .loop in
-    let s = c .before .before .before .before .before .before .before .before .before .before in
+    let s = start c in
     let a = s .args in
     let m = length (a .weights .now) in
     let i = m - l .left in

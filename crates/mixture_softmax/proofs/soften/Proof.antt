@@ -78,12 +78,16 @@ soften-block-requires c κs =
 loop-less : tie.Need-loop-less Inv-loop μ-loop
 loop-less c = omega (arith, c .before .before .before .before .before .block-end .ensures .0, c .before .before .before .before .before .block-end .ensures .1)
 
+-- places, each from a later one
+abbrev start : tie.After-slice-known2 Inv-loop μ-loop → tie.Start Inv-loop μ-loop
+start p = let q = p .before .before .before .before .before in q .before .before .before .before .before
+
 loop-again : tie.Need-loop-again Inv-loop μ-loop
 loop-again c =
     let x = c .before .before .soften-block in
     let r = c .before .before .before .before .before .block-end in
     let l = c .before .before .before .before .before .before .before .loop in
-    let s = c .before .before .before .before .before .before .before .before .before .before in
+    let s = start c in
     let a = s .args in
     let m = length (a .weights .now) in
     let e : r .result ≡ l .i + (r .result - l .i) = omega (arith, r .ensures .0) in (
