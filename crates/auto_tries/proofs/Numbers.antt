@@ -12,7 +12,7 @@ use lib.Ieee.{Float, lt}
 use Rattle.logarithm.specs.Logarithm.{lnOf}
 use Rattle.rows.specs.Rows.{part, rowOf}
 use Rattle.pick.specs.Places.{argmaxOf}
-use Rattle.limits.specs.Halves.{half, heldAt, freeAt}
+use Rattle.kmeans_layout.specs.Halves.{half, heldAt, freeAt}
 use Rattle.mixture_run.specs.Mixture.{Em}
 use Rattle.mixture_run.specs.Fits.{Once, labelsOf, logwAt, logwOf}
 use Rattle.mixture_run.specs.Areas.{Area}

@@ -1,3 +1,4 @@
 pub mod Regions
 pub mod Sizes
 pub mod Fills
+pub mod Halves

@@ -14,7 +14,7 @@ pub sized-of : (work work' marks marks' coords m k d : ℕ) → work' ≡ work �
 sized-of work work' marks marks' coords m k d e f s = rw (e, f) s
 
 pub area-of : (work marks coords m k d : ℕ) → Sized work marks coords m k d → Area work m k d
-area-of work marks coords m k d s = record { m-small = s .m-small; k-small = s .k-small; kd-small = s .kd-small; work-long = s .work-long }
+area-of work marks coords m k d s = record { sizes = s .sizes; work-long = s .work-long }
 
 pub leaf-of : (i m d : ℕ) → i < m → LeafOf i m d
 leaf-of i m d h = record { below = h; row = row-within i m d h }

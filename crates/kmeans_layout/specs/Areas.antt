@@ -5,6 +5,7 @@ use Prim.Native.Nat.{ℕ, _+_, _*_, _≤_, _<_}
 use lib.ListN.{getD}
 use lib.Ieee.{Float}
 use Rattle.rows.specs.Rows.{part, cut}
+use Rattle.limits.specs.Sizes.{Sizes}
 use Rattle.kmeans_layout.specs.State.{State}
 
 -- the regions of the f64 area: centres, sums, scale, low, high, served, drift; of the u32 area: labels, counts
@@ -61,13 +62,7 @@ driftAt m k d = k * d + k * d + m + m + m + m
 
 -- the lengths of the two areas and of the coordinates: m leaves of d coordinates, k groups
 pub record Sized (work marks coords m k d : ℕ) : Type 0 where
-  pub m-some : 0 < m
-  pub m-small : m ≤ 4096
-  pub k-some : 0 < k
-  pub k-small : k ≤ 64
-  pub d-small : d ≤ 256
-  pub kd-small : k * d ≤ 16384
-  pub md-small : m * d ≤ 1048576
+  pub sizes : Sizes m k d
   pub work-long : total m k d ≤ work
   pub marks-long : m + k ≤ marks
   pub coords-long : coords ≡ m * d
@@ -87,7 +82,5 @@ Labelled m k s = (i : ℕ) → i < m → getD (s .labels) i 0 < k
 
 -- the f64 area alone
 pub record Area (work m k d : ℕ) : Type 0 where
-  pub m-small : m ≤ 4096
-  pub k-small : k ≤ 64
-  pub kd-small : k * d ≤ 16384
+  pub sizes : Sizes m k d
   pub work-long : total m k d ≤ work

@@ -1,2 +1,4 @@
 pub mod State
 pub mod Areas
+pub mod Kept
+pub mod Halves

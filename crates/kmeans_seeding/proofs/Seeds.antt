@@ -34,7 +34,7 @@ seeding-kept work work' weights coords m k d e s = rw e s
 
 pub seeding-area : (work work' weights coords m k d : ℕ) → work' ≡ work → Seeding work weights coords m k d → Area work' m k d
 seeding-area work work' weights coords m k d e s =
-    rw e (record { m-small = s .m-small; k-small = s .k-small; kd-small = s .kd-small; work-long = s .work-long })
+    rw e (record { sizes = s .sizes; work-long = s .work-long })
 
 -- a region of the state, of which the first i places are done: one place more
 module _ (m k d : ℕ) (w : List Float) (u : List ℕ) (s : State) (p : List Float) (i : ℕ) (v : Float) (h : i < m) (e : length p ≡ i) where

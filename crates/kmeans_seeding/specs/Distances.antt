@@ -6,6 +6,7 @@ use Prim.Native.Nat.{ℕ, _+_, _*_, _≤_, _<_}
 use lib.ListN.{getD, set}
 use lib.Ieee.{Float, nan, lt}
 use Rattle.rows.specs.Rows.{putPart, rowOf}
+use Rattle.limits.specs.Sizes.{Sizes}
 use Rattle.pick.specs.Pick.{pickOf}
 use Rattle.pick.specs.declared.Picked.{Picked}
 use Rattle.vector.specs.Vectors.{unitVector}
@@ -44,13 +45,7 @@ putCenter d c row s =
 
 -- what the seeding asks
 pub record Seeding (work weights coords m k d : ℕ) : Type 0 where
-  pub m-some : 0 < m
-  pub m-small : m ≤ 4096
-  pub k-some : 0 < k
-  pub k-small : k ≤ 64
-  pub d-small : d ≤ 256
-  pub kd-small : k * d ≤ 16384
-  pub md-small : m * d ≤ 1048576
+  pub sizes : Sizes m k d
   pub work-long : total m k d ≤ work
   pub weights-long : weights ≡ m
   pub coords-long : coords ≡ m * d

@@ -22,6 +22,4 @@ LaterRows c k d w w' = (e : ℕ) → c < e → e < k → rowOf (sumsIn k d w') d
 -- the f64 area and the coordinates of at least one leaf
 pub record Leafed (work coords m k d : ℕ) : Type 0 where
   pub area : Area work m k d
-  pub m-some : 0 < m
-  pub md-small : m * d ≤ 1048576
   pub coords-long : coords ≡ m * d

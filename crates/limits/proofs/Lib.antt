@@ -1,4 +1,4 @@
 -- Laws that other proofs cite, each file named after what it is about.
 pub mod Limits
-pub mod Halves
+pub mod Sizes
 pub mod Bounds

@@ -36,17 +36,30 @@ marksLength m k = 2 * m + 2 * k
 abbrev pub workOk : ℕ → ℕ → ℕ → ℕ → ℕ → Bool
 workOk m k d work marks = leb (workLength m k d) work && leb (marksLength m k) marks
 
+-- m is 1 to 4,096, d 1 to 256, k 1 to 64; rounds are 0 to 10,000
+abbrev pub mostLeaves : ℕ
+mostLeaves = 4096
+
+abbrev pub mostCoordinates : ℕ
+mostCoordinates = 256
+
+abbrev pub mostGroups : ℕ
+mostGroups = 64
+
+abbrev pub mostRounds : ℕ
+mostRounds = 10000
+
 -- 1 if m or d is out of limits or the coordinates aren't m·d
 abbrev pub sizesOk : ℕ → ℕ → ℕ → Bool
-sizesOk m d coords = leb 1 m && (leb m 4096 && (leb 1 d && (leb d 256 && eqb coords (m * d))))
+sizesOk m d coords = leb 1 m && (leb m mostLeaves && (leb 1 d && (leb d mostCoordinates && eqb coords (m * d))))
 
 -- 2 if k is 0, above 64 or above m
 abbrev pub groupsOk : ℕ → ℕ → Bool
-groupsOk k m = leb 1 k && (leb k 64 && leb k m)
+groupsOk k m = leb 1 k && (leb k mostGroups && leb k m)
 
 -- 3 if rounds are above 10,000
 abbrev pub roundsOk : ℕ → Bool
-roundsOk rounds = leb rounds 10000
+roundsOk rounds = leb rounds mostRounds
 
 -- leaves within the limits: what 1, 5 and 6 ask of them
 pub record LeavesOk (weights coords : List Float) (d : ℕ) : Type 0 where

@@ -1,8 +1,7 @@
-// The limits that the entries share (document 01, 'Leaves, settings, fit' and 'Refusals by call'), and where the two halves of the lent work arrays start.
+// The limits that the entries share (document 01, 'Leaves, settings, fit' and 'Refusals by call').
 ghost use mathlib.Core.Path.{_≡_};
 ghost use Prim.Native.Nat.{_≤_};
 ghost use Rattle.limits.specs.Limits.{weightOk, coordinateOk, every, sizesOk, groupsOk, workOk};
-ghost use Rattle.limits.specs.Halves.{heldAt, freeAt};
 
 // A weight from 0 to 2^40.
 fn weight_ok(w: f64) -> bool
@@ -84,20 +83,4 @@ pub fn work_ok(m: usize, k: usize, d: usize, work: usize, marks: usize) -> bool
     let needed = 2 * mk + 4 * kd + 8 * m + 16 * k;
     let noted = 2 * m + 2 * k;
     (needed <= work) & (noted <= marks)
-}
-
-// ---- the halves of the work arrays
-
-// Where the free half starts, n being a half's length.
-pub fn free_at(second: bool, n: usize) -> usize
-    ensures { λ r. ⌜ r ≡ freeAt second n ⌝ }
-{
-    if second { 0 } else { n }
-}
-
-// Where the held half starts.
-pub fn held_at(second: bool, n: usize) -> usize
-    ensures { λ r. ⌜ r ≡ heldAt second n ⌝ }
-{
-    if second { n } else { 0 }
 }

@@ -7,7 +7,7 @@ use lib.ListN.{length, take, drop}
 use lib.Ieee.{Float}
 use Rattle.rows.specs.Rows.{part}
 use Rattle.rows.proofs.Rows.{length-part}
-use Rattle.limits.specs.Halves.{half, heldAt, freeAt}
+use Rattle.kmeans_layout.specs.Halves.{half, heldAt, freeAt}
 use Rattle.mixture_keeper.specs.Kept.{keptPart}
 use Rattle.mixture_keeper.specs.declared.Runs.{Runs}
 

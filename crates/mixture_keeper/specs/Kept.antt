@@ -4,7 +4,7 @@ use mathlib.Core.Bool.{cond}
 use Prim.Native.Nat.{ℕ, _+_, _*_, _≤_}
 use lib.ListN.{take}
 use lib.Ieee.{Float, le}
-use Rattle.limits.specs.Halves.{half}
+use Rattle.kmeans_layout.specs.Halves.{half}
 
 -- the kept part of two, and its log-likelihood
 abbrev pub keptPart : List Float → List Float → ℕ → Float → Float → List Float

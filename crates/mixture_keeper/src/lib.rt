@@ -3,7 +3,7 @@ ghost use mathlib.Core.Path.{_≡_};
 ghost use Prim.Native.Nat.{_+_, _≤_};
 ghost use lib.ListN.{length};
 ghost use Rattle.rows.specs.Rows.{part};
-ghost use Rattle.limits.specs.Halves.{half, heldAt, freeAt};
+ghost use Rattle.kmeans_layout.specs.Halves.{half, heldAt, freeAt};
 ghost use Rattle.mixture_keeper.specs.Kept.{keptPart, keptLoglik, Halved};
 
 // Four runs: the one held of the first three stands in the half that `second` names and has the log-likelihood `held`, the last one in the other and has `last`.
@@ -48,7 +48,7 @@ pub fn kept_part<'a>(work: &'a [f64], r: Runs, m: usize, k: usize, d: usize) -> 
 {
     let kd = k * d;
     let n = m * k + kd + kd + 4 * m + 8 * k;
-    let a = limits::held_at(r.second, n);
-    let b = limits::free_at(r.second, n);
+    let a = kmeans_layout::held_at(r.second, n);
+    let b = kmeans_layout::free_at(r.second, n);
     keeper(&work[a..a + n], &work[b..b + n], n, r.held, r.last)
 }

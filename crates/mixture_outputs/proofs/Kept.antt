@@ -10,7 +10,7 @@ use lib.Seq.{length-take-le}
 use lib.Ieee.{Float, le}
 use Rattle.rows.specs.Rows.{part}
 use Rattle.rows.proofs.Rows.{length-part}
-use Rattle.limits.specs.Halves.{half, heldAt, freeAt}
+use Rattle.kmeans_layout.specs.Halves.{half, heldAt, freeAt}
 use Rattle.mixture_run.specs.Fits.{labelsOf, logwOf}
 use Rattle.mixture_run.specs.Areas.{partsIn, modelOf, emOf, Area}
 use Rattle.mixture_kappa.specs.declared.Settings.{Settings}

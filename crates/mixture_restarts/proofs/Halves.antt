@@ -11,8 +11,8 @@ use lib.Seq.{take-take}
 use lib.Ieee.{Float, le}
 use Rattle.rows.specs.Rows.{part, putPart}
 use Rattle.rows.proofs.Rows.{length-part}
-use Rattle.limits.specs.Halves.{half, heldAt, freeAt}
-use Rattle.limits.proofs.Halves.{put-there}
+use Rattle.kmeans_layout.specs.Halves.{half, heldAt, freeAt}
+use Rattle.kmeans_layout.proofs.Halves.{put-there}
 use Rattle.mixture_run.specs.Mixture.{Em}
 use Rattle.mixture_run.specs.Fits.{Once}
 use Rattle.mixture_run.specs.Areas.{partsIn, emOf, Runnable, RunDone}

@@ -6,7 +6,7 @@ use Prim.Native.Nat.{ℕ, _+_, _*_, _≤_, _<_}
 use lib.ListN.{take, drop}
 use lib.Ieee.{Float, le}
 use Rattle.rows.specs.Rows.{part}
-use Rattle.limits.specs.Halves.{half, heldAt, freeAt}
+use Rattle.kmeans_layout.specs.Halves.{half, heldAt, freeAt}
 use Rattle.mixture_run.specs.Mixture.{Em}
 use Rattle.mixture_run.specs.Fits.{Once}
 use Rattle.mixture_run.specs.Areas.{partsIn, emOf}

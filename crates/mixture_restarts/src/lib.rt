@@ -3,7 +3,7 @@
 ghost use mathlib.Core.Path.{_≡_};
 ghost use Prim.Native.Nat.{_+_, _≤_};
 ghost use lib.ListN.{length};
-ghost use Rattle.limits.specs.Halves.{half, freeAt};
+ghost use Rattle.kmeans_layout.specs.Halves.{half, freeAt};
 ghost use Rattle.mixture_restarts.specs.Runs.{runOf, runsUpTo};
 ghost use Rattle.mixture_restarts.specs.Halves.{Roomy, Tried, Holds, Addable, keptHeld, Both};
 
@@ -84,7 +84,7 @@ fn run_beside(
 {
     let kd = k * d;
     let n = m * k + kd + kd + 4 * m + 8 * k;
-    let a = limits::free_at(second, n);
+    let a = kmeans_layout::free_at(second, n);
     run_at(work, marks, weights, coords, s, t, m, k, d, a)
 }
 

@@ -20,11 +20,11 @@ use Rattle.kmeans_layout.proofs.Regions.{labels-are, centers-are}
 use Rattle.spherical.specs.Restarts.{keepBy, keep, restartsUpTo, kmeansOf}
 use Rattle.spherical.specs.Refusals.{refusalOf}
 use Rattle.spherical.specs.Outcome.{Outcome, outcome}
-use Rattle.limits.specs.Halves.{half, heldAt, freeAt}
+use Rattle.kmeans_layout.specs.Halves.{half, heldAt, freeAt}
 use Rattle.spherical.specs.Halves.{stateAt, Roomy, InHalf, Tried, Holds, HeldSmall, Addable, keptBy, TriedAgain, Fillable}
 use Rattle.spherical.specs.declared.Held.{Held}
 use Rattle.spherical.specs.declared.Clustered.the-variants.{Refused, Done}
-use Rattle.limits.proofs.Halves.{put-there}
+use Rattle.kmeans_layout.proofs.Halves.{put-there}
 use Rattle.spherical.proofs.Refusals.{Ready}
 
 module _ (m k d : ℕ) (w : List Float) (u : List ℕ) (a b : ℕ) where

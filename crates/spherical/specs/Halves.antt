@@ -10,7 +10,7 @@ use Rattle.kmeans_layout.specs.State.{State}
 use Rattle.kmeans_lloyd.specs.Results.{Result}
 use Rattle.kmeans_layout.specs.Areas.{stateIn}
 use Rattle.kmeans_lloyd.specs.declared.Ran.{Ran}
-use Rattle.limits.specs.Halves.{half, heldAt, freeAt}
+use Rattle.kmeans_layout.specs.Halves.{half, heldAt, freeAt}
 use Rattle.spherical.specs.declared.Held.{Held}
 
 -- the state in the half that starts at these places

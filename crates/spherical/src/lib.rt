@@ -9,7 +9,7 @@ ghost use Rattle.kmeans_lloyd.specs.Results.{resultOf};
 ghost use Rattle.spherical.specs.Restarts.{kmeansOf};
 ghost use Rattle.spherical.specs.Refusals.{arraysOk, refusalOf};
 ghost use Rattle.spherical.specs.Outcome.{Outcome, outcome};
-ghost use Rattle.limits.specs.Halves.{half, heldAt};
+ghost use Rattle.kmeans_layout.specs.Halves.{half, heldAt};
 ghost use Rattle.spherical.specs.Halves.{stateAt, Roomy, Tried, TriedAgain, Holds, HeldSmall, Addable, keptHeld, Fillable};
 
 // ---- what is refused
@@ -159,8 +159,8 @@ fn try_again(
 {
     let kd = k * d;
     let n = m * k + kd + kd + 4 * m + 8 * k;
-    let a = limits::free_at(h.second, n);
-    let b = limits::free_at(h.second, m + k);
+    let a = kmeans_layout::free_at(h.second, n);
+    let b = kmeans_layout::free_at(h.second, m + k);
     let r = run_at(work, marks, weights, coords, h.state, m, k, d, rounds, a, b);
     keep(h, r)
 }
@@ -227,8 +227,8 @@ fn fill_outputs(
 {
     let kd = k * d;
     let n = m * k + kd + kd + 4 * m + 8 * k;
-    let a = limits::held_at(second, n);
-    let b = limits::held_at(second, m + k);
+    let a = kmeans_layout::held_at(second, n);
+    let b = kmeans_layout::held_at(second, m + k);
     rows::copy_u32(&mut labels[..m], &marks[b..b + m]);
     rows::copy(&mut directions[..kd], &work[a..a + kd]);
 }

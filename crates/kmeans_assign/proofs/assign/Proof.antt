@@ -42,8 +42,8 @@ tally-requires c κs =
     let loop = loop-at c in
     let l = loop .loop in
     let a = start loop .args in
-    let small = pass-small (a .coords .now) (a .k) (a .d) (a .it) _ (l .i) _ (l .p) (l .inv .2) (omega (arith, l .inv .0, l .inv .1 .m-small)) (l .inv .1 .k-small) in
-    (small .0, small .1, l .inv .1 .k-small)
+    let small = pass-small (a .coords .now) (a .k) (a .d) (a .it) _ (l .i) _ (l .p) (l .inv .2) (omega (arith, l .inv .0, l .inv .1 .sizes .m-small)) (l .inv .1 .sizes .k-small) in
+    (small .0, small .1, l .inv .1 .sizes .k-small)
 
 loop-again : tie.Need-loop-again Inv-loop μ-loop
 loop-again c =
@@ -73,7 +73,7 @@ returns c =
     let s₀ = stateIn (a .m) (a .k) (a .d) (a .work .now) (a .marks .now) in
     let e : l .i ≡ a .m = omega (arith, l .inv .0, c .loop-test .left) in (
       l .inv .2 ∙ ap (λ (n : ℕ). passUpTo (a .coords .now) (a .k) (a .d) (a .it) s₀ n) e,
-      pass-small (a .coords .now) (a .k) (a .d) (a .it) s₀ (l .i) _ (l .p) (l .inv .2) (omega (arith, l .inv .0, l .inv .1 .m-small)) (l .inv .1 .k-small),
+      pass-small (a .coords .now) (a .k) (a .d) (a .it) s₀ (l .i) _ (l .p) (l .inv .2) (omega (arith, l .inv .0, l .inv .1 .sizes .m-small)) (l .inv .1 .sizes .k-small),
     )
 
 pub assign-spec : {M : Type 1} → statement M

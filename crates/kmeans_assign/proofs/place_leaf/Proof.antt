@@ -26,9 +26,9 @@ best-of-requires : tie.Need-best-of-requires
 best-of-requires c κs =
     let s = c .before .before .before .before .before .before in
     record {
-      some = s .pre .0 .k-some;
-      few = s .pre .0 .k-small;
-      small = s .pre .0 .kd-small;
+      some = s .pre .0 .sizes .k-some;
+      few = s .pre .0 .sizes .k-small;
+      small = s .pre .0 .sizes .kd-small;
       long = length-take-le (s .args .k * s .args .d) (s .args .work .now) (omega (arith, s .pre .0 .work-long));
     }
 
@@ -47,14 +47,14 @@ cast-label c =
     let b = c .before .before .before .before .before .before .before in
     let s = b .before .before .before .before .before .before .before in
     let a = s .args in
-    let below = leaf-below (a .m) (a .k) (a .d) (a .work .now) (a .marks .now) (a .coords .now) (a .i) (b .best-of .result) (s .pre .0 .k-some) (best-at b) in
-    omega (arith, below, s .pre .0 .k-small)
+    let below = leaf-below (a .m) (a .k) (a .d) (a .work .now) (a .marks .now) (a .coords .now) (a .i) (b .best-of .result) (s .pre .0 .sizes .k-some) (best-at b) in
+    omega (arith, below, s .pre .0 .sizes .k-small)
 
 slice-read-changed : tie.Need-slice-read-changed
 slice-read-changed c = let s = start (c .before .before .before .before .before) in omega (arith, s .pre .0 .marks-long, s .pre .1 .below)
 
 mul-marks : tie.Need-mul-marks
-mul-marks c = let s = start (c .before .before .before .before .before) in omega (arith, s .pre .0 .m-small, s .pre .1 .below)
+mul-marks c = let s = start (c .before .before .before .before .before) in omega (arith, s .pre .0 .sizes .m-small, s .pre .1 .below)
 
 slice-write-marks : tie.Need-slice-write-marks
 slice-write-marks c = let s = start (c .before .before .before .before .before) in omega (arith, s .pre .0 .marks-long, s .pre .1 .below)

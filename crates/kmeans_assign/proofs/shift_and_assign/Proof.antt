@@ -41,7 +41,7 @@ turn-leaf-requires c κs =
     let s = start (c .before .before .before) in
     let a = s .args in
     let h : l .i < a .m = c .before .before .loop-test .taken in
-    let labelled = fused-labelled (a .coords .now) (a .k) (a .d) (a .it) _ (stateIn (a .m) (a .k) (a .d) (a .work .now) (a .marks .now)) (a .m) (s .pre .1) (s .pre .0 .k-some) (l .i)
+    let labelled = fused-labelled (a .coords .now) (a .k) (a .d) (a .it) _ (stateIn (a .m) (a .k) (a .d) (a .work .now) (a .marks .now)) (a .m) (s .pre .1) (s .pre .0 .sizes .k-some) (l .i)
     (stateIn (a .m) (a .k) (a .d) (l .work) (l .marks)) (l .p) (l .inv .2) in
     (l .inv .1, (leaf-of (l .i) (a .m) (a .d) h, rw (get-labels (a .m) (a .k) (a .d) (l .work) (l .marks) (l .i) 0 h) (labelled (l .i) h)))
 
@@ -50,8 +50,8 @@ tally-requires c κs =
     let loop = loop-at c in
     let l = loop .loop in
     let a = start loop .args in
-    let small = pass-small (a .coords .now) (a .k) (a .d) (a .it) _ (l .i) _ (l .p) (l .inv .2) (omega (arith, l .inv .0, l .inv .1 .m-small)) (l .inv .1 .k-small) in
-    (small .0, small .1, l .inv .1 .k-small)
+    let small = pass-small (a .coords .now) (a .k) (a .d) (a .it) _ (l .i) _ (l .p) (l .inv .2) (omega (arith, l .inv .0, l .inv .1 .sizes .m-small)) (l .inv .1 .sizes .k-small) in
+    (small .0, small .1, l .inv .1 .sizes .k-small)
 
 loop-again : tie.Need-loop-again Inv-loop μ-loop
 loop-again c =
@@ -86,7 +86,7 @@ returns c =
     slowest-is (a .m) (a .k) (a .d) (a .work .now) (a .marks .now) (f .two-smallest .result) (s .pre .0 .work-long) (f .two-smallest .ensures) in (
       l .inv .2 ∙ ap (λ (n : ℕ). passUpTo (a .coords .now) (a .k) (a .d) (a .it) (shiftUpTo (a .k) (f .two-smallest .result) s₀ n) n) e
           ∙ ap (λ (x : Slowest). passUpTo (a .coords .now) (a .k) (a .d) (a .it) (shiftUpTo (a .k) x s₀ (a .m)) (a .m)) t,
-      pass-small (a .coords .now) (a .k) (a .d) (a .it) _ (l .i) _ (l .p) (l .inv .2) (omega (arith, l .inv .0, l .inv .1 .m-small)) (l .inv .1 .k-small),
+      pass-small (a .coords .now) (a .k) (a .d) (a .it) _ (l .i) _ (l .p) (l .inv .2) (omega (arith, l .inv .0, l .inv .1 .sizes .m-small)) (l .inv .1 .sizes .k-small),
     )
 
 pub shift-and-assign-spec : {M : Type 1} → statement M

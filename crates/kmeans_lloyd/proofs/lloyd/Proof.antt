@@ -91,7 +91,7 @@ loop-again c =
       eu ∙ l .inv .3,
       labelled-of-round (a .weights .now) (a .coords .now) (a .m) (a .k) (a .d) (l .it) s s' (g .one-round .result) (g .one-round .ensures)
           (c .if1 .left)
-          (l .inv .1 .k-some) (l .inv .4),
+          (l .inv .1 .sizes .k-some) (l .inv .4),
       few-at g,
       goes-on (a .weights .now) (a .coords .now) (a .m) (a .k) (a .d) (whole (start (loop-at g))) (a .rounds - l .it)
           (a .rounds - (l .it + 1)) (l .it) s s' (l .c)

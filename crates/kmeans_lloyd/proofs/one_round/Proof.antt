@@ -39,7 +39,7 @@ settle-requires c κs =
       sized-of _ _ _ _ (length (a .coords .now)) (a .m) (a .k) (a .d) (p .pass .kept .0) (p .pass .kept .1 .0) (b .pre .0),
       (
         b .pre .1 .0,
-        labelled-of (a .m) (a .k) (y .state) x (ap (λ (q : Pass). q .state .labels) (p .pass .ensures .0)) (labelled-of-pass (a .m) (a .k) s (a .coords .now) (a .d) (a .it) (b .pre .0 .k-some) (b .pre .1 .1)),
+        labelled-of (a .m) (a .k) (y .state) x (ap (λ (q : Pass). q .state .labels) (p .pass .ensures .0)) (labelled-of-pass (a .m) (a .k) s (a .coords .now) (a .d) (a .it) (b .pre .0 .sizes .k-some) (b .pre .1 .1)),
       ),
     )
 

@@ -14,7 +14,7 @@ lloyd-requires c κs =
     let s = f .before .before .before .before .before .before in
     let a = s .args in (
       sized-of _ _ _ _ (length (a .coords .now)) (a .m) (a .k) (a .d) (g .start .kept .0 ∙ f .seed .kept .0) (g .start .kept .1 .0) (s .pre .sized),
-      (s .pre .weights-long, s .pre .rounds-small, started-labelled (a .coords .now) (a .m) (a .k) (a .d) _ _ (s .pre .sized .k-some) (g .start .ensures)),
+      (s .pre .weights-long, s .pre .rounds-small, started-labelled (a .coords .now) (a .m) (a .k) (a .d) _ _ (s .pre .sized .sizes .k-some) (g .start .ensures)),
     )
 
 cohesion-of-requires : tie.Need-cohesion-of-requires
@@ -27,7 +27,7 @@ cohesion-of-requires c κs =
       sized-of _ _ _ _ (length (a .coords .now)) (a .m) (a .k) (a .d) (l .lloyd .kept .0 ∙ g .start .kept .0 ∙ f .seed .kept .0) (l .lloyd .kept .1 .0 ∙ g .start .kept .1 .0) (s .pre .sized),
       (
         s .pre .weights-long,
-        rounds-labelled (a .weights .now) (a .coords .now) (a .m) (a .k) (a .d) (a .rounds) _ _ _ _ (s .pre .sized .k-some) (g .start .ensures) (l .lloyd .ensures),
+        rounds-labelled (a .weights .now) (a .coords .now) (a .m) (a .k) (a .d) (a .rounds) _ _ _ _ (s .pre .sized .sizes .k-some) (g .start .ensures) (l .lloyd .ensures),
       ),
     )
 
@@ -42,7 +42,7 @@ returns c =
       run-done (a .weights .now) (a .coords .now) (a .m) (a .k) (a .d) (a .rounds) (a .state) _ _ _ _ (f .seed .result) (l .lloyd .result) (h .cohesion-of .result)
           (f .seed .ensures (a .marks .now) .0) (f .seed .ensures (a .marks .now) .1) (g .start .ensures) (l .lloyd .ensures) (h .cohesion-of .ensures .0) (h .cohesion-of .ensures .1),
       run-left (a .weights .now) (a .coords .now) (a .m) (a .k) (a .d) _ _ _
-          (rounds-labelled (a .weights .now) (a .coords .now) (a .m) (a .k) (a .d) (a .rounds) _ _ _ _ (s .pre .sized .k-some) (g .start .ensures) (l .lloyd .ensures)) (h .cohesion-of .ensures .1) (h .cohesion-of .ensures .2),
+          (rounds-labelled (a .weights .now) (a .coords .now) (a .m) (a .k) (a .d) (a .rounds) _ _ _ _ (s .pre .sized .sizes .k-some) (g .start .ensures) (l .lloyd .ensures)) (h .cohesion-of .ensures .1) (h .cohesion-of .ensures .2),
     )
 
 pub run-spec : {M : Type 1} → statement M

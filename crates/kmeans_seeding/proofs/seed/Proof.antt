@@ -26,9 +26,9 @@ seed-center-requires c κs =
     let b = q .before .before .before .before in
     let a = b .args in
     let s = b .pre in
-    let below = first-below (a .weights .now) (a .m) (a .state) (q .weighted-pick .result) (s .m-some) (s .weights-long) (q .weighted-pick .ensures) in (
-      (seeding-area (length (a .work .now)) _ (length (a .weights .now)) (length (a .coords .now)) (a .m) (a .k) (a .d) refl s, s .coords-long, s .md-small),
-      (leaf-of (q .weighted-pick .result .index) (a .m) (a .d) below, group-of 0 (a .k) (a .d) (s .k-some)),
+    let below = first-below (a .weights .now) (a .m) (a .state) (q .weighted-pick .result) (s .sizes .m-some) (s .weights-long) (q .weighted-pick .ensures) in (
+      (seeding-area (length (a .work .now)) _ (length (a .weights .now)) (length (a .coords .now)) (a .m) (a .k) (a .d) refl s, s .coords-long, s .sizes .md-small),
+      (leaf-of (q .weighted-pick .result .index) (a .m) (a .d) below, group-of 0 (a .k) (a .d) (s .sizes .k-some)),
     )
 
 first-distances-requires : tie.Need-first-distances-requires Inv-loop μ-loop
@@ -37,7 +37,7 @@ first-distances-requires c κs =
     let b = r .before .before .before .before .before .before in
     let a = b .args in
     let s = b .pre in
-    (seeding-area (length (a .work .now)) _ (length (a .weights .now)) (length (a .coords .now)) (a .m) (a .k) (a .d) (r .seed-center .kept .0) s, s .coords-long, s .md-small, s .k-some)
+    (seeding-area (length (a .work .now)) _ (length (a .weights .now)) (length (a .coords .now)) (a .m) (a .k) (a .d) (r .seed-center .kept .0) s, s .coords-long, s .sizes .md-small, s .sizes .k-some)
 
 loop-holds : tie.Need-loop-holds Inv-loop μ-loop
 loop-holds c =
@@ -48,9 +48,9 @@ loop-holds c =
     let a = b .args in
     let s = b .pre in (
       omega arith,
-      s .k-some,
+      s .sizes .k-some,
       refl,
-      λ u. held-first (a .weights .now) (a .coords .now) (a .m) (a .k) (a .d) (a .state) (s .m-some) (s .weights-long) (s .coords-long) (q .weighted-pick .result)
+      λ u. held-first (a .weights .now) (a .coords .now) (a .m) (a .k) (a .d) (a .state) (s .sizes .m-some) (s .weights-long) (s .coords-long) (q .weighted-pick .result)
           (stateIn (a .m) (a .k) (a .d) (a .work .now) u)
           (stateIn (a .m) (a .k) (a .d) (r .seed-center .last .0) u)
           (stateIn (a .m) (a .k) (a .d) (f .first-distances .last .0) u)
@@ -85,7 +85,7 @@ loop-again c =
       omega arith,
       omega arith,
       n .seed-next .kept .0 ∙ l .inv .2,
-      λ u. held-turn (a .weights .now) (a .coords .now) (a .m) (a .k) (a .d) (a .state) (s .m-some) (s .weights-long) (s .coords-long) (l .c) (l .s) (n .seed-next .result)
+      λ u. held-turn (a .weights .now) (a .coords .now) (a .m) (a .k) (a .d) (a .state) (s .sizes .m-some) (s .weights-long) (s .coords-long) (l .c) (l .s) (n .seed-next .result)
           (stateIn (a .m) (a .k) (a .d) (l .work) u)
           (stateIn (a .m) (a .k) (a .d) (n .seed-next .last .0) u)
           (l .inv .0)

@@ -18,8 +18,8 @@ seed-center-requires c κs =
     let below = next-below (a .m) (a .k) (a .d) (a .work .now) (h .put-chances .last .0) (a .weights .now) [] (a .state) (q .weighted-pick .result) (s .work-long) (s .weights-long)
     (h .put-chances .ensures [])
     (q .weighted-pick .ensures)
-    (s .m-some) in (
-      (seeding-area (length (a .work .now)) _ (length (a .weights .now)) (length (a .coords .now)) (a .m) (a .k) (a .d) (h .put-chances .kept .0) s, s .coords-long, s .md-small),
+    (s .sizes .m-some) in (
+      (seeding-area (length (a .work .now)) _ (length (a .weights .now)) (length (a .coords .now)) (a .m) (a .k) (a .d) (h .put-chances .kept .0) s, s .coords-long, s .sizes .md-small),
       (leaf-of (q .weighted-pick .result .index) (a .m) (a .d) below, b .pre .1),
     )
 
@@ -40,7 +40,7 @@ returns c =
     (r .seed-center .last .0)
     (l .lower-distances .last .0)
     (b .pre .1 .below)
-    (s .m-some)
+    (s .sizes .m-some)
     (s .coords-long)
     (r .seed-center .ensures u)
     (l .lower-distances .ensures u)

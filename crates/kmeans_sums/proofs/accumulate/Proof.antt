@@ -61,7 +61,7 @@ gain-requires c κs =
     let a = s .args in (
       l .inv .1,
       gains-of (a .weights .now) (a .coords .now) (a .m) (a .k) (a .d) _ (l .i) (l .work) (l .marks) (l .inv .2) (stateIn (a .m) (a .k) (a .d) (a .work .now) (a .marks .now)) (cleared-at (c .before .before .before .before .before .before) .state) (s .pre .1 .1)
-          (c .before .before .loop-test .taken) (s .pre .0 .m-small) (s .pre .1 .0),
+          (c .before .before .loop-test .taken) (s .pre .0 .sizes .m-small) (s .pre .1 .0),
     )
 
 loop-again : tie.Need-loop-again Inv-loop μ-loop

@@ -17,7 +17,7 @@ leaf-at : (p : tie.After-argmin) → let a = start p .args in LeafOf (p .argmin 
 leaf-at p =
     let s = start p in
     let a = s .args in
-    worst-leaf (a .m) (a .k) (a .d) (a .work .now) (p .argmin .result) (p .argmin .ensures) (s .pre .0 .m-some) (s .pre .0 .area .work-long)
+    worst-leaf (a .m) (a .k) (a .d) (a .work .now) (p .argmin .result) (p .argmin .ensures) (s .pre .0 .area .sizes .m-some) (s .pre .0 .area .work-long)
 
 abbrev argmin-at : tie.After-unit → tie.After-argmin
 argmin-at q = q .before .before .before
@@ -49,9 +49,7 @@ move-center-requires c κs =
     let s = start (argmin-at q) in
     let z = s .pre .0 .area in (
       record {
-        m-small = z .m-small;
-        k-small = z .k-small;
-        kd-small = z .kd-small;
+        sizes = z .sizes;
         work-long = simp length-set (omega (arith, z .work-long, kept-at q));
       },
       s .pre .1,
@@ -73,9 +71,9 @@ returns c =
     let r = q .unit .last .0 in
     let z = s .pre .0 in (
       reseed-done (a .m) (a .k) (a .d) (a .coords .now) (a .work .now) (a .c) (p .argmin .result) r (f .move-center .last .0) (s .pre .1)
-          (z .m-some) (z .area .work-long) (full-at q) (p .argmin .ensures) (q .unit .ensures) (f .move-center .ensures .0),
+          (z .area .sizes .m-some) (z .area .work-long) (full-at q) (p .argmin .ensures) (q .unit .ensures) (f .move-center .ensures .0),
       reseed-later (a .m) (a .k) (a .d) (a .coords .now) (a .work .now) (a .c) (p .argmin .result) r (f .move-center .last .0) (s .pre .1)
-          (z .m-some) (z .area .work-long) (full-at q) (p .argmin .ensures) (f .move-center .ensures .1),
+          (z .area .sizes .m-some) (z .area .work-long) (full-at q) (p .argmin .ensures) (f .move-center .ensures .1),
     )
 
 pub reseed-spec : {M : Type 1} → statement M
@@ -93,7 +91,7 @@ reseed-spec =
     (λ c. search needs)
     (λ c. search needs)
     (λ c κs. search needs)
-    (λ c. omega (arith, leaf-at c .row, start c .pre .0 .md-small))
+    (λ c. omega (arith, leaf-at c .row, start c .pre .0 .area .sizes .md-small))
     (λ c. search needs)
     (λ c. search needs)
     (λ c. search needs)
@@ -101,8 +99,8 @@ reseed-spec =
     (λ c. search needs)
     (λ c. search needs)
     (λ c. search needs)
-    (λ c. omega (arith, leaf-at (c .before) .row, start (c .before) .pre .0 .md-small))
-    (λ c. omega (arith, leaf-at (c .before) .row, start (c .before) .pre .0 .md-small, start (c .before) .pre .0 .coords-long))
+    (λ c. omega (arith, leaf-at (c .before) .row, start (c .before) .pre .0 .area .sizes .md-small))
+    (λ c. omega (arith, leaf-at (c .before) .row, start (c .before) .pre .0 .area .sizes .md-small, start (c .before) .pre .0 .coords-long))
     (λ c. search needs)
     (λ c. search needs)
     (λ c. omega (arith, leaf-at (c .before) .row, start (c .before) .pre .0 .coords-long))
@@ -110,11 +108,11 @@ reseed-spec =
     (λ c.
     let p = argmin-at (c .before .before) in
     let z = start p .pre .0 .area in
-    omega (arith, leaf-at p .below, z .kd-small, z .m-small))
+    omega (arith, leaf-at p .below, z .sizes .kd-small, z .sizes .m-small))
     (λ c.
     let p = argmin-at (c .before .before) in
     let z = start p .pre .0 .area in
-    omega (arith, leaf-at p .below, z .kd-small, z .m-small))
+    omega (arith, leaf-at p .below, z .sizes .kd-small, z .sizes .m-small))
     slice-write-work
     move-center-requires
     same-length

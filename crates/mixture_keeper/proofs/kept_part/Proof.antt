@@ -2,8 +2,8 @@
 use Prim.Native.Nat.{_+_, _≤_}
 use native.Mathlib.Omega.{arith}
 use lib.ListN.{length}
-use Rattle.limits.specs.Halves.{half}
-use Rattle.limits.proofs.Halves.{held-within, free-within}
+use Rattle.kmeans_layout.specs.Halves.{half}
+use Rattle.kmeans_layout.proofs.Halves.{held-within, free-within}
 use Rattle.mixture_keeper.proofs.Kept.{parts-long, part-kept}
 use borrow.Author.Needs.{needs}
 use Rattle.mixture_keeper.proofs.kept_part.Statement.{statement}

@@ -6,7 +6,7 @@ use native.Mathlib.Omega.{arith}
 use lib.ListN.{drop}
 use lib.Seq.{length-take-le}
 use lib.Ieee.{Float}
-use Rattle.limits.proofs.Halves.{alike}
+use Rattle.kmeans_layout.proofs.Halves.{alike}
 use Rattle.mixture_run.proofs.Regions.{directionsR, weightsR, kappasR, whole-in}
 use Rattle.mixture_run.proofs.Groups.{region-cut}
 use borrow.Author.Needs.{needs}

@@ -3,7 +3,7 @@ use mathlib.Core.Path.{_≡_, ap, sym}
 use Prim.Native.Nat.{ℕ, _+_, _-_}
 use native.Mathlib.Omega.{arith}
 use lib.ListN.{length}
-use Rattle.limits.specs.Halves.{half}
+use Rattle.kmeans_layout.specs.Halves.{half}
 use Rattle.mixture_run.specs.Areas.{partsIn, RunDone}
 use Rattle.mixture_restarts.specs.Runs.{runOf, settingsOf}
 use Rattle.mixture_restarts.proofs.Halves.{runnable, try-done}

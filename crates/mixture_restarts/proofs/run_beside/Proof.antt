@@ -1,7 +1,7 @@
 -- A run in the free half, which lies within the array by which half is held. Assumes nothing.
 use lib.ListN.{length}
-use Rattle.limits.specs.Halves.{half, freeAt}
-use Rattle.limits.proofs.Halves.{free-within}
+use Rattle.kmeans_layout.specs.Halves.{half, freeAt}
+use Rattle.kmeans_layout.proofs.Halves.{free-within}
 use Rattle.mixture_restarts.specs.Runs.{runOf}
 use Rattle.mixture_restarts.proofs.Halves.{tried-of}
 use borrow.Author.Needs.{needs}

@@ -4,7 +4,7 @@ use native.Mathlib.Omega.{arith}
 use lib.ListN.{length}
 use borrow.Author.Needs.{needs}
 use Rattle.kmeans_lloyd.specs.Results.{resultOf}
-use Rattle.limits.specs.Halves.{half}
+use Rattle.kmeans_layout.specs.Halves.{half}
 use Rattle.spherical.proofs.Halves.{runnable, try-done}
 use Rattle.spherical.proofs.run_at.Statement.{statement}
 use Rattle.spherical.proofs.run_at.Tie as tie

@@ -3,8 +3,8 @@ use Prim.Native.Nat.{_+_}
 use lib.ListN.{length}
 use borrow.Author.Needs.{needs}
 use Rattle.kmeans_lloyd.specs.Results.{resultOf}
-use Rattle.limits.specs.Halves.{half, freeAt}
-use Rattle.limits.proofs.Halves.{free-within}
+use Rattle.kmeans_layout.specs.Halves.{half, freeAt}
+use Rattle.kmeans_layout.proofs.Halves.{free-within}
 use Rattle.spherical.proofs.Halves.{tried-of, addable}
 use Rattle.spherical.proofs.try_again.Statement.{statement}
 use Rattle.spherical.proofs.try_again.Tie as tie

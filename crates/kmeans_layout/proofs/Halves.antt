@@ -8,7 +8,7 @@ use lib.ListN.{length, take, drop}
 use lib.Seq.{length-take-le}
 use Rattle.rows.specs.Rows.{Alike, part, putPart}
 use Rattle.rows.proofs.Rows.{length-part, part-put, drop-put, take-put-after}
-use Rattle.limits.specs.Halves.{heldAt, freeAt}
+use Rattle.kmeans_layout.specs.Halves.{heldAt, freeAt}
 
 -- ---- the places of the halves
 pub held-within : (second : Bool) (n l x : ℕ) → n + n ≤ l → x ≡ heldAt second n → (x + n ≤ l) × (x ≤ n)
