@@ -5,9 +5,10 @@ ghost use mathlib.Core.Path.{_≡_};
 ghost use Prim.Native.Nat.{_+_, _≤_};
 ghost use lib.ListN.{length, replicate};
 ghost use Rattle.rows.specs.Rows.{putPart};
+ghost use Rattle.counts.specs.Counts.{AtMost, ofCall};
 ghost use Rattle.limits.specs.Sizes.{Sizes};
 ghost use Rattle.kmeans_layout.specs.Areas.{scaleAt, lowAt, highAt, servedAt, driftAt};
-ghost use Rattle.kmeans_layout.specs.Halves.{half, halfMarks, heldAt, freeAt, heldAfter};
+ghost use Rattle.kmeans_layout.specs.Halves.{half, heldAt, freeAt, heldAfter};
 
 // n places from `at` on become x.
 pub fn fill_at(work: &mut [f64], at: usize, n: usize, x: f64)
@@ -80,21 +81,31 @@ pub fn held_at(second: bool, n: usize) -> usize
     if second { n } else { 0 }
 }
 
-// What is held: the run in the first or the second half, and its value, the greater the better.
+// What is held: the run in the first or the second half, its value, the greater the better, and the counts of all runs
+// so far.
 pub struct Held {
     pub second: bool,
     pub value: f64,
+    pub counts: counts::Counts,
 }
 
-// After one run more, of this value, which stands in the free half.
-pub fn keep(h: Held, value: f64) -> Held
-    ensures { λ r. ⌜ r ≡ heldAfter h value ⌝ }
+// After one run more, of this value and with these counts, which stands in the free half.
+pub fn keep(h: Held, value: f64, more: counts::Counts) -> Held
+    requires { ⌜ (AtMost ofCall (h .counts)) × (AtMost ofCall more) ⌝ }
+    ensures { λ r. ⌜ r ≡ heldAfter h value more ⌝ }
 {
+    let before = h.counts;
+    let counts = counts::plus(before, more);
     if value <= h.value {
-        return h;
+        return Held {
+            second: h.second,
+            value: h.value,
+            counts,
+        };
     }
     Held {
         second: !h.second,
         value,
+        counts,
     }
 }
