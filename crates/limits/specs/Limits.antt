@@ -36,7 +36,7 @@ marksLength m k = 2 * m + 2 * k
 abbrev pub workOk : ℕ → ℕ → ℕ → ℕ → ℕ → Bool
 workOk m k d work marks = leb (workLength m k d) work && leb (marksLength m k) marks
 
--- m is 1 to 4,096, d 1 to 256, k 1 to 64; rounds are 0 to 10,000
+-- m is 1 to 4,096, d 1 to 256, k 1 to 64; rounds are 0 to 10,000, restarts 0 to 64
 abbrev pub mostLeaves : ℕ
 mostLeaves = 4096
 
@@ -48,6 +48,9 @@ mostGroups = 64
 
 abbrev pub mostRounds : ℕ
 mostRounds = 10000
+
+abbrev pub mostRestarts : ℕ
+mostRestarts = 64
 
 -- 1 if m or d is out of limits or the coordinates aren't m·d
 abbrev pub sizesOk : ℕ → ℕ → ℕ → Bool

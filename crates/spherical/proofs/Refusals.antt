@@ -7,22 +7,20 @@ use lib.Dec.{leb}
 use lib.ListN.{length}
 use lib.Ieee.{Float}
 use borrow.Author.Tests.{leb-true}
-use Rattle.limits.specs.Limits.{need, weightOk, coordinateOk, every, workLength, marksLength, sizesOk, groupsOk, roundsOk, LeavesOk}
+use Rattle.limits.specs.Limits.{need, weightOk, coordinateOk, every, workLength, marksLength, sizesOk, groupsOk, roundsOk,
+    mostRounds, mostRestarts, LeavesOk}
+use Rattle.limits.specs.Sizes.{Sizes}
 use Rattle.limits.proofs.Limits.{both, admitted, sizes-met, groups-met}
+use Rattle.limits.proofs.Sizes.{sizes-of}
 use Rattle.spherical.specs.Refusals.{restartsOk, arraysOk, refusalOf}
 
 -- what it says that nothing is refused
 pub record Ready (weights coords : List Float) (d k rounds restarts labels directions work marks : ℕ) : Type 0 where
-  pub m-some : 1 ≤ length weights
-  pub m-small : length weights ≤ 4096
-  pub d-some : 1 ≤ d
-  pub d-small : d ≤ 256
+  pub sizes : Sizes (length weights) k d
   pub coords-long : length coords ≡ length weights * d
-  pub k-some : 1 ≤ k
-  pub k-small : k ≤ 64
   pub k-below : k ≤ length weights
-  pub rounds-small : rounds ≤ 10000
-  pub restarts-small : restarts ≤ 64
+  pub rounds-small : rounds ≤ mostRounds
+  pub restarts-small : restarts ≤ mostRestarts
   pub labels-long : length weights ≤ labels
   pub directions-long : k * d ≤ directions
   pub work-long : workLength (length weights) k d ≤ work
@@ -42,13 +40,8 @@ module _ (weights coords : List Float) (d k rounds restarts labels directions wo
       let a2 = both (leb (k * d) directions) _ (a1 .1) in
       let a3 = both (leb (workLength m k d) work) (leb (marksLength m k) marks) (a2 .1) in
       record {
-        m-some = s .0;
-        m-small = s .1;
-        d-some = s .2;
-        d-small = s .3;
+        sizes = sizes-of m k d (s .0) (s .1) (g .0) (g .1) (s .2) (s .3);
         coords-long = s .4;
-        k-some = g .0;
-        k-small = g .1;
         k-below = g .2;
         rounds-small = leb-true _ _ (r .0);
         restarts-small = leb-true _ _ (r .1);

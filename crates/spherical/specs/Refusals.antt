@@ -5,11 +5,11 @@ use Prim.Native.Nat.{ℕ, _*_}
 use lib.Dec.{leb}
 use lib.ListN.{length}
 use lib.Ieee.{Float}
-use Rattle.limits.specs.Limits.{need, weightOk, coordinateOk, every, workOk, sizesOk, groupsOk, roundsOk}
+use Rattle.limits.specs.Limits.{need, weightOk, coordinateOk, every, workOk, sizesOk, groupsOk, roundsOk, mostRestarts}
 
 -- 3 if restarts are above 64
 abbrev pub restartsOk : ℕ → Bool
-restartsOk restarts = leb restarts 64
+restartsOk restarts = leb restarts mostRestarts
 
 -- 4 if an output or work array is too short: labels m, directions k·d
 abbrev pub arraysOk : ℕ → ℕ → ℕ → ℕ → ℕ → ℕ → ℕ → Bool

@@ -1,51 +1,35 @@
 -- Document 01, 'Spherical k-means': the restarts of `spherical_kmeans`, one generator through all of them. Definitions only.
 use mathlib.Core.List.{List}
-use mathlib.Core.Bool.{Bool, true, false}
 use Prim.Native.Nat.{ℕ, zero, suc, _+_, _-_, max}
-use lib.Ieee.{Float, le}
+use lib.Ieee.{Float}
+use Rattle.counts.specs.Counts.{plusOf}
+use Rattle.kmeans_layout.specs.Kept.{keptOf}
 use Rattle.kmeans_lloyd.specs.Results.{Result, resultOf}
 
--- what is held, with the counts and the rounds begun of one more run added, and the generator moved on
-abbrev pub counted : Result → Result → Result
-counted held run =
+-- what one of two runs found, with the counts and the rounds begun of both, and the generator moved on
+abbrev pub counted : Result → Result → Result → Result
+counted kept held run =
     record {
-      labels = held .labels;
-      centers = held .centers;
-      cohesion = held .cohesion;
-      made = held .made + run .made;
-      saved = held .saved + run .saved;
+      labels = kept .labels;
+      centers = kept .centers;
+      cohesion = kept .cohesion;
+      counts = plusOf (held .counts) (run .counts);
       begun = held .begun + run .begun;
-      state = run .state;
-    }
-
--- the run in the place of what is held
-abbrev pub replaced : Result → Result → Result
-replaced held run =
-    record {
-      labels = run .labels;
-      centers = run .centers;
-      cohesion = run .cohesion;
-      made = held .made + run .made;
-      saved = held .saved + run .saved;
-      begun = held .begun + run .begun;
-      state = run .state;
+      generator = run .generator;
     }
 
 -- a run replaces the held one unless its cohesion is ≤ the held one's
-abbrev pub keepBy : Bool → Result → Result → Result
-keepBy true held run = counted held run
-keepBy false held run = replaced held run
-
 abbrev pub keep : Result → Result → Result
-keep held run = keepBy (le (run .cohesion) (held .cohesion)) held run
+keep held run = counted (keptOf (held .cohesion) (run .cohesion) held run) held run
 
--- the first run and n more
-unfoldable pub restartsUpTo : List Float → List Float → ℕ → ℕ → ℕ → ℕ → ℕ → ℕ → Result
-restartsUpTo weights coords m k d rounds seed zero = resultOf weights coords m k d rounds seed
-restartsUpTo weights coords m k d rounds seed (suc n) =
-    keep (restartsUpTo weights coords m k d rounds seed n)
-    (resultOf weights coords m k d rounds (restartsUpTo weights coords m k d rounds seed n .state))
+module _ (weights coords : List Float) (m k d rounds : ℕ) where
+  -- the first run and n more
+  unfoldable pub restartsUpTo : (seed n : ℕ) → Result
+  restartsUpTo seed zero = resultOf weights coords m k d rounds seed
+  restartsUpTo seed (suc n) =
+      let held = restartsUpTo seed n in
+      keep held (resultOf weights coords m k d rounds (held .generator))
 
--- 0 restarts act as 1
-abbrev pub kmeansOf : List Float → List Float → ℕ → ℕ → ℕ → ℕ → ℕ → ℕ → Result
-kmeansOf weights coords m k d rounds restarts seed = restartsUpTo weights coords m k d rounds seed (max restarts 1 - 1)
+  -- 0 restarts act as 1
+  abbrev pub kmeansOf : (restarts seed : ℕ) → Result
+  kmeansOf restarts seed = restartsUpTo seed (max restarts 1 - 1)

@@ -5,12 +5,14 @@ ghost use mathlib.Core.Path.{_≡_};
 ghost use Prim.Native.Nat.{_+_, _*_, _≤_};
 ghost use mathlib.Core.List.{_++_};
 ghost use lib.ListN.{length, drop};
+ghost use Rattle.counts.specs.Counts.{AtMost, ofRuns};
+ghost use Rattle.limits.specs.Limits.{mostRestarts};
 ghost use Rattle.kmeans_lloyd.specs.Results.{resultOf};
 ghost use Rattle.spherical.specs.Restarts.{kmeansOf};
 ghost use Rattle.spherical.specs.Refusals.{arraysOk, refusalOf};
 ghost use Rattle.spherical.specs.Outcome.{Outcome, outcome};
 ghost use Rattle.kmeans_layout.specs.Halves.{half, heldAt};
-ghost use Rattle.spherical.specs.Halves.{stateAt, Roomy, Tried, TriedAgain, Holds, HeldSmall, Addable, keptHeld, Fillable};
+ghost use Rattle.spherical.specs.Halves.{stateAt, Runnable, Fillable, RunAt, Holds, Restarted};
 
 // ---- what is refused
 
@@ -79,27 +81,27 @@ fn run_at(
     marks: &mut [u32],
     weights: &[f64],
     coords: &[f64],
-    state: u64,
+    generator: u64,
     m: usize,
     k: usize,
     d: usize,
     rounds: usize,
     a: usize,
     b: usize,
-) -> kmeans_lloyd::Ran
-    requires { ⌜ Roomy (length (now work)) (length (now marks)) (length (now weights)) (length (now coords)) m k d rounds ⌝ }
+) -> kmeans_lloyd::RunEnd
+    requires { ⌜ Runnable (length (now work)) (length (now marks)) (length (now weights)) (length (now coords)) m k d rounds ⌝ }
     requires { ⌜ (a + half m k d ≤ length (now work)) × (b + (m + k) ≤ length (now marks)) ⌝ }
-    ensures { λ r. ⌜ Tried (resultOf (now (weights .entry)) (now (coords .entry)) m k d rounds state) (now (work .entry)) (now (work .exit)) (now (marks .entry)) (now (marks .exit)) a b m k d r ⌝ }
+    ensures { λ r. ⌜ RunAt (resultOf (now (weights .entry)) (now (coords .entry)) m k d rounds generator)
+        (now (work .entry)) (now (work .exit)) (now (marks .entry)) (now (marks .exit)) a b m k d r ⌝ }
 {
-    let kd = k * d;
-    let n = m * k + kd + kd + 4 * m + 8 * k;
+    let n = kmeans_layout::half(m, k, d);
     let p = m + k;
     kmeans_lloyd::run(
         &mut work[a..a + n],
         &mut marks[b..b + p],
         weights,
         coords,
-        state,
+        generator,
         m,
         k,
         d,
@@ -107,66 +109,55 @@ fn run_at(
     )
 }
 
-// What is held: which half, its cohesion, the counts of all runs so far, and the generator's state.
-pub struct Held {
-    pub second: bool,
-    pub cohesion: f64,
-    pub made: u64,
-    pub saved: u64,
-    pub state: u64,
+// After some runs: what is held of them, and the generator.
+pub struct Restarts {
+    pub held: kmeans_layout::Held,
+    pub generator: u64,
 }
 
-// With one run more, which stands in the free half.
-fn keep(h: Held, r: kmeans_lloyd::Ran) -> Held
-    requires { ⌜ Addable h r ⌝ }
-    ensures { λ q. ⌜ q ≡ keptHeld h r ⌝ }
-{
-    let made = h.made + r.made;
-    let saved = h.saved + r.saved;
-    if r.cohesion <= h.cohesion {
-        return Held {
-            second: h.second,
-            cohesion: h.cohesion,
-            made,
-            saved,
-            state: r.state,
-        };
-    }
-    Held {
-        second: !h.second,
-        cohesion: r.cohesion,
-        made,
-        saved,
-        state: r.state,
-    }
-}
-
-// One restart more.
-fn try_again(
+// One restart more, in the free half.
+fn restart(
     work: &mut [f64],
     marks: &mut [u32],
     weights: &[f64],
     coords: &[f64],
-    h: Held,
+    h: Restarts,
     m: usize,
     k: usize,
     d: usize,
     rounds: usize,
-) -> Held
-    requires { ⌜ Roomy (length (now work)) (length (now marks)) (length (now weights)) (length (now coords)) m k d rounds ⌝ }
-    requires { ⌜ HeldSmall h ⌝ }
-    ensures { λ q. ⌜ TriedAgain (resultOf (now (weights .entry)) (now (coords .entry)) m k d rounds (h .state)) (now (work .entry)) (now (work .exit)) (now (marks .entry)) (now (marks .exit)) m k d h q ⌝ }
+) -> Restarts
+    requires { ⌜ Runnable (length (now work)) (length (now marks)) (length (now weights)) (length (now coords)) m k d rounds ⌝ }
+    requires { ⌜ AtMost (ofRuns 64) (h .held .counts) ⌝ }
+    ensures { λ q. ⌜ Restarted (resultOf (now (weights .entry)) (now (coords .entry)) m k d rounds (h .generator))
+        (now (work .entry)) (now (work .exit)) (now (marks .entry)) (now (marks .exit)) m k d h q ⌝ }
 {
-    let kd = k * d;
-    let n = m * k + kd + kd + 4 * m + 8 * k;
-    let a = kmeans_layout::free_at(h.second, n);
-    let b = kmeans_layout::free_at(h.second, m + k);
-    let r = run_at(work, marks, weights, coords, h.state, m, k, d, rounds, a, b);
-    keep(h, r)
+    let held = h.held;
+    let a = kmeans_layout::free_at(held.second, kmeans_layout::half(m, k, d));
+    let b = kmeans_layout::free_at(held.second, m + k);
+    let r = run_at(
+        work,
+        marks,
+        weights,
+        coords,
+        h.generator,
+        m,
+        k,
+        d,
+        rounds,
+        a,
+        b,
+    );
+    let counts = r.counts;
+    let kept = kmeans_layout::keep(held, r.cohesion, counts);
+    Restarts {
+        held: kept,
+        generator: r.generator,
+    }
 }
 
 // All restarts; what is held in the end.
-fn restart(
+fn run_all(
     work: &mut [f64],
     marks: &mut [u32],
     weights: &[f64],
@@ -177,22 +168,26 @@ fn restart(
     d: usize,
     rounds: usize,
     restarts: usize,
-) -> Held
-    requires { ⌜ Roomy (length (now work)) (length (now marks)) (length (now weights)) (length (now coords)) m k d rounds ⌝ }
-    requires { ⌜ restarts ≤ 64 ⌝ }
-    ensures { λ h. ⌜ Holds (kmeansOf (now (weights .entry)) (now (coords .entry)) m k d rounds restarts seed) (now (work .exit)) (now (marks .exit)) m k d 64 h ⌝ }
+) -> Restarts
+    requires { ⌜ Runnable (length (now work)) (length (now marks)) (length (now weights)) (length (now coords)) m k d rounds ⌝ }
+    requires { ⌜ restarts ≤ mostRestarts ⌝ }
+    ensures { λ h. ⌜ Holds (kmeansOf (now (weights .entry)) (now (coords .entry)) m k d rounds restarts seed)
+        (now (work .exit)) (now (marks .exit)) m k d 64 h ⌝ }
 {
     let first = run_at(work, marks, weights, coords, seed, m, k, d, rounds, 0, 0);
-    let mut h = Held {
+    let counts = first.counts;
+    let held = kmeans_layout::Held {
         second: false,
-        cohesion: first.cohesion,
-        made: first.made,
-        saved: first.saved,
-        state: first.state,
+        value: first.cohesion,
+        counts,
+    };
+    let mut h = Restarts {
+        held,
+        generator: first.generator,
     };
     let mut t = 1;
     while t < restarts {
-        h = try_again(work, marks, weights, coords, h, m, k, d, rounds);
+        h = restart(work, marks, weights, coords, h, m, k, d, rounds);
         t += 1;
     }
     h
@@ -205,8 +200,7 @@ pub enum Clustered {
     Refused(u32),
     Done {
         cohesion: f64,
-        made: u64,
-        saved: u64,
+        counts: counts::Counts,
     },
 }
 
@@ -226,8 +220,7 @@ fn fill_outputs(
     ensures { λ _. ⌜ now (directions .exit) ≡ stateAt m k d (now (work .entry)) (now (marks .entry)) (heldAt second (half m k d)) (heldAt second (m + k)) .centers ++ drop (k * d) (now (directions .entry)) ⌝ }
 {
     let kd = k * d;
-    let n = m * k + kd + kd + 4 * m + 8 * k;
-    let a = kmeans_layout::held_at(second, n);
+    let a = kmeans_layout::held_at(second, kmeans_layout::half(m, k, d));
     let b = kmeans_layout::held_at(second, m + k);
     rows::copy_u32(&mut labels[..m], &marks[b..b + m]);
     rows::copy(&mut directions[..kd], &work[a..a + kd]);
@@ -267,7 +260,7 @@ pub fn spherical_kmeans(
         return Clustered::Refused(code);
     }
     let m = weights.len();
-    let h = restart(
+    let h = run_all(
         work,
         marks,
         weights,
@@ -279,10 +272,11 @@ pub fn spherical_kmeans(
         rounds,
         restarts,
     );
-    fill_outputs(labels, directions, work, marks, h.second, m, k, d);
+    let held = h.held;
+    fill_outputs(labels, directions, work, marks, held.second, m, k, d);
+    let counts = held.counts;
     Clustered::Done {
-        cohesion: h.cohesion,
-        made: h.made,
-        saved: h.saved,
+        cohesion: held.value,
+        counts,
     }
 }
