@@ -36,18 +36,7 @@ pub warm-sized : (work marks weights coords m k d rounds : ℕ) → Runnable wor
 warm-sized work marks weights coords m k d rounds r =
     record {
       sized =
-          record {
-            m-some = r .m-some;
-            m-small = r .area .m-small;
-            k-some = r .area .k-some;
-            k-small = r .area .k-small;
-            d-small = r .area .d-small;
-            kd-small = r .area .kd-small;
-            md-small = r .leaves .md-small;
-            work-long = r .warm-long;
-            marks-long = r .marks-long;
-            coords-long = r .leaves .coords-long;
-          };
+          record { sizes = r .area .sizes; work-long = r .warm-long; marks-long = r .marks-long; coords-long = r .leaves .coords-long };
       weights-long = r .leaves .weights-long;
       rounds-small = omega arith;
     }

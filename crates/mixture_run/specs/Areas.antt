@@ -6,6 +6,7 @@ use lib.ListN.{getD}
 use lib.Ieee.{Float, nan, binary64, add, mul}
 use Rattle.float.specs.declared.Four.{Four}
 use Rattle.rows.specs.Rows.{cut}
+use Rattle.limits.specs.Sizes.{Sizes}
 use Rattle.kmeans_layout.specs.Areas as areas
 use Rattle.mixture_run.specs.Mixture.{Model, Gathered, Em, likenessAt}
 use Rattle.mixture_run.specs.Fits.{Once}
@@ -106,20 +107,13 @@ abbrev pub fourLikenesses : ℕ → List Float → Model → List Float → ℕ 
 fourLikenesses d bases p x c =
     record { a = likenessAt d bases p x c; b = likenessAt d bases p x (c + 1); c = likenessAt d bases p x (c + 2); e = likenessAt d bases p x (c + 3) }
 
--- the length of an area and the limits: m leaves of d coordinates, k groups
+-- the length of an area: m leaves of d coordinates, k groups
 pub record Area (work m k d : ℕ) : Type 0 where
-  pub m-small : m ≤ 4096
-  pub k-some : 0 < k
-  pub k-small : k ≤ 64
-  pub d-some : 1 ≤ d
-  pub d-small : d ≤ 256
-  pub mk-small : m * k ≤ 262144
-  pub kd-small : k * d ≤ 16384
+  pub sizes : Sizes m k d
   pub work-long : total m k d ≤ work
 
 -- the leaves beside it
 pub record Leaves (weights coords m d : ℕ) : Type 0 where
-  pub md-small : m * d ≤ 1048576
   pub weights-long : weights ≡ m
   pub coords-long : coords ≡ m * d
 
@@ -139,7 +133,6 @@ Labels m k labels = (i : ℕ) → i < m → getD labels i 0 < k
 
 -- ---- a whole run
 pub record Runnable (work marks weights coords m k d rounds : ℕ) : Type 0 where
-  pub m-some : 0 < m
   pub area : Area work m k d
   pub warm-long : areas.total m k d ≤ work
   pub marks-long : m + k ≤ marks

@@ -128,7 +128,7 @@ fn based_at(work: &[f64], base: usize, kappa: usize, v: f64) -> f64
 // The likeness of leaf i to group c.
 fn likeness(work: &[f64], coords: &[f64], i: usize, c: usize, m: usize, k: usize, d: usize) -> f64
     requires { ⌜ Area (length (now work)) m k d ⌝ }
-    requires { ⌜ (length (now coords) ≡ m * d) × (m * d ≤ 1048576) × (LeafOf i m k d) × (GroupOf c k d) ⌝ }
+    requires { ⌜ (length (now coords) ≡ m * d) × (LeafOf i m k d) × (GroupOf c k d) ⌝ }
     ensures { λ r. ⌜ r ≡ likenessAt d (partsIn m k d (now (work .entry)) .bases) (modelOf (partsIn m k d (now (work .entry)))) (rowOf (now (coords .entry)) d i) c ⌝ }
 {
     let kd = k * d;
@@ -163,7 +163,7 @@ fn four_likenesses(
     d: usize,
 ) -> float::Four
     requires { ⌜ Area (length (now work)) m k d ⌝ }
-    requires { ⌜ (length (now coords) ≡ m * d) × (m * d ≤ 1048576) × (LeafOf i m k d) × (c + 4 ≤ k) × ((c + 4) * d ≤ k * d) ⌝ }
+    requires { ⌜ (length (now coords) ≡ m * d) × (LeafOf i m k d) × (c + 4 ≤ k) × ((c + 4) * d ≤ k * d) ⌝ }
     ensures { λ r. ⌜ r ≡ fourLikenesses d (partsIn m k d (now (work .entry)) .bases) (modelOf (partsIn m k d (now (work .entry)))) (rowOf (now (coords .entry)) d i) c ⌝ }
 {
     let kd = k * d;
@@ -188,7 +188,7 @@ fn put_four(work: &mut [f64], at: usize, f: float::Four)
 // The likenesses of leaf i stand where its responsibilities will: by fours, then singly.
 fn put_likenesses(work: &mut [f64], coords: &[f64], i: usize, m: usize, k: usize, d: usize)
     requires { ⌜ Area (length (now work)) m k d ⌝ }
-    requires { ⌜ (length (now coords) ≡ m * d) × (m * d ≤ 1048576) × (LeafOf i m k d) ⌝ }
+    requires { ⌜ (length (now coords) ≡ m * d) × (LeafOf i m k d) ⌝ }
     ensures { λ _. ⌜ partsIn m k d (now (work .exit))
         ≡ withResp (putPart (partsIn m k d (now (work .entry)) .resp) (i * k) k (likenesses k d (partsIn m k d (now (work .entry)) .bases) (modelOf (partsIn m k d (now (work .entry)))) (rowOf (now (coords .entry)) d i)))
         (partsIn m k d (now (work .entry))) ⌝ }
@@ -249,7 +249,7 @@ fn gather_group(
     d: usize,
 )
     requires { ⌜ Area (length (now work)) m k d ⌝ }
-    requires { ⌜ (length (now coords) ≡ m * d) × (m * d ≤ 1048576) × (LeafOf i m k d) × (GroupOf c k d) ⌝ }
+    requires { ⌜ (length (now coords) ≡ m * d) × (LeafOf i m k d) × (GroupOf c k d) ⌝ }
     ensures { λ _. ⌜ partsIn m k d (now (work .exit))
         ≡ withGathered (gatherGroup d (mul binary64 weight (getD (rowOf (partsIn m k d (now (work .entry)) .resp) k i) c nan)) (rowOf (now (coords .entry)) d i) c (gatheredOf (partsIn m k d (now (work .entry)))))
         (partsIn m k d (now (work .entry))) ⌝ }

@@ -28,7 +28,7 @@ put-likenesses-requires c κs =
     let s = c .before .before .before .before .before .before in
     let a = s .args in (
       area-of (length (a .work .now)) (length (l .work)) (a .m) (a .k) (a .d) (l .inv .1) (s .pre .0),
-      (s .pre .1 .coords-long, s .pre .1 .md-small, leaf-of (l .i) (a .m) (a .k) (a .d) (c .before .loop-test .taken)),
+      (s .pre .1 .coords-long, leaf-of (l .i) (a .m) (a .k) (a .d) (c .before .loop-test .taken)),
     )
 
 -- places, each from a later one

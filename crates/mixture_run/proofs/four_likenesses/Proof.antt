@@ -10,7 +10,7 @@ returns c =
     let f = c .before .row-dots in
     let b = c .before .before .before .before .before in
     let a = b .args in
-    c .based .ensures ∙ four-done (a .m) (a .k) (a .d) (a .work .now) (a .coords .now) (a .i) (a .c) (f .result) (b .pre .1 .3) (f .ensures)
+    c .based .ensures ∙ four-done (a .m) (a .k) (a .d) (a .work .now) (a .coords .now) (a .i) (a .c) (f .result) (b .pre .1 .2) (f .ensures)
 
 pub four-likenesses-spec : {M : Type 1} → statement M
 four-likenesses-spec =

@@ -10,21 +10,21 @@ use Rattle.mixture_run.proofs.gather_group.Tie as tie
 add-row-requires : tie.Need-add-row-requires
 add-row-requires c κs =
     let s = c .before .before .before .before .before in
-    (simp length-set (omega (arith, s .pre .0 .work-long, s .pre .1 .3 .row)), omega (arith, s .pre .1 .0, s .pre .1 .2 .row))
+    (simp length-set (omega (arith, s .pre .0 .work-long, s .pre .1 .2 .row)), omega (arith, s .pre .1 .0, s .pre .1 .1 .row))
 
 same-length : tie.Need-same-length
 same-length c =
     let g = c .before .before in
     let s = g .before .before .before .before .before .before in
     let a = s .args in
-    group-length (a .m) (a .k) (a .d) (a .work .now) (a .coords .now) (a .weight) (a .i) (a .c) (s .pre .0) (s .pre .1 .2) (s .pre .1 .3) (g .add-row .last .0) (g .add-row .kept .0)
+    group-length (a .m) (a .k) (a .d) (a .work .now) (a .coords .now) (a .weight) (a .i) (a .c) (s .pre .0) (s .pre .1 .1) (s .pre .1 .2) (g .add-row .last .0) (g .add-row .kept .0)
 
 returns : tie.Need-returns
 returns c =
     let g = c .before .before in
     let s = g .before .before .before .before .before .before in
     let a = s .args in
-    group-done (a .m) (a .k) (a .d) (a .work .now) (a .coords .now) (a .weight) (a .i) (a .c) (s .pre .0) (s .pre .1 .2) (s .pre .1 .3) (g .add-row .last .0) (g .add-row .ensures)
+    group-done (a .m) (a .k) (a .d) (a .work .now) (a .coords .now) (a .weight) (a .i) (a .c) (s .pre .0) (s .pre .1 .1) (s .pre .1 .2) (g .add-row .last .0) (g .add-row .ensures)
 
 pub gather-group-spec : {M : Type 1} → statement M
 gather-group-spec =

@@ -32,7 +32,7 @@ gather-group-requires c κs =
     let s = c .before .before .before .before .before .before .before in
     let a = s .args in (
       area-of _ _ (a .m) (a .k) (a .d) (l .inv .1) (s .pre .0),
-      (s .pre .1 .0 .coords-long, s .pre .1 .0 .md-small, s .pre .1 .1, group-of (l .c) (a .k) (a .d) (c .before .loop-test .taken)),
+      (s .pre .1 .0 .coords-long, s .pre .1 .1, group-of (l .c) (a .k) (a .d) (c .before .loop-test .taken)),
     )
 
 -- places, each from a later one

@@ -16,7 +16,7 @@ returns c =
     let row = a .c * a .d in
     c .based-at .ensures
     ∙ likeness-done (a .m) (a .k) (a .d) (a .work .now) (a .coords .now) (a .i) (a .c) (o .result) (kappa + a .k) kappa row (row + a .d - row) (omega arith) refl refl
-    (omega arith) (b .pre .1 .3 .below) (o .ensures)
+    (omega arith) (b .pre .1 .2 .below) (o .ensures)
 
 pub likeness-spec : {M : Type 1} → statement M
 likeness-spec =

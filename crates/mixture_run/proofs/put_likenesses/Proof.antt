@@ -36,14 +36,14 @@ four-likenesses-requires c κs =
     let a = b .args in
     let h : l .c + 4 ≤ a .k = omega (arith, c .before .loop-test .taken, l .inv .0) in (
       area-of (length (a .work .now)) (length (l .work)) (a .m) (a .k) (a .d) (l .inv .1) (b .pre .0),
-      (b .pre .1 .0, b .pre .1 .1, b .pre .1 .2, h, mul-le-mul-right (a .d) h),
+      (b .pre .1 .0, b .pre .1 .1, h, mul-le-mul-right (a .d) h),
     )
 
 put-four-requires : tie.Need-put-four-requires Inv-loop μ-loop Inv-loop2 μ-loop2
 put-four-requires c κs =
     let l = c .before .before .before .before .loop in
     let b = c .before .before .before .before .before .before .before in
-    omega (arith, c .before .before .before .loop-test .taken, l .inv .0, l .inv .1, b .pre .1 .2 .shares, b .pre .0 .work-long)
+    omega (arith, c .before .before .before .loop-test .taken, l .inv .0, l .inv .1, b .pre .1 .1 .shares, b .pre .0 .work-long)
 
 loop-again : tie.Need-loop-again Inv-loop μ-loop Inv-loop2 μ-loop2
 loop-again c =
@@ -55,7 +55,7 @@ loop-again c =
     let h : l .c + 4 ≤ a .k = omega (arith, f .before .before .loop-test .taken, l .inv .0) in (
       h,
       p .put-four .kept .0 ∙ l .inv .1,
-      liked-four (a .m) (a .k) (a .d) (a .work .now) (a .coords .now) (a .i) (b .pre .1 .2 .shares) (b .pre .0 .work-long) (l .work) (p .put-four .last .0) (l .c)
+      liked-four (a .m) (a .k) (a .d) (a .work .now) (a .coords .now) (a .i) (b .pre .1 .1 .shares) (b .pre .0 .work-long) (l .work) (p .put-four .last .0) (l .c)
           (f .four-likenesses .result) h (f .four-likenesses .ensures) (p .put-four .ensures) (l .inv .2),
     )
 
@@ -69,7 +69,7 @@ likeness-requires c κs =
     let b = c .before .before .before .before .before .before .before in
     let a = b .args in (
       area-of (length (a .work .now)) (length (l .work)) (a .m) (a .k) (a .d) (l .inv .1 ∙ c .before .before .before .before .loop .inv .1) (b .pre .0),
-      (b .pre .1 .0, b .pre .1 .1, b .pre .1 .2, group-of (l .c) (a .k) (a .d) (c .before .loop2-test .taken)),
+      (b .pre .1 .0, b .pre .1 .1, group-of (l .c) (a .k) (a .d) (c .before .loop2-test .taken)),
     )
 
 -- places, each from a later one
@@ -84,7 +84,7 @@ loop2-again c =
     let a = b .args in (
       omega arith,
       search needs,
-      λ w₀ e f. liked-turn (a .m) (a .k) (a .d) w₀ (a .coords .now) (a .i) (b .pre .1 .2 .shares) (omega (arith, b .pre .0 .work-long, u .inv .1, e)) (l .work) (l .c)
+      λ w₀ e f. liked-turn (a .m) (a .k) (a .d) w₀ (a .coords .now) (a .i) (b .pre .1 .1 .shares) (omega (arith, b .pre .0 .work-long, u .inv .1, e)) (l .work) (l .c)
           (c .likeness .result) (omega arith) (c .likeness .ensures) (l .inv .2 w₀ e f),
     )
 
