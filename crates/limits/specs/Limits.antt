@@ -64,6 +64,10 @@ groupsOk k m = leb 1 k && (leb k mostGroups && leb k m)
 abbrev pub roundsOk : ℕ → Bool
 roundsOk rounds = leb rounds mostRounds
 
+-- 5 for a bad weight, 6 for a bad coordinate, 0 for neither
+abbrev pub leavesRefusal : List Float → List Float → ℕ
+leavesRefusal weights coords = need (every weightOk weights) 5 (need (every coordinateOk coords) 6 0)
+
 -- leaves within the limits: what 1, 5 and 6 ask of them
 pub record LeavesOk (weights coords : List Float) (d : ℕ) : Type 0 where
   pub sizes-ok : sizesOk (length weights) d (length coords) ≡ true

@@ -1,7 +1,7 @@
 // The limits that the entries share (document 01, 'Leaves, settings, fit' and 'Refusals by call').
 ghost use mathlib.Core.Path.{_≡_};
 ghost use Prim.Native.Nat.{_≤_};
-ghost use Rattle.limits.specs.Limits.{weightOk, coordinateOk, every, sizesOk, groupsOk, workOk};
+ghost use Rattle.limits.specs.Limits.{weightOk, coordinateOk, every, leavesRefusal, sizesOk, groupsOk, workOk};
 
 // A weight from 0 to 2^40.
 fn weight_ok(w: f64) -> bool
@@ -45,6 +45,19 @@ pub fn coordinates_ok(xs: &[f64]) -> bool
         }
     }
     true
+}
+
+// 5 for a bad weight, 6 for a bad coordinate, 0 for neither.
+pub fn leaves_refusal(weights: &[f64], coords: &[f64]) -> u32
+    ensures { λ r. ⌜ r ≡ leavesRefusal (now (weights .entry)) (now (coords .entry)) ⌝ }
+{
+    if !weights_ok(weights) {
+        return 5;
+    }
+    if !coordinates_ok(coords) {
+        return 6;
+    }
+    0
 }
 
 // m and d within their limits, and m * d coordinates.

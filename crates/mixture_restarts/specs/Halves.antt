@@ -1,92 +1,75 @@
--- How two runs lie in the two halves of the lent work array, and what the functions on them ask. No definition of document 01 stands on this file.
+-- How the runs of a fit lie in the two halves of the lent work array, and what the functions on them ask and promise.
+-- No definition of document 01 stands on this file.
 use mathlib.Core.Path.{_≡_}
 use mathlib.Core.List.{List}
-use mathlib.Core.Bool.{Bool, true, false, not}
-use Prim.Native.Nat.{ℕ, _+_, _*_, _≤_, _<_}
-use lib.ListN.{take, drop}
-use lib.Ieee.{Float, le}
+use Prim.Native.Nat.{ℕ, _+_, _*_, _≤_}
+use lib.ListN.{take}
+use lib.Ieee.{Float}
 use Rattle.rows.specs.Rows.{part}
-use Rattle.kmeans_layout.specs.Halves.{half, heldAt, freeAt}
+use Rattle.counts.specs.Counts.{plusOf, AtMost, ofRuns}
+use Rattle.limits.specs.Limits.{mostRounds}
+use Rattle.limits.specs.Sizes.{Sizes}
+use Rattle.kmeans_layout.specs.Kept.{keptOf}
+use Rattle.kmeans_layout.specs.Halves.{half, heldAt, freeAt, OnlyAt}
+use Rattle.kmeans_layout.specs.declared.Held.{Held}
 use Rattle.mixture_run.specs.Mixture.{Em}
 use Rattle.mixture_run.specs.Fits.{Once}
 use Rattle.mixture_run.specs.Areas.{partsIn, emOf}
-use Rattle.mixture_run.specs.declared.Ran.{Ran}
-use Rattle.mixture_restarts.specs.declared.Held.{Held}
-use Rattle.mixture_keeper.specs.declared.Runs.{Runs}
-use Rattle.mixture_keeper.specs.Kept.{keptPart, keptLoglik}
+use Rattle.mixture_run.specs.declared.RunEnd.{RunEnd}
+use Rattle.mixture_restarts.specs.declared.Runs.{Runs}
 
--- what the run found whose half starts at place a
-abbrev pub emAt : ℕ → ℕ → ℕ → List Float → ℕ → Float → Em
-emAt m k d w a loglik = emOf (partsIn m k d (part w a (half m k d))) loglik
-
--- m leaves, k groups, both halves
-pub record Roomy (work marks weights coords m k d rounds : ℕ) : Type 0 where
-  pub m-some : 0 < m
-  pub m-small : m ≤ 4096
-  pub k-some : 0 < k
-  pub k-small : k ≤ 64
-  pub d-some : 1 ≤ d
-  pub d-small : d ≤ 256
-  pub mk-small : m * k ≤ 262144
-  pub kd-small : k * d ≤ 16384
-  pub md-small : m * d ≤ 1048576
+-- both halves lie in the f64 array
+pub record TwoHalves (work m k d : ℕ) : Type 0 where
+  pub sizes : Sizes m k d
   pub work-long : half m k d + half m k d ≤ work
+
+-- the u32 array and the leaves beside them
+pub record Runnable (work marks weights coords m k d rounds : ℕ) : Type 0 where
+  pub halves : TwoHalves work m k d
   pub marks-long : m + k ≤ marks
   pub weights-long : weights ≡ m
   pub coords-long : coords ≡ m * d
-  pub rounds-small : rounds ≤ 10000
+  pub rounds-small : rounds ≤ mostRounds
 
--- one half has a run, and the rest is as it was
-pub record Tried (once : Once) (w w' : List Float) (a m k d : ℕ) (r : Ran) : Type 0 where
+-- what the run found whose half starts at place a
+abbrev pub emAt : (m k d : ℕ) → List Float → (a : ℕ) → Float → Em
+emAt m k d w a loglik = emOf (partsIn m k d (part w a (half m k d))) loglik
+
+-- a run in the half that starts at a; nothing else is changed
+pub record RunAt (once : Once) (w w' : List Float) (a m k d : ℕ) (r : RunEnd) : Type 0 where
   pub there : emAt m k d w' a (r .loglik) ≡ once .em
-  pub front : take a w' ≡ take a w
-  pub back : drop (a + half m k d) w' ≡ drop (a + half m k d) w
-  pub made : r .made ≡ once .made
-  pub saved : r .saved ≡ once .saved
-  pub made-small : r .made ≤ 2621440000
-  pub saved-small : r .saved ≤ 2621440000
+  pub only : OnlyAt w w' a (half m k d)
+  pub counts : r .counts ≡ once .counts
+  pub small : AtMost (ofRuns 1) (r .counts)
 
--- what is held after t runs: its half, and the numbers; each run adds at most so much
+-- what is held after t runs
 pub record Holds (once : Once) (w : List Float) (m k d t : ℕ) (h : Held) : Type 0 where
-  pub there : emAt m k d w (heldAt (h .second) (half m k d)) (h .loglik) ≡ once .em
-  pub made : h .made ≡ once .made
-  pub saved : h .saved ≡ once .saved
-  pub made-small : h .made ≤ t * 2621440000
-  pub saved-small : h .saved ≤ t * 2621440000
+  pub there : emAt m k d w (heldAt (h .second) (half m k d)) (h .value) ≡ once .em
+  pub counts : h .counts ≡ once .counts
+  pub small : AtMost (ofRuns t) (h .counts)
 
--- ---- with one run more
-pub record HeldSmall (h : Held) : Type 0 where
-  pub made : h .made ≤ 10485760000
-  pub saved : h .saved ≤ 10485760000
-
-pub record Addable (h : Held) (r : Ran) : Type 0 where
-  pub held : HeldSmall h
-  pub made : r .made ≤ 2621440000
-  pub saved : r .saved ≤ 2621440000
-
--- a run replaces the held one unless its log-likelihood is ≤ the held one's
-abbrev pub keptBy : Bool → Held → Ran → Held
-keptBy true h r =
-    record { second = h .second; loglik = h .loglik; made = h .made + r .made; saved = h .saved + r .saved }
-keptBy false h r =
-    record { second = not (h .second); loglik = r .loglik; made = h .made + r .made; saved = h .saved + r .saved }
-
-abbrev pub keptHeld : Held → Ran → Held
-keptHeld h r = keptBy (le (r .loglik) (h .loglik)) h r
-
--- ---- the last two runs, of which one will be kept: the held one and the last, each in its half, and the counts of all
+-- the last two runs, of which one will be kept: the held one and the last, each in its half, and the counts of all
 pub record Both (held last : Once) (w : List Float) (m k d : ℕ) (r : Runs) : Type 0 where
   pub there : emAt m k d w (heldAt (r .second) (half m k d)) (r .held) ≡ held .em
   pub beside : emAt m k d w (freeAt (r .second) (half m k d)) (r .last) ≡ last .em
-  pub made : r .made ≡ held .made + last .made
-  pub saved : r .saved ≡ held .saved + last .saved
-  pub made-small : r .made ≤ 10485760000
-  pub saved-small : r .saved ≤ 10485760000
+  pub counts : r .counts ≡ plusOf (held .counts) (last .counts)
+  pub small : AtMost (ofRuns 4) (r .counts)
+
+-- ---- the keeper
+
+-- the kept part of two, and its log-likelihood
+abbrev pub keptPart : (held run : List Float) → ℕ → (heldLoglik runLoglik : Float) → List Float
+keptPart held run n heldLoglik runLoglik = keptOf heldLoglik runLoglik (take n held) (take n run)
+
+abbrev pub keptLoglik : (held run : Float) → Float
+keptLoglik held run = keptOf held run held run
+
+-- of the last two runs
+abbrev pub keptPartOf : (m k d : ℕ) → List Float → Runs → List Float
+keptPartOf m k d w r =
+    let n = half m k d in
+    keptPart (part w (heldAt (r .second) n) n) (part w (freeAt (r .second) n) n) n (r .held) (r .last)
 
 -- what the kept one found
-abbrev pub keptEm : ℕ → ℕ → ℕ → List Float → Runs → Em
-keptEm m k d w r =
-    emOf
-    (partsIn m k d
-    (keptPart (part w (heldAt (r .second) (half m k d)) (half m k d)) (part w (freeAt (r .second) (half m k d)) (half m k d)) (half m k d) (r .held) (r .last)))
-    (keptLoglik (r .held) (r .last))
+abbrev pub keptEm : (m k d : ℕ) → List Float → Runs → Em
+keptEm m k d w r = emOf (partsIn m k d (keptPartOf m k d w r)) (keptLoglik (r .held) (r .last))

@@ -1,42 +1,35 @@
 -- Document 01, 'Mixture': the four runs of `movmf_with`, and which of them is kept. Definitions only.
 use mathlib.Core.List.{List}
-use mathlib.Core.Bool.{Bool, true, false}
-use Prim.Native.Nat.{ℕ, zero, suc, _+_}
-use lib.Ieee.{Float, le}
+use Prim.Native.Nat.{ℕ, zero, suc}
+use lib.Ieee.{Float}
 use Rattle.rng.specs.SplitMix.{restartSeedOf}
-use Rattle.mixture_run.specs.Mixture.{Em}
+use Rattle.counts.specs.Counts.{plusOf}
+use Rattle.kmeans_layout.specs.Kept.{keptOf}
 use Rattle.mixture_run.specs.Fits.{Once, onceOf}
 use Rattle.mixture_kappa.specs.declared.Settings.{Settings}
 
--- what a run found, with the counts of two
-abbrev pub counted : Em → Once → Once → Once
-counted em held run =
+-- a run replaces the held one unless its log-likelihood is ≤ the held one's; the counts are those of both
+abbrev pub keep : Once → Once → Once
+keep held run =
     record {
-      em = em;
-      made = held .made + run .made;
-      saved = held .saved + run .saved;
+      em = keptOf (held .em .loglik) (run .em .loglik) (held .em) (run .em);
+      counts = plusOf (held .counts) (run .counts);
     }
 
--- a run replaces the held one unless its log-likelihood is ≤ the held one's, so a NaN replaces and is replaced
-abbrev pub keepBy : Bool → Once → Once → Once
-keepBy true held run = counted (held .em) held run
-keepBy false held run = counted (run .em) held run
-
-abbrev pub keep : Once → Once → Once
-keep held run = keepBy (le (run .em .loglik) (held .em .loglik)) held run
-
--- run t: seed + t·0x9E3779B9, modulo 2^64
+-- seed + t·0x9E3779B9, modulo 2^64
 abbrev pub settingsOf : Settings → ℕ → Settings
 settingsOf s t = record { rounds = s .rounds; seed = restartSeedOf (s .seed) t; kappa = s .kappa }
 
-abbrev pub runOf : Settings → List Float → List Float → ℕ → ℕ → ℕ → ℕ → Once
-runOf s weights coords m k d t = onceOf (settingsOf s t) weights coords m k d
+module _ (s : Settings) (weights coords : List Float) (m k d : ℕ) where
+  -- run t
+  abbrev pub runOf : ℕ → Once
+  runOf t = onceOf (settingsOf s t) weights coords m k d
 
--- the first run and n more
-unfoldable pub runsUpTo : Settings → List Float → List Float → ℕ → ℕ → ℕ → ℕ → Once
-runsUpTo s weights coords m k d zero = runOf s weights coords m k d 0
-runsUpTo s weights coords m k d (suc n) = keep (runsUpTo s weights coords m k d n) (runOf s weights coords m k d (suc n))
+  -- the first run and n more
+  unfoldable pub runsUpTo : ℕ → Once
+  runsUpTo zero = runOf 0
+  runsUpTo (suc n) = keep (runsUpTo n) (runOf (suc n))
 
--- four runs: what the fit keeps, and the counts of all of them
-abbrev pub fitOf : Settings → List Float → List Float → ℕ → ℕ → ℕ → Once
-fitOf s weights coords m k d = runsUpTo s weights coords m k d 3
+  -- four runs: what the fit keeps, and the counts of all of them
+  abbrev pub fitOf : Once
+  fitOf = runsUpTo 3

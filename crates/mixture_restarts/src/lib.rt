@@ -1,11 +1,12 @@
-// The four runs of a mixture fit (vmf.rs, movmf_with; document 01, 'Mixture'): they stand in turn in the two halves of the lent work array, so that the held one and the
-// last one are there at the end.
+// The four runs of a mixture fit (vmf.rs, movmf_with; document 01, 'Mixture'): they stand in turn in the two halves of the
+// lent work array, so that the held one and the last one are there at the end; the keeper hands back the part of the kept
+// one and makes no copy.
 ghost use mathlib.Core.Path.{_≡_};
 ghost use Prim.Native.Nat.{_+_, _≤_};
 ghost use lib.ListN.{length};
 ghost use Rattle.kmeans_layout.specs.Halves.{half, freeAt};
 ghost use Rattle.mixture_restarts.specs.Runs.{runOf, runsUpTo};
-ghost use Rattle.mixture_restarts.specs.Halves.{Roomy, Tried, Holds, Addable, keptHeld, Both};
+ghost use Rattle.mixture_restarts.specs.Halves.{TwoHalves, Runnable, RunAt, Holds, Both, keptPart, keptLoglik, keptPartOf};
 
 // Run t in the half that starts at a.
 fn run_at(
@@ -19,13 +20,13 @@ fn run_at(
     k: usize,
     d: usize,
     a: usize,
-) -> mixture_run::Ran
-    requires { ⌜ Roomy (length (now work)) (length (now marks)) (length (now weights)) (length (now coords)) m k d (s .rounds) ⌝ }
+) -> mixture_run::RunEnd
+    requires { ⌜ Runnable (length (now work)) (length (now marks)) (length (now weights)) (length (now coords)) m k d (s .rounds) ⌝ }
     requires { ⌜ a + half m k d ≤ length (now work) ⌝ }
-    ensures { λ r. ⌜ Tried (runOf s (now (weights .entry)) (now (coords .entry)) m k d t) (now (work .entry)) (now (work .exit)) a m k d r ⌝ }
+    ensures { λ r. ⌜ RunAt (runOf s (now (weights .entry)) (now (coords .entry)) m k d t)
+        (now (work .entry)) (now (work .exit)) a m k d r ⌝ }
 {
-    let kd = k * d;
-    let n = m * k + kd + kd + 4 * m + 8 * k;
+    let n = kmeans_layout::half(m, k, d);
     let kappa = s.kappa;
     let own = mixture_kappa::Settings {
         rounds: s.rounds,
@@ -33,37 +34,6 @@ fn run_at(
         kappa,
     };
     mixture_run::movmf_once(&mut work[a..a + n], marks, weights, coords, own, m, k, d)
-}
-
-// What is held: which half, its log-likelihood, and the counts of all runs so far.
-pub struct Held {
-    pub second: bool,
-    pub loglik: f64,
-    pub made: u64,
-    pub saved: u64,
-}
-
-// With one run more, which stands in the free half.
-fn keep(h: Held, r: mixture_run::Ran) -> Held
-    requires { ⌜ Addable h r ⌝ }
-    ensures { λ q. ⌜ q ≡ keptHeld h r ⌝ }
-{
-    let made = h.made + r.made;
-    let saved = h.saved + r.saved;
-    if r.loglik <= h.loglik {
-        return Held {
-            second: h.second,
-            loglik: h.loglik,
-            made,
-            saved,
-        };
-    }
-    Held {
-        second: !h.second,
-        loglik: r.loglik,
-        made,
-        saved,
-    }
 }
 
 // Run t in the free half.
@@ -78,13 +48,12 @@ fn run_beside(
     k: usize,
     d: usize,
     second: bool,
-) -> mixture_run::Ran
-    requires { ⌜ Roomy (length (now work)) (length (now marks)) (length (now weights)) (length (now coords)) m k d (s .rounds) ⌝ }
-    ensures { λ r. ⌜ Tried (runOf s (now (weights .entry)) (now (coords .entry)) m k d t) (now (work .entry)) (now (work .exit)) (freeAt second (half m k d)) m k d r ⌝ }
+) -> mixture_run::RunEnd
+    requires { ⌜ Runnable (length (now work)) (length (now marks)) (length (now weights)) (length (now coords)) m k d (s .rounds) ⌝ }
+    ensures { λ r. ⌜ RunAt (runOf s (now (weights .entry)) (now (coords .entry)) m k d t)
+        (now (work .entry)) (now (work .exit)) (freeAt second (half m k d)) m k d r ⌝ }
 {
-    let kd = k * d;
-    let n = m * k + kd + kd + 4 * m + 8 * k;
-    let a = kmeans_layout::free_at(second, n);
+    let a = kmeans_layout::free_at(second, kmeans_layout::half(m, k, d));
     run_at(work, marks, weights, coords, s, t, m, k, d, a)
 }
 
@@ -98,24 +67,34 @@ fn first_runs(
     m: usize,
     k: usize,
     d: usize,
-) -> Held
-    requires { ⌜ Roomy (length (now work)) (length (now marks)) (length (now weights)) (length (now coords)) m k d (s .rounds) ⌝ }
+) -> kmeans_layout::Held
+    requires { ⌜ Runnable (length (now work)) (length (now marks)) (length (now weights)) (length (now coords)) m k d (s .rounds) ⌝ }
     ensures { λ h. ⌜ Holds (runsUpTo s (now (weights .entry)) (now (coords .entry)) m k d 2) (now (work .exit)) m k d 3 h ⌝ }
 {
     let first = run_at(work, marks, weights, coords, s, 0, m, k, d, 0);
-    let mut h = Held {
+    let counts = first.counts;
+    let mut h = kmeans_layout::Held {
         second: false,
-        loglik: first.loglik,
-        made: first.made,
-        saved: first.saved,
+        value: first.loglik,
+        counts,
     };
     let mut t = 1;
     while t < 3 {
         let r = run_beside(work, marks, weights, coords, s, t, m, k, d, h.second);
-        h = keep(h, r);
+        let more = r.counts;
+        h = kmeans_layout::keep(h, r.loglik, more);
         t += 1;
     }
     h
+}
+
+// Four runs: the one held of the first three stands in the half that `second` names and has the log-likelihood `held`, the
+// last one in the other and has `last`. The counts are those of all four.
+pub struct Runs {
+    pub second: bool,
+    pub held: f64,
+    pub last: f64,
+    pub counts: counts::Counts,
 }
 
 // All four runs.
@@ -128,17 +107,58 @@ pub fn four_runs(
     m: usize,
     k: usize,
     d: usize,
-) -> mixture_keeper::Runs
-    requires { ⌜ Roomy (length (now work)) (length (now marks)) (length (now weights)) (length (now coords)) m k d (s .rounds) ⌝ }
-    ensures { λ r. ⌜ Both (runsUpTo s (now (weights .entry)) (now (coords .entry)) m k d 2) (runOf s (now (weights .entry)) (now (coords .entry)) m k d 3) (now (work .exit)) m k d r ⌝ }
+) -> Runs
+    requires { ⌜ Runnable (length (now work)) (length (now marks)) (length (now weights)) (length (now coords)) m k d (s .rounds) ⌝ }
+    ensures { λ r. ⌜ Both (runsUpTo s (now (weights .entry)) (now (coords .entry)) m k d 2)
+        (runOf s (now (weights .entry)) (now (coords .entry)) m k d 3) (now (work .exit)) m k d r ⌝ }
 {
     let h = first_runs(work, marks, weights, coords, s, m, k, d);
     let r = run_beside(work, marks, weights, coords, s, 3, m, k, d, h.second);
-    mixture_keeper::Runs {
+    let before = h.counts;
+    let more = r.counts;
+    let counts = counts::plus(before, more);
+    Runs {
         second: h.second,
-        held: h.loglik,
+        held: h.value,
         last: r.loglik,
-        made: h.made + r.made,
-        saved: h.saved + r.saved,
+        counts,
     }
+}
+
+// ---- the keeper
+
+// Of two runs in two areas, the part of the kept one: that of the run, unless its log-likelihood is at most the held one's.
+fn keeper<'a>(
+    held: &'a [f64],
+    run: &'a [f64],
+    n: usize,
+    held_loglik: f64,
+    run_loglik: f64,
+) -> &'a [f64]
+    requires { ⌜ (n ≤ length (now held)) × (n ≤ length (now run)) ⌝ }
+    ensures { λ r. ⌜ now r ≡ keptPart (now (held .entry)) (now (run .entry)) n «held_loglik» «run_loglik» ⌝ }
+{
+    if run_loglik <= held_loglik {
+        &held[..n]
+    } else {
+        &run[..n]
+    }
+}
+
+// The kept one's log-likelihood.
+pub fn kept_loglik(r: Runs) -> f64
+    ensures { λ q. ⌜ q ≡ keptLoglik (r .held) (r .last) ⌝ }
+{
+    if r.last <= r.held { r.held } else { r.last }
+}
+
+// The kept one's part of the work array.
+pub fn kept_part<'a>(work: &'a [f64], r: Runs, m: usize, k: usize, d: usize) -> &'a [f64]
+    requires { ⌜ TwoHalves (length (now work)) m k d ⌝ }
+    ensures { λ q. ⌜ now q ≡ keptPartOf m k d (now (work .entry)) r ⌝ }
+{
+    let n = kmeans_layout::half(m, k, d);
+    let a = kmeans_layout::held_at(r.second, n);
+    let b = kmeans_layout::free_at(r.second, n);
+    keeper(&work[a..a + n], &work[b..b + n], n, r.held, r.last)
 }

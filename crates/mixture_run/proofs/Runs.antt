@@ -13,7 +13,7 @@ use Rattle.kmeans_lloyd.specs.Results.{Result}
 use Rattle.kmeans_layout.specs.Areas.{stateIn}
 use Rattle.kmeans_lloyd.specs.Runs.{RunLeft}
 use Rattle.kmeans_lloyd.specs.Runs as lloyd
-use Rattle.kmeans_lloyd.specs.declared.Ran as lloyd-ran
+use Rattle.kmeans_lloyd.specs.declared.RunEnd as warm-end
 use Rattle.kmeans_layout.proofs.Regions.{centers-are, labels-are}
 use Rattle.mixture_kappa.specs.Kappas.{kappasOf}
 use Rattle.mixture_run.specs.Mixture.{evenWeight, emFrom}
@@ -54,13 +54,13 @@ module _ (weights coords : List Float) (m k d : ℕ) (w : List Float) (u : List 
       sym (whole-in sumsR m k d w (k * d) (k * d) (omega arith) refl) ∙ l .sums ∙ ap (λ (x : List ℕ). sumsUpTo weights coords x k d m) e
 
 -- ---- a whole run
-pub run-done : (s : Settings) (weights coords : List Float) (m k d : ℕ) (w₁ w₂ w₃ w₄ : List Float) (u : List ℕ) (x : lloyd-ran.Ran) (r : Float)
+pub run-done : (s : Settings) (weights coords : List Float) (m k d : ℕ) (w₁ w₂ w₃ w₄ : List Float) (u : List ℕ) (x : warm-end.RunEnd) (r : Float)
     → lloyd.RunDone (warmOf weights coords m k d (s .seed)) (stateIn m k d w₁ u) x → RunLeft weights coords m k d w₁ u
     → partsIn m k d w₂ .directions ≡ partsIn m k d w₁ .directions
     → partsIn m k d w₂ .kappas ≡ startKappasBy (s .kappa) k d (partsIn m k d w₁ .sums) (labelTotalsUpTo weights (take m u) k m)
     → partsIn m k d w₃ ≡ withResp (replicate (m * k) plusZero) (withWeights (replicate k (evenWeight k)) (partsIn m k d w₂))
     → emOf (partsIn m k d w₄) r ≡ emFrom (s .kappa) weights coords m k d (s .rounds) 0 (emOf (partsIn m k d w₃) (inf true))
-    → RunDone (onceOf s weights coords m k d) (partsIn m k d w₄) (record { loglik = r; made = x .made; saved = x .saved })
+    → RunDone (onceOf s weights coords m k d) (partsIn m k d w₄) (record { loglik = r; counts = x .counts })
 unfolding onceOf
 run-done s weights coords m k d w₁ w₂ w₃ w₄ u x r done left directed concentrated cleared rounds =
     let warm = warmOf weights coords m k d (s .seed) in
@@ -72,8 +72,6 @@ run-done s weights coords m k d w₁ w₂ w₃ w₄ u x r done left directed con
     let start : emOf (partsIn m k d w₃) (inf true) ≡ startFrom (s .kappa) weights coords m k d warm = rw (cleared, dirs, kappas) in
     record {
       em = rounds ∙ ap (emFrom (s .kappa) weights coords m k d (s .rounds) 0) start;
-      made = done .made;
-      saved = done .saved;
-      made-small = done .made-small;
-      saved-small = done .saved-small;
+      counts = done .counts;
+      small = done .small;
     }

@@ -5,12 +5,13 @@ use Prim.Native.Nat.{ℕ, _+_, _*_, _≤_, _<_}
 use lib.ListN.{getD}
 use lib.Ieee.{Float, nan, binary64, add, mul}
 use Rattle.float.specs.declared.Four.{Four}
+use Rattle.counts.specs.Counts.{AtMost, ofRuns}
 use Rattle.rows.specs.Rows.{cut}
 use Rattle.limits.specs.Sizes.{Sizes}
 use Rattle.kmeans_layout.specs.Areas as areas
 use Rattle.mixture_run.specs.Mixture.{Model, Gathered, Em, likenessAt}
 use Rattle.mixture_run.specs.Fits.{Once}
-use Rattle.mixture_run.specs.declared.Ran.{Ran}
+use Rattle.mixture_run.specs.declared.RunEnd.{RunEnd}
 
 -- the regions: directions, resultants, then of each group its weight, concentration, base, whole weight and length of resultant, then the responsibilities
 pub record Parts : Type 0 where
@@ -139,9 +140,7 @@ pub record Runnable (work marks weights coords m k d rounds : ℕ) : Type 0 wher
   pub leaves : Leaves weights coords m d
   pub rounds-small : rounds ≤ 10000
 
-pub record RunDone (once : Once) (p : Parts) (r : Ran) : Type 0 where
+pub record RunDone (once : Once) (p : Parts) (r : RunEnd) : Type 0 where
   pub em : emOf p (r .loglik) ≡ once .em
-  pub made : r .made ≡ once .made
-  pub saved : r .saved ≡ once .saved
-  pub made-small : r .made ≤ 2621440000
-  pub saved-small : r .saved ≤ 2621440000
+  pub counts : r .counts ≡ once .counts
+  pub small : AtMost (ofRuns 1) (r .counts)

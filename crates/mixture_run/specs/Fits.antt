@@ -6,6 +6,7 @@ use lib.ListN.{getD, set, replicate}
 use lib.Ieee.{Float, nan, inf, binary64, add}
 use Rattle.float.specs.Arithmetic.{f64, plusZero, sumFrom, maxOf}
 use Rattle.logarithm.specs.Logarithm.{lnOf}
+use Rattle.counts.specs.declared.Counts.{Counts}
 use Rattle.rows.specs.Rows.{rowOf}
 use Rattle.pick.specs.Places.{argmaxOf}
 use Rattle.kmeans_sums.specs.Sums.{normsUpTo, sumsUpTo}
@@ -55,15 +56,13 @@ warmOf weights coords m k d seed = resultOf weights coords m k d warmRounds seed
 -- ---- one run: what the rounds leave, and the counts of its warm start
 pub record Once : Type 0 where
   pub em : Em
-  pub made : ℕ
-  pub saved : ℕ
+  pub counts : Counts
 
 abbrev pub onceFrom : Settings → List Float → List Float → ℕ → ℕ → ℕ → Result → Once
 onceFrom s weights coords m k d warm =
     record {
       em = emFrom (s .kappa) weights coords m k d (s .rounds) 0 (startFrom (s .kappa) weights coords m k d warm);
-      made = warm .made;
-      saved = warm .saved;
+      counts = warm .counts;
     }
 
 unfoldable pub onceOf : Settings → List Float → List Float → ℕ → ℕ → ℕ → Once

@@ -527,10 +527,9 @@ fn clear(work: &mut [f64], m: usize, k: usize, d: usize)
 }
 
 // What a run answers: its log-likelihood, and the counts of its warm start.
-pub struct Ran {
+pub struct RunEnd {
     pub loglik: f64,
-    pub made: u64,
-    pub saved: u64,
+    pub counts: counts::Counts,
 }
 
 // One run: the warm start, the concentrations of its groups, and the rounds. What it found stays in the area.
@@ -543,7 +542,7 @@ pub fn movmf_once(
     m: usize,
     k: usize,
     d: usize,
-) -> Ran
+) -> RunEnd
     requires { ⌜ Runnable (length (now work)) (length (now marks)) (length (now weights)) (length (now coords)) m k d (s .rounds) ⌝ }
     ensures { λ r. ⌜ RunDone (onceOf s (now (weights .entry)) (now (coords .entry)) m k d) (partsIn m k d (now (work .exit))) r ⌝ }
 {
@@ -552,9 +551,6 @@ pub fn movmf_once(
     init_kappas(work, marks, weights, kappa, m, k, d);
     clear(work, m, k, d);
     let loglik = em(work, weights, coords, kappa, s.rounds, m, k, d);
-    Ran {
-        loglik,
-        made: warm.made,
-        saved: warm.saved,
-    }
+    let counts = warm.counts;
+    RunEnd { loglik, counts }
 }

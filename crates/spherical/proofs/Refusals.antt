@@ -1,18 +1,29 @@
--- What it says that nothing is refused, and the first refusal by what each test answered. By cases on the Bools of the tests. Assumes nothing.
+-- What it says that nothing is refused. By cases on the Bools of the tests. Assumes nothing.
 use mathlib.Core.Path.{_≡_}
 use mathlib.Core.List.{List}
-use mathlib.Core.Bool.{Bool, _&&_}
 use Prim.Native.Nat.{ℕ, _*_, _≤_}
 use lib.Dec.{leb}
 use lib.ListN.{length}
 use lib.Ieee.{Float}
 use borrow.Author.Tests.{leb-true}
-use Rattle.limits.specs.Limits.{need, weightOk, coordinateOk, every, workLength, marksLength, sizesOk, groupsOk, roundsOk,
-    mostRounds, mostRestarts, LeavesOk}
+use Rattle.limits.specs.Limits.{
+  need,
+  weightOk,
+  coordinateOk,
+  every,
+  workLength,
+  marksLength,
+  sizesOk,
+  groupsOk,
+  roundsOk,
+  mostRounds,
+  mostRestarts,
+  LeavesOk,
+}
 use Rattle.limits.specs.Sizes.{Sizes}
 use Rattle.limits.proofs.Limits.{both, admitted, sizes-met, groups-met}
 use Rattle.limits.proofs.Sizes.{sizes-of}
-use Rattle.spherical.specs.Refusals.{restartsOk, arraysOk, refusalOf}
+use Rattle.spherical.specs.Refusals.{restartsOk, refusalOf}
 
 -- what it says that nothing is refused
 pub record Ready (weights coords : List Float) (d k rounds restarts labels directions work marks : ℕ) : Type 0 where
@@ -51,12 +62,3 @@ module _ (weights coords : List Float) (d k rounds restarts labels directions wo
         marks-long = leb-true _ _ (a3 .1);
         leaves = record { sizes-ok = t .sizes-ok; weights-ok = t .weights-ok; coords-ok = t .coords-ok };
       }
-
-  -- the first refusal by what each test answered
-  pub refusal-by : (sizes groups within again arrays ws xs : Bool) → sizesOk (length weights) d (length coords) ≡ sizes → groupsOk k (length weights) ≡ groups
-      → roundsOk rounds ≡ within → restartsOk restarts ≡ again → arraysOk (length weights) k d labels directions work marks ≡ arrays
-      → every weightOk weights ≡ ws → every coordinateOk coords ≡ xs
-      → refusalOf weights coords d k rounds restarts labels directions work marks
-      ≡ need sizes 1 (need groups 2 (need (within && again) 3 (need arrays 4 (need ws 5 (need xs 6 0)))))
-  unfolding refusalOf
-  refusal-by sizes groups within again arrays ws xs e1 e2 e3 e4 e5 e6 e7 = rw (e1, e2, e3, e4, e5, e6, e7)

@@ -5,23 +5,22 @@ use Prim.Native.Nat.{ℕ, _*_}
 use lib.Dec.{leb}
 use lib.ListN.{length}
 use lib.Ieee.{Float}
-use Rattle.limits.specs.Limits.{need, weightOk, coordinateOk, every, workOk, sizesOk, groupsOk, roundsOk, mostRestarts}
+use Rattle.limits.specs.Limits.{need, leavesRefusal, workOk, sizesOk, groupsOk, roundsOk, mostRestarts}
 
 -- 3 if restarts are above 64
 abbrev pub restartsOk : ℕ → Bool
 restartsOk restarts = leb restarts mostRestarts
 
 -- 4 if an output or work array is too short: labels m, directions k·d
-abbrev pub arraysOk : ℕ → ℕ → ℕ → ℕ → ℕ → ℕ → ℕ → Bool
+abbrev pub arraysOk : (m k d labels directions work marks : ℕ) → Bool
 arraysOk m k d labels directions work marks =
     leb m labels && (leb (k * d) directions && workOk m k d work marks)
 
--- the first refusal that holds, in this order, or 0; of the arrays only the lengths count, but of weights and coordinates the values
-unfoldable pub refusalOf : List Float → List Float → ℕ → ℕ → ℕ → ℕ → ℕ → ℕ → ℕ → ℕ → ℕ
+-- the first refusal that holds, in this order, or 0; of the arrays only the lengths count, but of weights and
+-- coordinates the values
+unfoldable pub refusalOf : (weights coords : List Float) (d k rounds restarts labels directions work marks : ℕ) → ℕ
 refusalOf weights coords d k rounds restarts labels directions work marks =
     need (sizesOk (length weights) d (length coords)) 1
     (need (groupsOk k (length weights)) 2
     (need (roundsOk rounds && restartsOk restarts) 3
-    (need (arraysOk (length weights) k d labels directions work marks) 4
-    (need (every weightOk weights) 5
-    (need (every coordinateOk coords) 6 0)))))
+    (need (arraysOk (length weights) k d labels directions work marks) 4 (leavesRefusal weights coords))))

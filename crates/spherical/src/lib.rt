@@ -64,13 +64,7 @@ fn refusal(
     if !arrays_ok(m, k, d, labels, directions, work, marks) {
         return 4;
     }
-    if !limits::weights_ok(weights) {
-        return 5;
-    }
-    if !limits::coordinates_ok(coords) {
-        return 6;
-    }
-    0
+    limits::leaves_refusal(weights, coords)
 }
 
 // ---- restarts in two halves

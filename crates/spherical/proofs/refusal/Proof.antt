@@ -1,127 +1,76 @@
--- Each return by the law that gives the first refusal from what each test answered; the limits that the arrays' test asks for are those passed before. Assumes
--- nothing.
-use mathlib.Core.Path.{_≡_, refl, sym, _∙_}
-use mathlib.Core.Bool.{true, false}
+-- `spherical::refusal` meets its contract: each return by what the tests before it answered; the limits that the arrays'
+-- test asks for are those passed before. Assumes nothing.
+use mathlib.Core.Path.{_≡_, sym, _∙_}
+use mathlib.Core.Bool.{true}
 use lib.ListN.{length}
 use borrow.Author.Needs.{needs}
 use borrow.Author.Tests.{le-leb, lt-leb, not-true, not-false}
-use Rattle.limits.specs.Limits.{weightOk, every, sizesOk, groupsOk, roundsOk}
-use Rattle.spherical.specs.Refusals.{restartsOk, arraysOk}
+use Rattle.limits.specs.Limits.{sizesOk, groupsOk, roundsOk, mostRounds, mostRestarts}
 use Rattle.limits.proofs.Limits.{sizes-met, groups-met}
-use Rattle.spherical.proofs.Refusals.{refusal-by}
+use Rattle.spherical.specs.Refusals.{restartsOk, refusalOf}
 use Rattle.spherical.proofs.refusal.Statement.{statement}
 use Rattle.spherical.proofs.refusal.Tie as tie
 
--- the tests that were passed
-sizes-passed : (c : tie.Else1) → let a = c .before .before .before .before .args in sizesOk (length (a .weights .now)) (a .d) (length (a .coords .now)) ≡ true
+-- past each test
+abbrev start : tie.Else1 → tie.Start
+start c = c .before .before .before .before
+
+abbrev first : tie.Else2 → tie.Else1
+first c = c .before .before
+
+sizes-passed : (c : tie.Else1) → let a = start c .args in sizesOk (length (a .weights .now)) (a .d) (length (a .coords .now)) ≡ true
 sizes-passed c = sym (c .before .sizes-ok .ensures) ∙ not-false _ (c .if1 .left)
 
-groups-passed : (c : tie.Else2) → let a = c .before .before .before .before .before .before .args in groupsOk (a .k) (length (a .weights .now)) ≡ true
+groups-passed : (c : tie.Else2) → let a = start (first c) .args in groupsOk (a .k) (length (a .weights .now)) ≡ true
 groups-passed c = sym (c .before .groups-ok .ensures) ∙ not-false _ (c .if2 .left)
 
-rounds-passed : (c : tie.Else3) → let a = c .before .before .before .before .before .before .before .args in roundsOk (a .rounds) ≡ true
-rounds-passed c = le-leb _ _ (c .if3 .left)
+rounds-passed : (c : tie.Else3) → roundsOk (start (first (c .before)) .args .rounds) ≡ true
+rounds-passed c = le-leb _ mostRounds (c .if3 .left)
 
-restarts-passed : (c : tie.Else4) → let a = c .before .before .before .before .before .before .before .before .args in restartsOk (a .restarts) ≡ true
-restarts-passed c = le-leb _ _ (c .if4 .left)
-
-arrays-passed : (c : tie.Else5)
-    → let a = c .before .before .before .before .before .before .before .before .before .before .args in
-    arraysOk (length (a .weights .now)) (a .k) (a .d) (a .labels) (a .directions) (a .work) (a .marks) ≡ true
-arrays-passed c = sym (c .before .arrays-ok .ensures) ∙ not-false _ (c .if5 .left)
-
-weights-passed : (c : tie.Else6) → let a = c .before .before .before .before .before .before .before .before .before .before .before .before .args in every weightOk (a .weights .now) ≡ true
-weights-passed c = sym (c .before .weights-ok .ensures) ∙ not-false _ (c .if6 .left)
+restarts-passed : (c : tie.Else4) → restartsOk (start (first (c .before .before)) .args .restarts) ≡ true
+restarts-passed c = le-leb _ mostRestarts (c .if4 .left)
 
 returns : tie.Need-returns
-returns c =
-    let a = c .before .before .before .before .args in
-    sym
-    (refusal-by (a .weights .now) (a .coords .now) (a .d) (a .k) (a .rounds) (a .restarts) (a .labels) (a .directions) (a .work) (a .marks) false _ _ _ _ _ _
-    (sym (c .before .sizes-ok .ensures) ∙ not-true _ (c .if1 .taken)) refl refl refl refl refl refl)
+unfolding refusalOf
+returns c = rw (sym (c .before .sizes-ok .ensures) ∙ not-true _ (c .if1 .taken))
 
 returns-2 : tie.Need-returns-2
-returns-2 c =
-    let a = c .before .before .before .before .before .before .args in
-    sym
-    (refusal-by (a .weights .now) (a .coords .now) (a .d) (a .k) (a .rounds) (a .restarts) (a .labels) (a .directions) (a .work) (a .marks) true false _ _ _ _ _
-    (sizes-passed (c .before .before))
-    (sym (c .before .groups-ok .ensures) ∙ not-true _ (c .if2 .taken)) refl refl refl refl refl)
+unfolding refusalOf
+returns-2 c = rw (sizes-passed (c .before .before), sym (c .before .groups-ok .ensures) ∙ not-true _ (c .if2 .taken))
 
 returns-3 : tie.Need-returns-3
-returns-3 c =
-    let a = c .before .before .before .before .before .before .before .args in
-    sym
-    (refusal-by (a .weights .now) (a .coords .now) (a .d) (a .k) (a .rounds) (a .restarts) (a .labels) (a .directions) (a .work) (a .marks) true true false _ _ _ _
-    (sizes-passed (c .before .before .before))
-    (groups-passed (c .before))
-    (lt-leb _ 10000 (c .if3 .taken)) refl refl refl refl)
+unfolding refusalOf
+returns-3 c = rw (sizes-passed (first (c .before)), groups-passed (c .before), lt-leb _ mostRounds (c .if3 .taken))
 
 returns-4 : tie.Need-returns-4
+unfolding refusalOf
 returns-4 c =
-    let a = c .before .before .before .before .before .before .before .before .args in
-    sym
-    (refusal-by (a .weights .now) (a .coords .now) (a .d) (a .k) (a .rounds) (a .restarts) (a .labels) (a .directions) (a .work) (a .marks) true true true false _ _ _
-    (sizes-passed (c .before .before .before .before))
-    (groups-passed (c .before .before))
-    (rounds-passed (c .before))
-    (lt-leb _ 64 (c .if4 .taken)) refl refl refl)
+    let e = c .before in
+    rw (sizes-passed (first (e .before)), groups-passed (e .before), rounds-passed e, lt-leb _ mostRestarts (c .if4 .taken))
 
 arrays-ok-requires : tie.Need-arrays-ok-requires
 arrays-ok-requires c κs =
-    let a = c .before .before .before .before .before .before .before .before .args in
-    let s = sizes-met (length (a .weights .now)) (a .d) (length (a .coords .now)) (sizes-passed (c .before .before .before .before)) in
-    let g = groups-met (a .k) (length (a .weights .now)) (groups-passed (c .before .before)) in
-    (s .1, g .1, s .3)
+    let e = c .before .before in
+    let a = start (first e) .args in
+    let s = sizes-met (length (a .weights .now)) (a .d) (length (a .coords .now)) (sizes-passed (first e)) in
+    (s .1, groups-met (a .k) (length (a .weights .now)) (groups-passed e) .1, s .3)
 
 returns-5 : tie.Need-returns-5
+unfolding refusalOf
 returns-5 c =
-    let a = c .before .before .before .before .before .before .before .before .before .before .args in
-    sym
-    (refusal-by (a .weights .now) (a .coords .now) (a .d) (a .k) (a .rounds) (a .restarts) (a .labels) (a .directions) (a .work) (a .marks) true true true true false _ _
-    (sizes-passed (c .before .before .before .before .before .before))
-    (groups-passed (c .before .before .before .before))
-    (rounds-passed (c .before .before .before))
-    (restarts-passed (c .before .before))
-    (sym (c .before .arrays-ok .ensures) ∙ not-true _ (c .if5 .taken)) refl refl)
+    let f = c .before .before in
+    let e = f .before .before in
+    rw (sizes-passed (first e), groups-passed e, rounds-passed (f .before), restarts-passed f,
+      sym (c .before .arrays-ok .ensures) ∙ not-true _ (c .if5 .taken))
 
 returns-6 : tie.Need-returns-6
+unfolding refusalOf
 returns-6 c =
-    let a = c .before .before .before .before .before .before .before .before .before .before .before .before .args in
-    sym
-    (refusal-by (a .weights .now) (a .coords .now) (a .d) (a .k) (a .rounds) (a .restarts) (a .labels) (a .directions) (a .work) (a .marks) true true true true true false _
-    (sizes-passed (c .before .before .before .before .before .before .before .before))
-    (groups-passed (c .before .before .before .before .before .before))
-    (rounds-passed (c .before .before .before .before .before))
-    (restarts-passed (c .before .before .before .before))
-    (arrays-passed (c .before .before))
-    (sym (c .before .weights-ok .ensures) ∙ not-true _ (c .if6 .taken)) refl)
-
-returns-7 : tie.Need-returns-7
-returns-7 c =
-    let a = c .before .before .before .before .before .before .before .before .before .before .before .before .before .before .args in
-    sym
-    (refusal-by (a .weights .now) (a .coords .now) (a .d) (a .k) (a .rounds) (a .restarts) (a .labels) (a .directions) (a .work) (a .marks) true true true true true true false
-    (sizes-passed (c .before .before .before .before .before .before .before .before .before .before))
-    (groups-passed (c .before .before .before .before .before .before .before .before))
-    (rounds-passed (c .before .before .before .before .before .before .before))
-    (restarts-passed (c .before .before .before .before .before .before))
-    (arrays-passed (c .before .before .before .before))
-    (weights-passed (c .before .before))
-    (sym (c .before .coordinates-ok .ensures) ∙ not-true _ (c .if7 .taken)))
-
-returns-8 : tie.Need-returns-8
-returns-8 c =
-    let a = c .before .before .before .before .before .before .before .before .before .before .before .before .before .before .args in
-    sym
-    (refusal-by (a .weights .now) (a .coords .now) (a .d) (a .k) (a .rounds) (a .restarts) (a .labels) (a .directions) (a .work) (a .marks) true true true true true true true
-    (sizes-passed (c .before .before .before .before .before .before .before .before .before .before))
-    (groups-passed (c .before .before .before .before .before .before .before .before))
-    (rounds-passed (c .before .before .before .before .before .before .before))
-    (restarts-passed (c .before .before .before .before .before .before))
-    (arrays-passed (c .before .before .before .before))
-    (weights-passed (c .before .before))
-    (sym (c .before .coordinates-ok .ensures) ∙ not-false _ (c .if7 .left)))
+    let h = c .before in
+    let f = h .before .before in
+    let e = f .before .before in
+    rw (sizes-passed (first e), groups-passed e, rounds-passed (f .before), restarts-passed f,
+      sym (h .before .arrays-ok .ensures) ∙ not-false _ (h .if5 .left)) (c .leaves-refusal .ensures)
 
 pub refusal-spec : {M : Type 1} → statement M
 refusal-spec =
@@ -136,7 +85,4 @@ refusal-spec =
     arrays-ok-requires
     returns-5
     (λ c κs. search needs)
-    returns-6
-    (λ c κs. search needs)
-    returns-7
-    returns-8)
+    returns-6)

@@ -3,8 +3,8 @@ use mathlib.Core.Path.{ap, sym}
 use mathlib.Core.Bool.{Bool, cond}
 use lib.ListN.{take}
 use lib.Seq.{length-take-le}
-use Rattle.mixture_keeper.proofs.keeper.Statement.{statement}
-use Rattle.mixture_keeper.proofs.keeper.Tie as tie
+use Rattle.mixture_restarts.proofs.keeper.Statement.{statement}
+use Rattle.mixture_restarts.proofs.keeper.Tie as tie
 
 slice-aggregate-result : tie.Need-slice-aggregate-result
 slice-aggregate-result c =

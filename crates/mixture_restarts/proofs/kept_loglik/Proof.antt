@@ -1,8 +1,8 @@
 -- Each return is the definition at the way that the test went. Assumes nothing.
 use mathlib.Core.Path.{ap, sym}
 use mathlib.Core.Bool.{Bool, cond}
-use Rattle.mixture_keeper.proofs.kept_loglik.Statement.{statement}
-use Rattle.mixture_keeper.proofs.kept_loglik.Tie as tie
+use Rattle.mixture_restarts.proofs.kept_loglik.Statement.{statement}
+use Rattle.mixture_restarts.proofs.kept_loglik.Tie as tie
 
 returns : tie.Need-returns
 returns c =

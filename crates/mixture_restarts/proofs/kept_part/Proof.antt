@@ -4,10 +4,10 @@ use native.Mathlib.Omega.{arith}
 use lib.ListN.{length}
 use Rattle.kmeans_layout.specs.Halves.{half}
 use Rattle.kmeans_layout.proofs.Halves.{held-within, free-within}
-use Rattle.mixture_keeper.proofs.Kept.{parts-long, part-kept}
+use Rattle.mixture_restarts.proofs.Kept.{parts-long, part-kept}
 use borrow.Author.Needs.{needs}
-use Rattle.mixture_keeper.proofs.kept_part.Statement.{statement}
-use Rattle.mixture_keeper.proofs.kept_part.Tie as tie
+use Rattle.mixture_restarts.proofs.kept_part.Statement.{statement}
+use Rattle.mixture_restarts.proofs.kept_part.Tie as tie
 
 -- both halves lie within the array
 held-in : (c : tie.After-free-at) → let a = c .before .before .before .args in c .before .held-at .result + half (a .m) (a .k) (a .d) ≤ length (a .work .now)
