@@ -16,7 +16,7 @@ use Rattle.kmeans_nearest.specs.declared.Best.{Best}
 use Rattle.kmeans_bounds.specs.declared.Bounds.{Bounds}
 use Rattle.kmeans_bounds.specs.declared.Slowest.{Slowest}
 use Rattle.kmeans_layout.specs.State.{State}
-use Rattle.kmeans_assign.specs.Pass.{Pass, boundsAt, putBounds, putLabel, shiftLeaf, shiftUpTo, boundsBy, bestOf, putBest, passLeaf, passUpTo}
+use Rattle.kmeans_assign.specs.Pass.{Pass, boundsAt, putBounds, putLabel, shiftLeaf, shiftUpTo, boundsBy, bestOf, putBest, moreMade, passLeaf, passUpTo}
 use Rattle.kmeans_layout.specs.Areas.{stateIn, total, driftAt, Labelled}
 use Rattle.kmeans_assign.specs.Turns.{LeafPassed, Spent, tallied}
 use Rattle.kmeans_assign.specs.declared.Passed.{Passed}
@@ -62,7 +62,7 @@ module _ (i j : ℕ) (h : i < j) (s : State) (k : ℕ) (t : Slowest) where
 
 -- with another state
 abbrev onState : (State → State) → Pass → Pass
-onState f p = record { state = f (p .state); changed = p .changed; made = p .made; saved = p .saved }
+onState f p = record { state = f (p .state); changed = p .changed; counts = p .counts }
 
 either-late : (f : Pass → Pass) (b b' : Bool) (x y x' y' : Pass) → b' ≡ b → x' ≡ f x → y' ≡ f y → cond b' x' y' ≡ f (cond b x y)
 either-late f true b' x y x' y' e g h = rw e g
@@ -74,7 +74,7 @@ module _ (coords : List Float) (k d it : ℕ) (t : Slowest) (j : ℕ) where
   leaf-late i h p =
       let s = p .state in
       let b = bestOf coords k d s i in
-      let anew : State → Pass = λ (z : State). record { state = z; changed = p .changed || not (eqb (getD (s .labels) i 0) (b .index)); made = p .made + k; saved = p .saved } in
+      let anew : State → Pass = λ (z : State). record { state = z; changed = p .changed || not (eqb (getD (s .labels) i 0) (b .index)); counts = moreMade k (p .counts) } in
       either-late (onState (shiftLeaf k t j)) (skips it (boundsAt s i)) (skips it (boundsAt (shiftLeaf k t j s) i)) _ _ _ _
       (ap (skips it) (bounds-apart i j h s (shiftOf k t j s))) refl (ap anew (best-apart i j h s k t b))
 

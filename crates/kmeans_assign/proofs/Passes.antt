@@ -13,6 +13,7 @@ use lib.Dec.{eqb, ltb}
 use lib.ListN.{length, getD, take, drop, set, length-set}
 use lib.Ieee.{Float, nan}
 use Rattle.rows.specs.Rows.{rowOf}
+use Rattle.counts.specs.Counts.{AtMost, ofRound}
 use Rattle.kmeans_bounds.specs.Shifts.{shiftedBounds, skips, otherThan, slowestUpTo}
 use Rattle.kmeans_nearest.specs.Nearest.{bestTo}
 use Rattle.kmeans_nearest.specs.declared.Best.{Best}
@@ -20,7 +21,7 @@ use Rattle.kmeans_bounds.specs.declared.Bounds.{Bounds}
 use Rattle.kmeans_bounds.specs.declared.Slowest.{Slowest}
 use Rattle.kmeans_nearest.proofs.Nearest.{best-below}
 use Rattle.kmeans_layout.specs.State.{State}
-use Rattle.kmeans_assign.specs.Pass.{Pass, boundsAt, putBounds, putLabel, shiftLeaf, shiftUpTo, shiftedFor, boundsBy, bestOf, putBest, passUpTo, passOf}
+use Rattle.kmeans_assign.specs.Pass.{Pass, boundsAt, putBounds, putLabel, shiftLeaf, shiftUpTo, shiftedFor, boundsBy, bestOf, putBest, moreMade, moreSaved, passUpTo, passOf}
 use Rattle.kmeans_layout.specs.Areas.{stateIn, total, driftAt, servedAt, Area, Labelled}
 use Rattle.kmeans_assign.specs.Turns.{LeafPassed, tallied}
 use Rattle.kmeans_assign.specs.declared.Passed.{Passed}
@@ -97,12 +98,12 @@ module _ (coords : List Float) (k d it i : ℕ) (s s' : State) (b : Bounds) (t :
 
 -- the definition's pass from the code's answer
 abbrev pub passed : State → Passed → Pass
-passed s p = record { state = s; changed = p .changed; made = p .made; saved = p .saved }
+passed s p = record { state = s; changed = p .changed; counts = p .counts }
 
 turn-by : (b c : Bool) (x y x' : State) (p : Passed) (t : Turn) (k : ℕ) → t .skipped ≡ b → t .changed ≡ not b && c → x' ≡ cond b x y
     → passed x' (tallied p t k)
-    ≡ cond b (record { state = x; changed = p .changed; made = p .made; saved = p .saved + k })
-    (record { state = y; changed = p .changed || c; made = p .made + k; saved = p .saved })
+    ≡ cond b (record { state = x; changed = p .changed; counts = moreSaved k (p .counts) })
+    (record { state = y; changed = p .changed || c; counts = moreMade k (p .counts) })
 turn-by true c x y x' p t k e f g = rw (e, g)
 turn-by false c x y x' p t k e f g = rw (e, f, g)
 
@@ -116,11 +117,11 @@ module _ (coords : List Float) (k d it : ℕ) (s : State) where
       ap (passed x') f ∙ g ∙ rw (add-one, ← e)
 
   -- a pass over 4,096 leaves and 64 groups at most
-  pub pass-small : (n : ℕ) (x : State) (p : Passed) → passed x p ≡ passUpTo coords k d it s n → n ≤ 4096 → k ≤ 64 → (p .made ≤ 262144) × (p .saved ≤ 262144)
+  pub pass-small : (n : ℕ) (x : State) (p : Passed) → passed x p ≡ passUpTo coords k d it s n → n ≤ 4096 → k ≤ 64 → AtMost ofRound (p .counts)
   pass-small n x p e hn hk =
-      let sum : p .made + p .saved ≡ k * n = ap (λ (q : Pass). q .made + q .saved) e ∙ counts-of-pass coords k d it s n in
+      let sum : p .counts .made + p .counts .saved ≡ k * n = ap (λ (q : Pass). q .counts .made + q .counts .saved) e ∙ counts-of-pass coords k d it s n in
       let most : k * n ≤ 64 * n = mul-le-mul-right n hk in
-      (omega (arith, sum, most), omega (arith, sum, most))
+      record { made = omega (arith, sum, most); saved = omega (arith, sum, most) }
 
 -- ---- labels below k
 set-below : (l : List ℕ) (i j v k : ℕ) → v < k → getD l j 0 < k → getD (set l i v) j 0 < k

@@ -7,6 +7,8 @@ use lib.ListN.{getD, set}
 use lib.Ieee.{Float, nan, inf, binary64, div, lt}
 use Rattle.float.specs.Arithmetic.{plusZero}
 use Rattle.rows.specs.Rows.{rowOf}
+use Rattle.counts.specs.declared.Counts.{Counts}
+use Rattle.counts.specs.Counts.{noCounts}
 use Rattle.kmeans_bounds.specs.Shifts.{shiftedBounds, skips, slowestUpTo, otherThan}
 use Rattle.kmeans_nearest.specs.Nearest.{bestTo}
 use Rattle.kmeans_bounds.specs.declared.Bounds.{Bounds}
@@ -48,8 +50,14 @@ putLabel i v c s =
 pub record Pass : Type 0 where
   pub state : State
   pub changed : Bool
-  pub made : ℕ
-  pub saved : ℕ
+  pub counts : Counts
+
+-- n products more made, or saved
+abbrev pub moreMade : ℕ → Counts → Counts
+moreMade n c = record { made = c .made + n; saved = c .saved }
+
+abbrev pub moreSaved : ℕ → Counts → Counts
+moreSaved n c = record { made = c .made; saved = c .saved + n }
 
 -- ---- the shift: the bounds of the first n leaves, by how far the centres turned
 abbrev pub shiftLeaf : ℕ → Slowest → ℕ → State → State
@@ -83,16 +91,15 @@ putBest k i b s = putBounds i (boundsBy k b (boundsAt s i)) (putLabel i (b .dot)
 abbrev pub passLeaf : List Float → ℕ → ℕ → ℕ → ℕ → Pass → Pass
 passLeaf coords k d it i p =
     cond (skips it (boundsAt (p .state) i))
-    (record { state = p .state; changed = p .changed; made = p .made; saved = p .saved + k })
+    (record { state = p .state; changed = p .changed; counts = moreSaved k (p .counts) })
     (record {
       state = putBest k i (bestOf coords k d (p .state) i) (p .state);
       changed = p .changed || not (eqb (getD (p .state .labels) i 0) (bestOf coords k d (p .state) i .index));
-      made = p .made + k;
-      saved = p .saved;
+      counts = moreMade k (p .counts);
     })
 
 unfoldable pub passUpTo : List Float → ℕ → ℕ → ℕ → State → ℕ → Pass
-passUpTo coords k d it s zero = record { state = s; changed = false; made = 0; saved = 0 }
+passUpTo coords k d it s zero = record { state = s; changed = false; counts = noCounts }
 passUpTo coords k d it s (suc i) = passLeaf coords k d it i (passUpTo coords k d it s i)
 
 -- the whole pass of round `it`, after the shift

@@ -2,7 +2,7 @@
 use mathlib.Core.Path.{_≡_}
 use mathlib.Core.List.{List}
 use mathlib.Core.Bool.{Bool, true, false, not, _&&_, _||_, cond}
-use Prim.Native.Nat.{ℕ, _+_}
+use Prim.Native.Nat.{ℕ}
 use lib.ListN.{getD}
 use lib.Ieee.{Float, lt}
 use lib.Dec.{eqb, ltb}
@@ -10,7 +10,7 @@ use Rattle.float.specs.Arithmetic.{plusZero}
 use Rattle.kmeans_bounds.specs.declared.Bounds.{Bounds}
 use Rattle.kmeans_bounds.specs.Shifts.{shiftedBounds, skips}
 use Rattle.kmeans_layout.specs.State.{State}
-use Rattle.kmeans_assign.specs.Pass.{boundsAt, bestOf, putBest}
+use Rattle.kmeans_assign.specs.Pass.{boundsAt, bestOf, putBest, moreMade, moreSaved}
 use Rattle.kmeans_assign.specs.declared.Passed.{Passed}
 use Rattle.kmeans_assign.specs.declared.Turn.{Turn}
 
@@ -28,5 +28,5 @@ pub record LeafPassed (coords : List Float) (k d it i : ℕ) (s s' : State) (ski
 abbrev pub tallied : Passed → Turn → ℕ → Passed
 tallied p t k =
     cond (t .skipped)
-    (record { changed = p .changed; made = p .made; saved = p .saved + k })
-    (record { changed = p .changed || t .changed; made = p .made + k; saved = p .saved })
+    (record { changed = p .changed; counts = moreSaved k (p .counts) })
+    (record { changed = p .changed || t .changed; counts = moreMade k (p .counts) })

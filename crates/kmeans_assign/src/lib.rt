@@ -6,6 +6,7 @@ ghost use mathlib.Core.List.{List};
 ghost use Prim.Native.Nat.{ℕ, _+_, _*_, _<_, _≤_};
 ghost use lib.Dec.{eqb};
 ghost use lib.ListN.{length, getD};
+ghost use Rattle.counts.specs.Counts.{AtMost, ofRound};
 ghost use Rattle.kmeans_bounds.specs.Shifts.{slowestUpTo, otherThan};
 ghost use Rattle.kmeans_assign.specs.Pass.{Pass, boundsAt, putBounds, shiftLeaf, shiftUpTo, boundsBy, bestOf, putBest, passUpTo, passOf};
 ghost use Rattle.kmeans_layout.specs.Areas.{stateIn, Sized, LeafOf, Labelled, Area};
@@ -185,26 +186,31 @@ fn turn_leaf(
 // What a pass answers: whether a label changed, and the products made and saved.
 pub struct Passed {
     pub changed: bool,
-    pub made: u64,
-    pub saved: u64,
+    pub counts: counts::Counts,
 }
 
 // With one leaf more.
 fn tally(p: Passed, t: Turn, k: usize) -> Passed
-    requires { ⌜ (p .made ≤ 262144) × (p .saved ≤ 262144) × (k ≤ 64) ⌝ }
+    requires { ⌜ (AtMost ofRound (p .counts)) × (k ≤ 64) ⌝ }
     ensures { λ r. ⌜ r ≡ tallied p t k ⌝ }
 {
+    let c = p.counts;
+    let n = k as u64;
     if t.skipped {
         return Passed {
             changed: p.changed,
-            made: p.made,
-            saved: p.saved + k as u64,
+            counts: counts::Counts {
+                made: c.made,
+                saved: c.saved + n,
+            },
         };
     }
     Passed {
-        changed: p.changed || t.changed,
-        made: p.made + k as u64,
-        saved: p.saved,
+        changed: p.changed | t.changed,
+        counts: counts::Counts {
+            made: c.made + n,
+            saved: c.saved,
+        },
     }
 }
 
@@ -219,14 +225,13 @@ fn assign(
     d: usize,
 ) -> Passed
     requires { ⌜ Sized (length (now work)) (length (now marks)) (length (now coords)) m k d ⌝ }
-    ensures { λ r. ⌜ _≡_ {A = Pass} (record { state = stateIn m k d (now (work .exit)) (now (marks .exit)); changed = r .changed; made = r .made; saved = r .saved })
+    ensures { λ r. ⌜ _≡_ {A = Pass} (record { state = stateIn m k d (now (work .exit)) (now (marks .exit)); changed = r .changed; counts = r .counts })
         (passUpTo (now (coords .entry)) k d it (stateIn m k d (now (work .entry)) (now (marks .entry))) m) ⌝ }
-    ensures { λ r. ⌜ (r .made ≤ 262144) × (r .saved ≤ 262144) ⌝ }
+    ensures { λ r. ⌜ AtMost ofRound (r .counts) ⌝ }
 {
     let mut p = Passed {
         changed: false,
-        made: 0,
-        saved: 0,
+        counts: counts::none(),
     };
     let mut i = 0;
     while i < m {
@@ -249,9 +254,9 @@ fn shift_and_assign(
 ) -> Passed
     requires { ⌜ Sized (length (now work)) (length (now marks)) (length (now coords)) m k d ⌝ }
     requires { ⌜ Labelled m k (stateIn m k d (now work) (now marks)) ⌝ }
-    ensures { λ r. ⌜ _≡_ {A = Pass} (record { state = stateIn m k d (now (work .exit)) (now (marks .exit)); changed = r .changed; made = r .made; saved = r .saved })
+    ensures { λ r. ⌜ _≡_ {A = Pass} (record { state = stateIn m k d (now (work .exit)) (now (marks .exit)); changed = r .changed; counts = r .counts })
         (passUpTo (now (coords .entry)) k d it (shiftUpTo k (slowestUpTo (stateIn m k d (now (work .entry)) (now (marks .entry)) .drift) k) (stateIn m k d (now (work .entry)) (now (marks .entry))) m) m) ⌝ }
-    ensures { λ r. ⌜ (r .made ≤ 262144) × (r .saved ≤ 262144) ⌝ }
+    ensures { λ r. ⌜ AtMost ofRound (r .counts) ⌝ }
 {
     let kd = k * d;
     let drift = kd + kd + m + m + m + m;
@@ -259,8 +264,7 @@ fn shift_and_assign(
     let t = kmeans_bounds::two_smallest(&s[drift..drift + k]);
     let mut p = Passed {
         changed: false,
-        made: 0,
-        saved: 0,
+        counts: counts::none(),
     };
     let mut i = 0;
     while i < m {
@@ -283,9 +287,9 @@ pub fn pass(
 ) -> Passed
     requires { ⌜ Sized (length (now work)) (length (now marks)) (length (now coords)) m k d ⌝ }
     requires { ⌜ Labelled m k (stateIn m k d (now work) (now marks)) ⌝ }
-    ensures { λ r. ⌜ _≡_ {A = Pass} (record { state = stateIn m k d (now (work .exit)) (now (marks .exit)); changed = r .changed; made = r .made; saved = r .saved })
+    ensures { λ r. ⌜ _≡_ {A = Pass} (record { state = stateIn m k d (now (work .exit)) (now (marks .exit)); changed = r .changed; counts = r .counts })
         (passOf (now (coords .entry)) m k d it (stateIn m k d (now (work .entry)) (now (marks .entry)))) ⌝ }
-    ensures { λ r. ⌜ (r .made ≤ 262144) × (r .saved ≤ 262144) ⌝ }
+    ensures { λ r. ⌜ AtMost ofRound (r .counts) ⌝ }
 {
     if it > 0 {
         return shift_and_assign(work, marks, coords, it, m, k, d);

@@ -19,9 +19,7 @@ use Rattle.limits.proofs.Bounds.{weights-within, coordinates-within, within-coo
 use Rattle.kmeans_assign.proofs.Passes.{pass-centers}
 use Rattle.kmeans_seeding.proofs.Within.{seeds-within}
 use Rattle.kmeans_update.proofs.Reseeds.{Clean, update-clean}
-use Rattle.kmeans_lloyd.specs.Lloyd.{Run, startedFrom, roundsFrom, endsAt, afterPass, afterUpdate}
-use Rattle.kmeans_lloyd.specs.Runs.{freshRun}
-use Rattle.kmeans_lloyd.specs.Totals.{sumOver}
+use Rattle.kmeans_lloyd.specs.Lloyd.{Run, startedFrom, freshRun, roundsFrom, endsAt, afterPass, afterUpdate}
 use Rattle.kmeans_lloyd.specs.Doubled.{runOf, pickedBefore, NoneDoubled, NeverDoubled}
 
 module _ (weights coords : List Float) (m k d : ℕ) (hw : All (Within 1099511627776 1) weights) (hc : All (Within 2 1) coords)
@@ -53,33 +51,26 @@ module _ (weights coords : List Float) (m k d : ℕ) (hw : All (Within 109951162
       (record { centers = subst (All (Within 2 1)) (sym (pass-centers coords m k d it (r .state))) (h .centers); none = h .none })
       (rounds-kept n (it + 1) next (record { centers = q .centers; none = omega (arith, h .none, q .none) }))
 
-  run-kept : (rounds state : ℕ) → Kept (runOf weights coords m k d rounds state)
+  run-kept : (rounds generator : ℕ) → Kept (runOf weights coords m k d rounds generator)
   unfolding startedFrom
-  run-kept rounds state =
-      rounds-kept rounds 0 (freshRun (startedFrom coords m k d (seedsOf weights coords m k d state .centers)))
-      (record { centers = seeds-within weights coords m d hd hc state k; none = refl })
+  run-kept rounds generator =
+      rounds-kept rounds 0 (freshRun (startedFrom coords m k d (seedsOf weights coords m k d generator .centers)))
+      (record { centers = seeds-within weights coords m d hd hc generator k; none = refl })
 
-  picked-few : (state it c : ℕ) → c < k → length (pickedBefore weights coords m k d state it c) ≤ c
-  picked-few state it c h = round-clean it (runOf weights coords m k d it state .state) (run-kept it state .centers) c (omega arith) .few
+  picked-few : (generator it c : ℕ) → c < k → length (pickedBefore weights coords m k d generator it c) ≤ c
+  picked-few generator it c h = round-clean it (runOf weights coords m k d it generator .state) (run-kept it generator .centers) c (omega arith) .few
 
-  none-doubled : (rounds state : ℕ) → NoneDoubled weights coords m k d rounds state
-  none-doubled rounds state =
+  none-doubled : (rounds generator : ℕ) → NoneDoubled weights coords m k d rounds generator
+  none-doubled rounds generator =
       record {
-        centers = within-coordinates (runOf weights coords m k d rounds state .state .centers) (run-kept rounds state .centers);
-        most = picked-few state;
-        fewer = λ it c h. omega (arith, picked-few state it c h);
-        none = run-kept rounds state .none;
+        centers = within-coordinates (runOf weights coords m k d rounds generator .state .centers) (run-kept rounds generator .centers);
+        most = picked-few generator;
+        fewer = λ it c h. omega (arith, picked-few generator it c h);
+        none = run-kept rounds generator .none;
       }
 
 pub never-doubled : NeverDoubled
-never-doubled weights coords d k rounds state ok some below =
+never-doubled weights coords d k rounds generator ok some below =
     let s = sizes-met (length weights) d (length coords) (ok .sizes-ok) in
     none-doubled weights coords (length weights) k d (weights-within weights (ok .weights-ok)) (coordinates-within coords (ok .coords-ok))
-    refl (s .1) below (s .3) rounds state
-
--- a sum of zeros
-pub none-over : (f : ℕ → ℕ) (lo n : ℕ) → ((i : ℕ) → lo ≤ i → i < lo + n → f i ≡ 0) → sumOver f lo n ≡ 0
-unfolding sumOver
-none-over f lo zero h = refl
-none-over f lo (suc n) h =
-    omega (arith, none-over f lo n (λ (i : ℕ) least most. h i least (omega arith)), h (lo + n) (omega arith) (omega arith))
+    refl (s .1) below (s .3) rounds generator

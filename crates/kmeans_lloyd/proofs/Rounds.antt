@@ -6,50 +6,48 @@ use mathlib.Core.Bool.{Bool, true, false, cond, true≢false}
 use Prim.Native.Nat.{ℕ, zero, suc, _+_, _*_, _≤_, _<_}
 use native.Mathlib.Omega.{arith}
 use lib.Ieee.{Float}
+use Rattle.counts.specs.declared.Counts.{Counts}
+use Rattle.counts.specs.Counts.{plusOf, AtMost, ofRound}
+use Rattle.counts.proofs.Sums.{at-most-more, at-most-plus}
 use Rattle.kmeans_layout.specs.State.{State}
 use Rattle.kmeans_assign.specs.Pass.{Pass, passOf}
 use Rattle.kmeans_update.specs.Update.{updateOf}
 use Rattle.kmeans_lloyd.specs.Lloyd.{Run, endsAt, afterPass, afterUpdate, roundsFrom}
 use Rattle.kmeans_layout.specs.Areas.{Labelled}
-use Rattle.kmeans_lloyd.specs.Runs.{RoundBy, RoundDone, Lloyded}
+use Rattle.kmeans_lloyd.specs.Runs.{RoundBy, RoundDone, RunSoFar}
 use Rattle.kmeans_assign.specs.declared.Passed.{Passed}
 use Rattle.kmeans_lloyd.specs.declared.Round.{Round}
-use Rattle.kmeans_lloyd.specs.declared.Counts.{Counts}
 use Rattle.kmeans_assign.proofs.Passes.{passed, labelled-of-pass}
 use Rattle.kmeans_update.proofs.Settles.{labelled-of-update}
 
 -- ---- a round, by its pass p
 module _ (weights coords : List Float) (m k d it : ℕ) (p : Pass) (x : State) (q : Passed) (is : passed x q ≡ p)
-    (small : (q .made ≤ 262144) × (q .saved ≤ 262144)) where
+    (few : AtMost ofRound (q .counts)) where
   pub round-ended : endsAt it (passed x q) ≡ true
-      → RoundBy weights coords m k d it p x (record { ended = true; made = q .made; saved = q .saved })
+      → RoundBy weights coords m k d it p x (record { ended = true; counts = q .counts })
   round-ended t =
       rw (← is) (record {
         ended = sym t;
-        made = refl;
-        saved = refl;
+        counts = refl;
         last = λ e. refl;
         state = λ e. absurd (true≢false (sym t ∙ e));
-        made-small = small .0;
-        saved-small = small .1;
+        small = few;
       })
 
   pub round-settled : (x' : State) → endsAt it (passed x q) ≡ false → x' ≡ updateOf weights coords m k d x .state
-      → RoundBy weights coords m k d it p x' (record { ended = false; made = q .made; saved = q .saved })
+      → RoundBy weights coords m k d it p x' (record { ended = false; counts = q .counts })
   round-settled x' t g =
       rw (← is) (record {
         ended = sym t;
-        made = refl;
-        saved = refl;
+        counts = refl;
         last = λ e. absurd (true≢false (sym e ∙ t));
         state = λ e. g;
-        made-small = small .0;
-        saved-small = small .1;
+        small = few;
       })
 
 -- a run with one round more, n doubled by then
 abbrev counted : Run → State → Round → ℕ → Run
-counted r s q n = record { state = s; made = r .made + q .made; saved = r .saved + q .saved; doubled = n; begun = r .begun + 1 }
+counted r s q n = record { state = s; counts = plusOf (r .counts) (q .counts); doubled = n; begun = r .begun + 1 }
 
 module _ (weights coords : List Float) (m k d : ℕ) where
   -- what the update of round `it` doubles
@@ -63,13 +61,13 @@ module _ (weights coords : List Float) (m k d : ℕ) where
     unfolding roundsFrom
     run-turn t =
         let e : endsAt it (passOf coords m k d it (r .state)) ≡ false = sym (done .ended) ∙ t in
-        rw (more, e, done .made, done .saved, done .state e)
+        rw (more, e, done .counts, done .state e)
 
     run-stop : q .ended ≡ true → counted r s q (r .doubled) ≡ roundsFrom weights coords m k d n it r
     unfolding roundsFrom
     run-stop t =
         let e : endsAt it (passOf coords m k d it (r .state)) ≡ true = sym (done .ended) ∙ t in
-        rw (more, e, done .made, done .saved, done .last e)
+        rw (more, e, done .counts, done .last e)
 
   pub labelled-of-round : (it : ℕ) (s s' : State) (q : Round) → RoundDone weights coords m k d it s s' q → q .ended ≡ false → 0 < k
       → Labelled m k s → Labelled m k s'
@@ -98,20 +96,14 @@ module _ (weights coords : List Float) (m k d : ℕ) where
 
 -- the definition's run where the code's state and counts are those after `it` rounds; the code does not count what it doubled
 abbrev running : ℕ → State → Counts → ℕ → Run
-running it s c n = record { state = s; made = c .made; saved = c .saved; doubled = n; begun = it }
-
-abbrev pub plus : Counts → Round → Counts
-plus c q = record { made = c .made + q .made; saved = c .saved + q .saved }
+running it s c n = record { state = s; counts = c; doubled = n; begun = it }
 
 -- what `it` rounds count at most
-pub record Few (it : ℕ) (c : Counts) : Type 0 where
-  pub made : c .made ≤ it * 262144
-  pub saved : c .saved ≤ it * 262144
+abbrev pub Few : ℕ → Counts → Type 0
+Few it c = AtMost (it * ofRound) c
 
-pub few-turn : (weights coords : List Float) (m k d it : ℕ) (s s' : State) (c : Counts) (q : Round)
-    → RoundDone weights coords m k d it s s' q → Few it c → Few (it + 1) (plus c q)
-few-turn weights coords m k d it s s' c q r f =
-    record { made = omega (arith, f .made, r .made-small); saved = omega (arith, f .saved, r .saved-small) }
+pub few-turn : (it : ℕ) (c c' : Counts) (q : Round) → AtMost ofRound (q .counts) → c' ≡ plusOf c (q .counts) → Few it c → Few (it + 1) c'
+few-turn it c c' q small e f = rw e (at-most-more (omega arith) (at-most-plus f small))
 
 -- the rest of the definition's run, n rounds at most from round `it` on, ends as the whole one does
 module _ (weights coords : List Float) (m k d : ℕ) (whole : Run) where
@@ -119,30 +111,28 @@ module _ (weights coords : List Float) (m k d : ℕ) (whole : Run) where
     pub doubled : ℕ
     pub ends : roundsFrom weights coords m k d n it (running it s c doubled) ≡ whole
 
-  lloyd-done : (it n : ℕ) (s : State) (c : Counts) → running it s c n ≡ whole → Few it c → it ≤ 10000 → Lloyded whole s c
+  lloyd-done : (it n : ℕ) (s : State) (c : Counts) → running it s c n ≡ whole → Few it c → it ≤ 10000 → RunSoFar whole s c
   lloyd-done it n s c e f h =
       record {
         state = ap (λ (r : Run). r .state) e;
-        made = ap (λ (r : Run). r .made) e;
-        saved = ap (λ (r : Run). r .saved) e;
-        made-small = omega (arith, f .made);
-        saved-small = omega (arith, f .saved);
+        counts = ap (λ (r : Run). r .counts) e;
+        small = at-most-more (omega arith) f;
       }
 
-  pub goes-on : (n n' it : ℕ) (s s' : State) (c : Counts) (q : Round) → n ≡ suc n' → RoundDone weights coords m k d it s s' q
-      → q .ended ≡ false → GoesOn n it s c → GoesOn n' (it + 1) s' (plus c q)
-  goes-on n n' it s s' c q more done t g =
-      let r = running it s c (g .doubled) in
-      record {
-        doubled = g .doubled + anew weights coords m k d it s;
-        ends = run-turn weights coords m k d n n' it r s' q more done t ∙ g .ends;
-      }
+  -- round `it` made: the run goes on, or stops there
+  module _ (n n' it : ℕ) (s s' : State) (c c' : Counts) (q : Round) (more : n ≡ suc n') (done : RoundDone weights coords m k d it s s' q)
+      (sum : c' ≡ plusOf c (q .counts)) (g : GoesOn n it s c) where
+    pub goes-on : q .ended ≡ false → GoesOn n' (it + 1) s' c'
+    goes-on t =
+        rw sum (record {
+          doubled = g .doubled + anew weights coords m k d it s;
+          ends = run-turn weights coords m k d n n' it (running it s c (g .doubled)) s' q more done t ∙ g .ends;
+        })
 
-  pub stops : (n n' it : ℕ) (s s' : State) (c : Counts) (q : Round) → n ≡ suc n' → RoundDone weights coords m k d it s s' q
-      → q .ended ≡ true → GoesOn n it s c → Few (it + 1) (plus c q) → it + 1 ≤ 10000 → Lloyded whole s' (plus c q)
-  stops n n' it s s' c q more done t g =
-      lloyd-done (it + 1) (g .doubled) s' (plus c q)
-      (run-stop weights coords m k d n n' it (running it s c (g .doubled)) s' q more done t ∙ g .ends)
+    pub stops : q .ended ≡ true → Few (it + 1) c' → it + 1 ≤ 10000 → RunSoFar whole s' c'
+    stops t =
+        let e = run-stop weights coords m k d n n' it (running it s c (g .doubled)) s' q more done t ∙ g .ends in
+        lloyd-done (it + 1) (g .doubled) s' c' (rw sum e)
 
-  pub runs-out : (n it : ℕ) (s : State) (c : Counts) → n ≡ 0 → GoesOn n it s c → Few it c → it ≤ 10000 → Lloyded whole s c
+  pub runs-out : (n it : ℕ) (s : State) (c : Counts) → n ≡ 0 → GoesOn n it s c → Few it c → it ≤ 10000 → RunSoFar whole s c
   runs-out n it s c e g = lloyd-done it (g .doubled) s c (run-end weights coords m k d n it (running it s c (g .doubled)) whole e (g .ends))

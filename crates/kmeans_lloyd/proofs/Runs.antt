@@ -2,20 +2,20 @@
 -- Assumes nothing.
 use mathlib.Core.Path.{_≡_, refl, ap, sym, _∙_}
 use mathlib.Core.List.{List}
-use Prim.Native.Nat.{ℕ, zero, suc, _+_, _*_, _<_}
+use Prim.Native.Nat.{ℕ, zero, suc, _+_, _*_, _≤_, _<_}
 use native.Mathlib.Omega.{arith}
 use lib.ListN.{getD, replicate}
 use lib.Ieee.{Float}
+use Rattle.counts.specs.declared.Counts.{Counts}
 use Rattle.kmeans_seeding.specs.Seeding.{seedsOf}
 use Rattle.kmeans_layout.specs.State.{State}
-use Rattle.kmeans_lloyd.specs.Lloyd.{Run, startedFrom, roundsFrom, lloydOf}
+use Rattle.kmeans_lloyd.specs.Lloyd.{Run, startedFrom, freshRun, roundsFrom, lloydOf}
 use Rattle.kmeans_sums.specs.Sums.{sumsUpTo}
 use Rattle.kmeans_sums.specs.Cohesion.{cohesionOf}
 use Rattle.kmeans_lloyd.specs.Results.{resultOf}
-use Rattle.kmeans_lloyd.specs.Runs.{freshRun, Lloyded, RunDone, RunLeft}
+use Rattle.kmeans_lloyd.specs.Runs.{RunSoFar, RunDone, RunLeft}
 use Rattle.kmeans_layout.specs.Areas.{Labelled, stateIn, sumsIn}
-use Rattle.kmeans_lloyd.specs.declared.Counts.{Counts}
-use Rattle.kmeans_lloyd.proofs.Tallies.{counts-of-rounds}
+use Rattle.kmeans_lloyd.proofs.Tallies.{counts-of-rounds, begun-most}
 use Rattle.kmeans_lloyd.proofs.Rounds.{labelled-after-rounds}
 use Rattle.kmeans_layout.proofs.Sizes.{labelled-of}
 
@@ -30,18 +30,18 @@ unfolding startedFrom
 started-labelled coords m k d s seeds h e i l = rw (e, zero-at m i) h
 
 -- ---- the run
-pub run-done : (weights coords : List Float) (m k d rounds state : ℕ) (cs : List Float) (s₂ s₃ s₄ : State) (next : ℕ) (c : Counts) (v : Float)
-    → cs ≡ seedsOf weights coords m k d state .centers
-    → next ≡ seedsOf weights coords m k d state .state
+pub run-done : (weights coords : List Float) (m k d rounds generator : ℕ) (cs : List Float) (s₂ s₃ s₄ : State) (next : ℕ) (c : Counts) (v : Float)
+    → cs ≡ seedsOf weights coords m k d generator .centers
+    → next ≡ seedsOf weights coords m k d generator .state
     → s₂ ≡ startedFrom coords m k d cs
-    → Lloyded (roundsFrom weights coords m k d rounds 0 (freshRun s₂)) s₃ c
+    → RunSoFar (roundsFrom weights coords m k d rounds 0 (freshRun s₂)) s₃ c
     → v ≡ cohesionOf weights coords (s₃ .labels) m k d
     → s₄ ≡ s₃
-    → RunDone (resultOf weights coords m k d rounds state) s₄
-    (record { cohesion = v; made = c .made; saved = c .saved; state = next })
+    → RunDone (resultOf weights coords m k d rounds generator) s₄
+    (record { cohesion = v; counts = c; generator = next })
 unfolding resultOf
-run-done weights coords m k d rounds state cs s₂ s₃ s₄ next c v es en e₂ l ev e₄ =
-    let seeds = seedsOf weights coords m k d state in
+run-done weights coords m k d rounds generator cs s₂ s₃ s₄ next c v es en e₂ l ev e₄ =
+    let seeds = seedsOf weights coords m k d generator in
     let r : roundsFrom weights coords m k d rounds 0 (freshRun s₂) ≡ lloydOf weights coords m k d rounds (seeds .centers) =
     ap (λ (x : State). roundsFrom weights coords m k d rounds 0 (freshRun x)) (e₂ ∙ ap (startedFrom coords m k d) es) in
     let es₃ : s₃ ≡ lloydOf weights coords m k d rounds (seeds .centers) .state = l .state ∙ ap (λ (x : Run). x .state) r in
@@ -49,25 +49,29 @@ run-done weights coords m k d rounds state cs s₂ s₃ s₄ next c v es en e₂
       labels = ap (λ (x : State). x .labels) (e₄ ∙ es₃);
       centers = ap (λ (x : State). x .centers) (e₄ ∙ es₃);
       cohesion = ev ∙ ap (λ (x : State). cohesionOf weights coords (x .labels) m k d) es₃;
-      made = l .made ∙ ap (λ (x : Run). x .made) r;
-      saved = l .saved ∙ ap (λ (x : Run). x .saved) r;
-      state = en;
-      made-small = l .made-small;
-      saved-small = l .saved-small;
+      counts = l .counts ∙ ap (λ (x : Run). x .counts) r;
+      generator = en;
+      small = l .small;
     }
 
 -- ---- made + saved = k · m · rounds begun
-pub run-counts : (weights coords : List Float) (m k d rounds state : ℕ)
-    → resultOf weights coords m k d rounds state .made + resultOf weights coords m k d rounds state .saved
-    ≡ k * m * resultOf weights coords m k d rounds state .begun
+pub run-counts : (weights coords : List Float) (m k d rounds generator : ℕ)
+    → let r = resultOf weights coords m k d rounds generator in r .counts .made + r .counts .saved ≡ k * m * r .begun
 unfolding resultOf
-run-counts weights coords m k d rounds state =
-    counts-of-rounds weights coords m k d rounds 0 (freshRun (startedFrom coords m k d (seedsOf weights coords m k d state .centers))) (omega arith)
+run-counts weights coords m k d rounds generator =
+    counts-of-rounds weights coords m k d rounds 0 (freshRun (startedFrom coords m k d (seedsOf weights coords m k d generator .centers))) (omega arith)
+
+-- ---- a run begins no more rounds than it may
+pub run-most : (weights coords : List Float) (m k d rounds generator : ℕ) → resultOf weights coords m k d rounds generator .begun ≤ rounds
+unfolding resultOf
+run-most weights coords m k d rounds generator =
+    let most = begun-most weights coords m k d rounds 0 (freshRun (startedFrom coords m k d (seedsOf weights coords m k d generator .centers))) in
+    omega (arith, most)
 
 -- ---- the labels after the rounds are below k
 pub rounds-labelled : (weights coords : List Float) (m k d rounds : ℕ) (s₂ s₃ : State) (seeds : List Float) (c : Counts) → 0 < k
     → s₂ ≡ startedFrom coords m k d seeds
-    → Lloyded (roundsFrom weights coords m k d rounds 0 (freshRun s₂)) s₃ c
+    → RunSoFar (roundsFrom weights coords m k d rounds 0 (freshRun s₂)) s₃ c
     → Labelled m k s₃
 rounds-labelled weights coords m k d rounds s₂ s₃ seeds c h e l =
     labelled-of m k (roundsFrom weights coords m k d rounds 0 (freshRun s₂) .state) s₃ (ap (λ (x : State). x .labels) (l .state))

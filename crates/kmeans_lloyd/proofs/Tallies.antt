@@ -19,19 +19,19 @@ round-counts km a b x y n e f =
     let g : km * (n + 1) ≡ km * n + km = rw add-one (mul-suc km n) in
     omega (arith, e, f, g)
 
-either-even : (b : Bool) (km : ℕ) (x y : Run) → x .made + x .saved ≡ km * x .begun → y .made + y .saved ≡ km * y .begun
-    → cond b x y .made + cond b x y .saved ≡ km * cond b x y .begun
+either-even : (b : Bool) (km : ℕ) (x y : Run) → x .counts .made + x .counts .saved ≡ km * x .begun → y .counts .made + y .counts .saved ≡ km * y .begun
+    → cond b x y .counts .made + cond b x y .counts .saved ≡ km * cond b x y .begun
 either-even true km x y e f = e
 either-even false km x y e f = f
 
-pub counts-of-rounds : (weights coords : List Float) (m k d n it : ℕ) (r : Run) → r .made + r .saved ≡ k * m * r .begun
-    → let q = roundsFrom weights coords m k d n it r in q .made + q .saved ≡ k * m * q .begun
+pub counts-of-rounds : (weights coords : List Float) (m k d n it : ℕ) (r : Run) → r .counts .made + r .counts .saved ≡ k * m * r .begun
+    → let q = roundsFrom weights coords m k d n it r in q .counts .made + q .counts .saved ≡ k * m * q .begun
 unfolding roundsFrom
 counts-of-rounds weights coords m k d zero it r e = e
 counts-of-rounds weights coords m k d (suc n) it r e =
     let p = passOf coords m k d it (r .state) in
-    let f : r .made + p .made + (r .saved + p .saved) ≡ k * m * (r .begun + 1) =
-    round-counts (k * m) (r .made) (r .saved) (p .made) (p .saved) (r .begun) e (counts-of-pass coords k d it (shiftedFor m k it (r .state)) m) in
+    let f : r .counts .made + p .counts .made + (r .counts .saved + p .counts .saved) ≡ k * m * (r .begun + 1) =
+    round-counts (k * m) (r .counts .made) (r .counts .saved) (p .counts .made) (p .counts .saved) (r .begun) e (counts-of-pass coords k d it (shiftedFor m k it (r .state)) m) in
     either-even (endsAt it p) (k * m) (afterPass r p) _ f
     (counts-of-rounds weights coords m k d n (it + 1) (afterUpdate (afterPass r p) (updateOf weights coords m k d (p .state))) f)
 

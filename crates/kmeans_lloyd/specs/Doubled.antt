@@ -12,34 +12,34 @@ use Rattle.kmeans_assign.specs.Pass.{passOf}
 use Rattle.kmeans_update.specs.Update.{updateTo}
 use Rattle.kmeans_lloyd.specs.Lloyd.{Run, lloydOf}
 
--- a run of at most so many rounds, with the generator in this state before its seeds: any seed, any restart
+-- a run of at most so many rounds, with the generator at this word before its seeds: any seed, any restart
 abbrev pub runOf : List Float → List Float → ℕ → ℕ → ℕ → ℕ → ℕ → Run
-runOf weights coords m k d rounds state =
-    lloydOf weights coords m k d rounds (seedsOf weights coords m k d state .centers)
+runOf weights coords m k d rounds generator =
+    lloydOf weights coords m k d rounds (seedsOf weights coords m k d generator .centers)
 
 -- doubled: reseeds that pick a leaf already picked in the same update
 abbrev pub doubledOf : List Float → List Float → ℕ → ℕ → ℕ → ℕ → ℕ → ℕ
-doubledOf weights coords m k d rounds state = runOf weights coords m k d rounds state .doubled
+doubledOf weights coords m k d rounds generator = runOf weights coords m k d rounds generator .doubled
 
 -- the leaves picked in the update of round `it`, before group c has its turn. After `it` rounds a longer run is where
 -- a run of `it` rounds ends; the update follows that round's pass.
 abbrev pub pickedBefore : List Float → List Float → ℕ → ℕ → ℕ → ℕ → ℕ → ℕ → List ℕ
-pickedBefore weights coords m k d state it c =
-    updateTo weights coords m k d (passOf coords m k d it (runOf weights coords m k d it state .state) .state) c .picked
+pickedBefore weights coords m k d generator it c =
+    updateTo weights coords m k d (passOf coords m k d it (runOf weights coords m k d it generator .state) .state) c .picked
 
 -- ---- #110, in its words
-pub record NoneDoubled (weights coords : List Float) (m k d rounds state : ℕ) : Type 0 where
+pub record NoneDoubled (weights coords : List Float) (m k d rounds generator : ℕ) : Type 0 where
   -- the centres' coordinates stay within ±2, which is a coordinate's own limit. ±1 would be false: the unit vector of
   -- 2.7223123787726303e-162 alone is √1.5, for its square is rounded to the smallest f64
-  pub centers : every coordinateOk (runOf weights coords m k d rounds state .state .centers) ≡ true
+  pub centers : every coordinateOk (runOf weights coords m k d rounds generator .state .centers) ≡ true
   -- before each pick fewer leaves are picked than there are: before that for group c, at most c < k ≤ m
-  pub most : (it c : ℕ) → c < k → length (pickedBefore weights coords m k d state it c) ≤ c
-  pub fewer : (it c : ℕ) → c < k → length (pickedBefore weights coords m k d state it c) < m
+  pub most : (it c : ℕ) → c < k → length (pickedBefore weights coords m k d generator it c) ≤ c
+  pub fewer : (it c : ℕ) → c < k → length (pickedBefore weights coords m k d generator it c) < m
   -- it is zero
-  pub none : doubledOf weights coords m k d rounds state ≡ 0
+  pub none : doubledOf weights coords m k d rounds generator ≡ 0
 
 -- for all leaves within the limits, 1 ≤ k ≤ m, whatever the rounds, the seed and the restart
 abbrev pub NeverDoubled : Type 0
 NeverDoubled =
-    (weights coords : List Float) (d k rounds state : ℕ) → LeavesOk weights coords d → 1 ≤ k → k ≤ length weights
-    → NoneDoubled weights coords (length weights) k d rounds state
+    (weights coords : List Float) (d k rounds generator : ℕ) → LeavesOk weights coords d → 1 ≤ k → k ≤ length weights
+    → NoneDoubled weights coords (length weights) k d rounds generator

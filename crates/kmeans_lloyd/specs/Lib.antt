@@ -1,5 +1,4 @@
 pub mod Lloyd
 pub mod Runs
 pub mod Results
-pub mod Totals
 pub mod Doubled

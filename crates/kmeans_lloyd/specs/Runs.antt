@@ -4,6 +4,8 @@ use mathlib.Core.List.{List}
 use mathlib.Core.Bool.{true, false}
 use Prim.Native.Nat.{ℕ, _+_, _≤_}
 use lib.Ieee.{Float}
+use Rattle.counts.specs.declared.Counts.{Counts}
+use Rattle.counts.specs.Counts.{AtMost, ofRound, ofRuns}
 use Rattle.rows.specs.Rows.{rowOf}
 use Rattle.vector.specs.Vectors.{normOf}
 use Rattle.float.specs.declared.Four.{Four}
@@ -14,8 +16,7 @@ use Rattle.kmeans_assign.specs.Pass.{Pass, passOf}
 use Rattle.kmeans_lloyd.specs.Lloyd.{Run, endsAt}
 use Rattle.kmeans_sums.specs.Sums.{sumsUpTo}
 use Rattle.kmeans_lloyd.specs.declared.Round.{Round}
-use Rattle.kmeans_lloyd.specs.declared.Counts.{Counts}
-use Rattle.kmeans_lloyd.specs.declared.Ran.{Ran}
+use Rattle.kmeans_lloyd.specs.declared.RunEnd.{RunEnd}
 use Rattle.kmeans_layout.specs.Areas.{stateIn, sumsIn, Sized, Labelled}
 
 -- the norms of leaves i to i + 3
@@ -33,26 +34,19 @@ fourNorms coords d i =
 -- a round by its pass p: the end, or the update
 pub record RoundBy (weights coords : List Float) (m k d it : ℕ) (p : Pass) (s' : State) (r : Round) : Type 0 where
   pub ended : r .ended ≡ endsAt it p
-  pub made : r .made ≡ p .made
-  pub saved : r .saved ≡ p .saved
+  pub counts : r .counts ≡ p .counts
   pub last : endsAt it p ≡ true → s' ≡ p .state
   pub state : endsAt it p ≡ false → s' ≡ updateOf weights coords m k d (p .state) .state
-  pub made-small : r .made ≤ 262144
-  pub saved-small : r .saved ≤ 262144
+  pub small : AtMost ofRound (r .counts)
 
 abbrev pub RoundDone : List Float → List Float → ℕ → ℕ → ℕ → ℕ → State → State → Round → Type 0
 RoundDone weights coords m k d it s s' r = RoundBy weights coords m k d it (passOf coords m k d it s) s' r
 
-abbrev pub freshRun : State → Run
-freshRun s = record { state = s; made = 0; saved = 0; doubled = 0; begun = 0 }
-
--- the code's counts and state are those of a run of the definition
-pub record Lloyded (run : Run) (s : State) (c : Counts) : Type 0 where
+-- the code's state and counts are those of a run of the definition so far
+pub record RunSoFar (run : Run) (s : State) (c : Counts) : Type 0 where
   pub state : s ≡ run .state
-  pub made : c .made ≡ run .made
-  pub saved : c .saved ≡ run .saved
-  pub made-small : c .made ≤ 2621440000
-  pub saved-small : c .saved ≤ 2621440000
+  pub counts : c ≡ run .counts
+  pub small : AtMost (ofRuns 1) c
 
 -- ---- the start
 unfoldable pub putScale : List Float → State → State
@@ -64,15 +58,13 @@ pub record Runnable (work marks weights coords m k d rounds : ℕ) : Type 0 wher
   pub weights-long : weights ≡ m
   pub rounds-small : rounds ≤ 10000
 
-pub record RunDone (result : Result) (s : State) (r : Ran) : Type 0 where
+pub record RunDone (result : Result) (s : State) (r : RunEnd) : Type 0 where
   pub labels : s .labels ≡ result .labels
   pub centers : s .centers ≡ result .centers
   pub cohesion : r .cohesion ≡ result .cohesion
-  pub made : r .made ≡ result .made
-  pub saved : r .saved ≡ result .saved
-  pub state : r .state ≡ result .state
-  pub made-small : r .made ≤ 2621440000
-  pub saved-small : r .saved ≤ 2621440000
+  pub counts : r .counts ≡ result .counts
+  pub generator : r .generator ≡ result .generator
+  pub small : AtMost (ofRuns 1) (r .counts)
 
 -- what a run leaves beside its result: labels below k, and the sums of the groups that they make
 pub record RunLeft (weights coords : List Float) (m k d : ℕ) (w : List Float) (u : List ℕ) : Type 0 where

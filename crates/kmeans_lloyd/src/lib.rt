@@ -5,18 +5,17 @@ ghost use mathlib.Core.List.{List};
 ghost use Prim.Native.Nat.{ℕ, _+_, _*_, _<_, _≤_};
 ghost use lib.ListN.{length};
 ghost use Rattle.kmeans_sums.specs.Sums.{normsUpTo};
-ghost use Rattle.kmeans_lloyd.specs.Lloyd.{roundsFrom, startedFrom};
+ghost use Rattle.kmeans_lloyd.specs.Lloyd.{startedFrom, freshRun, roundsFrom};
 ghost use Rattle.kmeans_lloyd.specs.Results.{resultOf};
 ghost use Rattle.kmeans_layout.specs.Areas.{stateIn, Sized, Labelled, Area};
-ghost use Rattle.kmeans_lloyd.specs.Runs.{RoundDone, freshRun, Lloyded, putScale, fourNorms, Runnable, RunDone, RunLeft};
+ghost use Rattle.kmeans_lloyd.specs.Runs.{RoundDone, RunSoFar, putScale, fourNorms, Runnable, RunDone, RunLeft};
 
 // ---- rounds
 
 // What a round answers: whether it was the last, and its counts.
 pub struct Round {
     pub ended: bool,
-    pub made: u64,
-    pub saved: u64,
+    pub counts: counts::Counts,
 }
 
 // Round `it`: the pass, and unless it ends the run the update.
@@ -35,25 +34,18 @@ fn one_round(
     ensures { λ r. ⌜ RoundDone (now (weights .entry)) (now (coords .entry)) m k d it (stateIn m k d (now (work .entry)) (now (marks .entry))) (stateIn m k d (now (work .exit)) (now (marks .exit))) r ⌝ }
 {
     let p = kmeans_assign::pass(work, marks, coords, it, m, k, d);
+    let c = p.counts;
     if !p.changed & (it > 0) {
         return Round {
             ended: true,
-            made: p.made,
-            saved: p.saved,
+            counts: c,
         };
     }
     kmeans_update::settle(work, marks, weights, coords, m, k, d);
     Round {
         ended: false,
-        made: p.made,
-        saved: p.saved,
+        counts: c,
     }
-}
-
-// The counts of a run.
-pub struct Counts {
-    pub made: u64,
-    pub saved: u64,
 }
 
 // Rounds until no label changes after the first, at most `rounds`.
@@ -66,19 +58,16 @@ fn lloyd(
     k: usize,
     d: usize,
     rounds: usize,
-) -> Counts
+) -> counts::Counts
     requires { ⌜ Sized (length (now work)) (length (now marks)) (length (now coords)) m k d ⌝ }
     requires { ⌜ (length (now weights) ≡ m) × (rounds ≤ 10000) × Labelled m k (stateIn m k d (now work) (now marks)) ⌝ }
-    ensures { λ r. ⌜ Lloyded (roundsFrom (now (weights .entry)) (now (coords .entry)) m k d rounds 0 (freshRun (stateIn m k d (now (work .entry)) (now (marks .entry))))) (stateIn m k d (now (work .exit)) (now (marks .exit))) r ⌝ }
+    ensures { λ r. ⌜ RunSoFar (roundsFrom (now (weights .entry)) (now (coords .entry)) m k d rounds 0 (freshRun (stateIn m k d (now (work .entry)) (now (marks .entry))))) (stateIn m k d (now (work .exit)) (now (marks .exit))) r ⌝ }
 {
-    let mut c = Counts { made: 0, saved: 0 };
+    let mut c = counts::none();
     let mut it = 0;
     while it < rounds {
         let r = one_round(work, marks, weights, coords, it, m, k, d);
-        c = Counts {
-            made: c.made + r.made,
-            saved: c.saved + r.saved,
-        };
+        c = counts::plus(c, r.counts);
         if r.ended {
             break;
         }
@@ -111,7 +100,7 @@ fn four_norms(coords: &[f64], i: usize, d: usize) -> float::Four
 }
 
 // The norm of each leaf becomes its scale: by fours, then singly.
-fn measure(work: &mut [f64], coords: &[f64], m: usize, k: usize, d: usize)
+fn leaf_norms(work: &mut [f64], coords: &[f64], m: usize, k: usize, d: usize)
     requires { ⌜ (Area (length (now work)) m k d) × (length (now coords) ≡ m * d) × (m * d ≤ 1048576) ⌝ }
     ensures { λ _. ⌜ ((u : List ℕ) → stateIn m k d (now (work .exit)) u ≡ putScale (normsUpTo (now (coords .entry)) d m) (stateIn m k d (now (work .entry)) u)) ⌝ }
 {
@@ -144,7 +133,7 @@ fn start(work: &mut [f64], marks: &mut [u32], coords: &[f64], m: usize, k: usize
     let high = low + m;
     let served = high + m;
     let drift = served + m;
-    measure(work, coords, m, k, d);
+    leaf_norms(work, coords, m, k, d);
     kmeans_layout::fill_at(work, low, m, -1.0 / 0.0);
     kmeans_layout::fill_at(work, high, m, 1.0 / 0.0);
     kmeans_layout::fill_at(work, served, m, -1.0 / 0.0);
@@ -154,12 +143,11 @@ fn start(work: &mut [f64], marks: &mut [u32], coords: &[f64], m: usize, k: usize
 
 // ---- a whole run
 
-// What a run answers: its cohesion and counts, and the generator's next state.
-pub struct Ran {
+// What a run ends with: its cohesion and counts, and the generator's word after it.
+pub struct RunEnd {
     pub cohesion: f64,
-    pub made: u64,
-    pub saved: u64,
-    pub state: u64,
+    pub counts: counts::Counts,
+    pub generator: u64,
 }
 
 // One run of spherical k-means: seeding, rounds and cohesion. Labels, centres and the sums of the groups stay in the areas.
@@ -168,24 +156,23 @@ pub fn run(
     marks: &mut [u32],
     weights: &[f64],
     coords: &[f64],
-    state: u64,
+    generator: u64,
     m: usize,
     k: usize,
     d: usize,
     rounds: usize,
-) -> Ran
+) -> RunEnd
     requires { ⌜ Runnable (length (now work)) (length (now marks)) (length (now weights)) (length (now coords)) m k d rounds ⌝ }
-    ensures { λ r. ⌜ RunDone (resultOf (now (weights .entry)) (now (coords .entry)) m k d rounds state) (stateIn m k d (now (work .exit)) (now (marks .exit))) r ⌝ }
+    ensures { λ r. ⌜ RunDone (resultOf (now (weights .entry)) (now (coords .entry)) m k d rounds generator) (stateIn m k d (now (work .exit)) (now (marks .exit))) r ⌝ }
     ensures { λ _. ⌜ RunLeft (now (weights .entry)) (now (coords .entry)) m k d (now (work .exit)) (now (marks .exit)) ⌝ }
 {
-    let next = kmeans_seeding::seed(work, weights, coords, state, m, k, d);
+    let next = kmeans_seeding::seed(work, weights, coords, generator, m, k, d);
     start(work, marks, coords, m, k, d);
     let c = lloyd(work, marks, weights, coords, m, k, d, rounds);
     let cohesion = kmeans_sums::cohesion_of(work, marks, weights, coords, m, k, d);
-    Ran {
+    RunEnd {
         cohesion,
-        made: c.made,
-        saved: c.saved,
-        state: next,
+        counts: c,
+        generator: next,
     }
 }

@@ -20,22 +20,22 @@ Inv-loop work₀ marks₀ coords it m k d p₀ i₀ work marks p i =
 abbrev μ-loop : tie.MeasureT-loop
 μ-loop work₀ marks₀ coords it m k d p₀ i₀ work marks p i = m - i
 
-loop-holds : tie.Need-loop-holds Inv-loop μ-loop
-unfolding passUpTo
-loop-holds c = (omega arith, c .before .before .before .pre, refl, refl, refl)
-
-assign-leaf-requires : tie.Need-assign-leaf-requires Inv-loop μ-loop
-assign-leaf-requires c κs =
-    let l = c .before .before .before .loop in
-    let a = c .before .before .before .before .before .before .before .args in
-    (l .inv .1, leaf-of (l .i) (a .m) (a .d) (c .before .before .loop-test .taken))
-
 -- places, each from a later one
 abbrev loop-at : tie.After-slice-known4 Inv-loop μ-loop → tie.At-loop Inv-loop μ-loop
 loop-at p = let q = p .before .before .before .before in q .before .before .before .before
 
 abbrev start : tie.At-loop Inv-loop μ-loop → tie.Start Inv-loop μ-loop
-start p = p .before .before .before .before
+start p = p .before .before .before .before .before
+
+loop-holds : tie.Need-loop-holds Inv-loop μ-loop
+unfolding passUpTo
+loop-holds c = (omega arith, c .before .before .before .before .pre, rw (c .none .ensures), refl, refl)
+
+assign-leaf-requires : tie.Need-assign-leaf-requires Inv-loop μ-loop
+assign-leaf-requires c κs =
+    let l = c .before .before .before .loop in
+    let a = start (c .before .before .before) .args in
+    (l .inv .1, leaf-of (l .i) (a .m) (a .d) (c .before .before .loop-test .taken))
 
 tally-requires : tie.Need-tally-requires Inv-loop μ-loop
 tally-requires c κs =
@@ -43,7 +43,7 @@ tally-requires c κs =
     let l = loop .loop in
     let a = start loop .args in
     let small = pass-small (a .coords .now) (a .k) (a .d) (a .it) _ (l .i) _ (l .p) (l .inv .2) (omega (arith, l .inv .0, l .inv .1 .sizes .m-small)) (l .inv .1 .sizes .k-small) in
-    (small .0, small .1, l .inv .1 .sizes .k-small)
+    (small, l .inv .1 .sizes .k-small)
 
 loop-again : tie.Need-loop-again Inv-loop μ-loop
 loop-again c =
@@ -69,7 +69,7 @@ same-length-2 c = c .before .loop .inv .4
 returns : tie.Need-returns Inv-loop μ-loop
 returns c =
     let l = c .before .loop in
-    let a = c .before .before .before .before .before .args in
+    let a = start (c .before) .args in
     let s₀ = stateIn (a .m) (a .k) (a .d) (a .work .now) (a .marks .now) in
     let e : l .i ≡ a .m = omega (arith, l .inv .0, c .loop-test .left) in (
       l .inv .2 ∙ ap (λ (n : ℕ). passUpTo (a .coords .now) (a .k) (a .d) (a .it) s₀ n) e,
@@ -82,6 +82,7 @@ assign-spec =
     (tie.spec
     Inv-loop
     μ-loop
+    (λ c κs. search needs)
     loop-holds
     assign-leaf-requires
     tally-requires

@@ -26,11 +26,11 @@ abbrev μ-loop : tie.MeasureT-loop
 
 loop-holds : tie.Need-loop-holds Inv-loop μ-loop
 unfolding shiftUpTo passUpTo
-loop-holds c = (omega arith, c .before .before .before .before .before .before .pre .0, refl, refl, refl)
+loop-holds c = (omega arith, c .before .before .before .before .before .before .before .pre .0, rw (c .none .ensures), refl, refl)
 
 -- places, each from a later one
 abbrev start : tie.At-loop Inv-loop μ-loop → tie.Start Inv-loop μ-loop
-start p = p .before .before .before .before .before .before .before
+start p = let q = p .before .before .before .before in q .before .before .before .before
 
 abbrev loop-at : tie.After-slice-known4 Inv-loop μ-loop → tie.At-loop Inv-loop μ-loop
 loop-at p = let q = p .before .before .before .before in q .before .before .before .before
@@ -51,7 +51,7 @@ tally-requires c κs =
     let l = loop .loop in
     let a = start loop .args in
     let small = pass-small (a .coords .now) (a .k) (a .d) (a .it) _ (l .i) _ (l .p) (l .inv .2) (omega (arith, l .inv .0, l .inv .1 .sizes .m-small)) (l .inv .1 .sizes .k-small) in
-    (small .0, small .1, l .inv .1 .sizes .k-small)
+    (small, l .inv .1 .sizes .k-small)
 
 loop-again : tie.Need-loop-again Inv-loop μ-loop
 loop-again c =
@@ -77,7 +77,7 @@ same-length-2 c = c .before .loop .inv .4
 returns : tie.Need-returns Inv-loop μ-loop
 returns c =
     let l = c .before .loop in
-    let f = c .before .before in
+    let f = c .before .before .before in
     let s = start (c .before) in
     let a = s .args in
     let s₀ = stateIn (a .m) (a .k) (a .d) (a .work .now) (a .marks .now) in
@@ -106,6 +106,7 @@ shift-and-assign-spec =
     (λ c. search needs)
     (λ c. search needs)
     (λ c. search needs)
+    (λ c κs. search needs)
     (λ c κs. search needs)
     loop-holds
     turn-leaf-requires

@@ -6,11 +6,12 @@ use Prim.Native.Nat.{_≤_, _+_, _-_}
 use native.Mathlib.Nat.{sub-zero}
 use native.Mathlib.Omega.{arith}
 use lib.ListN.{length}
-use Rattle.kmeans_lloyd.specs.Lloyd.{Run, roundsFrom}
+use Rattle.counts.specs.Counts.{plusOf}
+use Rattle.counts.proofs.Sums.{at-most-none, at-most-more}
+use Rattle.kmeans_lloyd.specs.Lloyd.{Run, freshRun, roundsFrom}
 use Rattle.kmeans_layout.specs.Areas.{stateIn, Sized, Labelled}
-use Rattle.kmeans_lloyd.specs.Runs.{freshRun}
 use Rattle.kmeans_layout.proofs.Sizes.{sized-of}
-use Rattle.kmeans_lloyd.proofs.Rounds.{Few, plus, few-turn, GoesOn, goes-on, stops, runs-out, labelled-of-round}
+use Rattle.kmeans_lloyd.proofs.Rounds.{Few, few-turn, GoesOn, goes-on, stops, runs-out, labelled-of-round}
 use borrow.Author.Needs.{needs}
 use Rattle.kmeans_lloyd.proofs.lloyd.Statement.{statement}
 use Rattle.kmeans_lloyd.proofs.lloyd.Tie as tie
@@ -26,7 +27,7 @@ abbrev μ-loop : tie.MeasureT-loop
 μ-loop work₀ marks₀ weights coords m k d rounds c₀ it₀ work marks c it = rounds - it
 
 abbrev start : tie.At-loop Inv-loop μ-loop → tie.Start Inv-loop μ-loop
-start l = l .before .before .before .before .before
+start l = l .before .before .before .before .before .before
 
 abbrev whole : tie.Start Inv-loop μ-loop → Run
 whole b =
@@ -37,26 +38,20 @@ whole b =
 abbrev loop-at : tie.After-one-round Inv-loop μ-loop → tie.At-loop Inv-loop μ-loop
 loop-at g = g .before .before .before .before
 
--- the round, from where its counts are added and behind each way that its test went
-abbrev round-at : tie.After-struct-known2 Inv-loop μ-loop → tie.After-one-round Inv-loop μ-loop
-round-at c = c .before .before .before .before .before .before
-
-abbrev went-on : tie.Else1 Inv-loop μ-loop → tie.After-one-round Inv-loop μ-loop
-went-on c = round-at (c .before .before .before)
-
-abbrev ended : tie.Then1 Inv-loop μ-loop → tie.After-one-round Inv-loop μ-loop
-ended c = round-at (c .before .before .before)
+-- the round, from where its counts are added
+abbrev round-at : tie.After-plus Inv-loop μ-loop → tie.After-one-round Inv-loop μ-loop
+round-at p = p .before .before .before .before .before
 
 loop-holds : tie.Need-loop-holds Inv-loop μ-loop
 loop-holds c =
-    let s = c .before .before .before .before in (
+    let s = c .before .before .before .before .before in (
       omega arith,
       s .pre .0,
       refl,
       refl,
       s .pre .1 .2,
-      record { made = omega arith; saved = omega arith },
-      record { doubled = 0; ends = rw sub-zero },
+      rw (c .none .ensures) (at-most-none _),
+      record { doubled = 0; ends = rw (c .none .ensures, sub-zero) },
     )
 
 one-round-requires : tie.Need-one-round-requires Inv-loop μ-loop
@@ -64,20 +59,26 @@ one-round-requires c κs =
     let l = c .before .before .before in
     (l .loop .inv .1, (start l .pre .1 .0, l .loop .inv .4))
 
--- the counts of one round more fit
-few-at : (g : tie.After-one-round Inv-loop μ-loop) → let l = loop-at g .loop in Few (l .it + 1) (plus (l .c) (g .one-round .result))
-few-at g =
-    let l = loop-at g .loop in
-    let a = start (loop-at g) .args in
-    few-turn (a .weights .now) (a .coords .now) (a .m) (a .k) (a .d) (l .it) (stateIn (a .m) (a .k) (a .d) (l .work) (l .marks))
-    (stateIn (a .m) (a .k) (a .d) (g .one-round .last .0) (g .one-round .last .1 .0)) (l .c) (g .one-round .result) (g .one-round .ensures) (l .inv .5)
-
 few-rounds : (g : tie.After-one-round Inv-loop μ-loop) → loop-at g .loop .it + 1 ≤ 10000
 few-rounds g = omega (arith, g .before .before .before .loop-test .taken, start (loop-at g) .pre .1 .1)
 
+plus-requires : tie.Need-plus-requires Inv-loop μ-loop
+plus-requires c κs =
+    let g = c .before .before .before .before in
+    let few = few-rounds g in
+    (at-most-more (omega (arith, few)) (loop-at g .loop .inv .5), at-most-more (omega arith) (g .one-round .ensures .small))
+
+-- the counts of one round more are small
+few-at : (p : tie.After-plus Inv-loop μ-loop) → Few (loop-at (round-at p) .loop .it + 1) (p .plus .result)
+few-at p =
+    let g = round-at p in
+    let l = loop-at g .loop in
+    few-turn (l .it) (l .c) (p .plus .result) (g .one-round .result) (g .one-round .ensures .small) (p .plus .ensures) (l .inv .5)
+
 loop-again : tie.Need-loop-again Inv-loop μ-loop
 loop-again c =
-    let g = went-on c in
+    let p = c .before in
+    let g = round-at p in
     let l = loop-at g .loop in
     let a = start (loop-at g) .args in
     let below = g .before .before .before .loop-test .taken in
@@ -92,10 +93,10 @@ loop-again c =
       labelled-of-round (a .weights .now) (a .coords .now) (a .m) (a .k) (a .d) (l .it) s s' (g .one-round .result) (g .one-round .ensures)
           (c .if1 .left)
           (l .inv .1 .sizes .k-some) (l .inv .4),
-      few-at g,
+      few-at p,
       goes-on (a .weights .now) (a .coords .now) (a .m) (a .k) (a .d) (whole (start (loop-at g))) (a .rounds - l .it)
-          (a .rounds - (l .it + 1)) (l .it) s s' (l .c)
-          (g .one-round .result) (omega (arith, below)) (g .one-round .ensures) (c .if1 .left) (l .inv .6),
+          (a .rounds - (l .it + 1)) (l .it) s s' (l .c) (p .plus .result)
+          (g .one-round .result) (omega (arith, below)) (g .one-round .ensures) (p .plus .ensures) (l .inv .6) (c .if1 .left),
     )
 
 returns : tie.Need-returns Inv-loop μ-loop
@@ -109,14 +110,15 @@ returns c =
 
 returns-2 : tie.Need-returns-2 Inv-loop μ-loop
 returns-2 c =
-    let g = ended c in
+    let p = c .before in
+    let g = round-at p in
     let l = loop-at g .loop in
     let a = start (loop-at g) .args in
     let s = stateIn (a .m) (a .k) (a .d) (l .work) (l .marks) in
     let s' = stateIn (a .m) (a .k) (a .d) (g .one-round .last .0) (g .one-round .last .1 .0) in
     stops (a .weights .now) (a .coords .now) (a .m) (a .k) (a .d) (whole (start (loop-at g))) (a .rounds - l .it) (a .rounds - (l .it + 1))
-    (l .it) s s' (l .c) (g .one-round .result) (omega (arith, g .before .before .before .loop-test .taken)) (g .one-round .ensures)
-    (c .if1 .taken) (l .inv .6) (few-at g) (few-rounds g)
+    (l .it) s s' (l .c) (p .plus .result) (g .one-round .result) (omega (arith, g .before .before .before .loop-test .taken))
+    (g .one-round .ensures) (p .plus .ensures) (l .inv .6) (c .if1 .taken) (few-at p) (few-rounds g)
 
 pub lloyd-spec : {M : Type 1} → statement M
 lloyd-spec =
@@ -124,16 +126,16 @@ lloyd-spec =
     (tie.spec
     Inv-loop
     μ-loop
+    (λ c κs. search needs)
     loop-holds
     one-round-requires
-    (λ c. let g = round-at c in omega (arith, few-at g .made, few-rounds g))
-    (λ c. let g = round-at (c .before .before) in omega (arith, few-at g .saved, few-rounds g))
-    (λ c. omega (arith, few-rounds (went-on c)))
-    (λ c. omega (arith, went-on c .before .before .before .loop-test .taken))
+    plus-requires
+    (λ c. omega (arith, few-rounds (round-at (c .before))))
+    (λ c. omega (arith, round-at (c .before) .before .before .before .loop-test .taken))
     loop-again
     (λ c. search needs)
     (λ c. search needs)
     returns
-    (λ c. ended c .one-round .kept .0 ∙ loop-at (ended c) .loop .inv .2)
-    (λ c. ended c .one-round .kept .1 .0 ∙ loop-at (ended c) .loop .inv .3)
+    (λ c. let g = round-at (c .before) in g .one-round .kept .0 ∙ loop-at g .loop .inv .2)
+    (λ c. let g = round-at (c .before) in g .one-round .kept .1 .0 ∙ loop-at g .loop .inv .3)
     returns-2)

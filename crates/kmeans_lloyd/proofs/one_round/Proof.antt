@@ -17,7 +17,7 @@ start p = p .before .before .before .before .before .before .before
 
 returns : tie.Need-returns
 returns c =
-    let p = c .before .before .before .before .before .before in
+    let p = c .before .before .before .before .before .before .before in
     let a = start p .args in
     let s = stateIn (a .m) (a .k) (a .d) (a .work .now) (a .marks .now) in
     let x = stateIn (a .m) (a .k) (a .d) (p .pass .last .0) (p .pass .last .1 .0) in
@@ -26,7 +26,7 @@ returns c =
 
 -- places, each from a later one
 abbrev pass-at : tie.After-settle-arg2 → tie.After-pass
-pass-at p = let q = p .before .before .before .before in q .before .before .before .before
+pass-at p = let q = p .before .before .before .before in q .before .before .before .before .before
 
 settle-requires : tie.Need-settle-requires
 settle-requires c κs =

@@ -39,7 +39,7 @@ returns c =
     let f = g .before .before .before .before .before in
     let s = f .before .before .before .before .before .before in
     let a = s .args in (
-      run-done (a .weights .now) (a .coords .now) (a .m) (a .k) (a .d) (a .rounds) (a .state) _ _ _ _ (f .seed .result) (l .lloyd .result) (h .cohesion-of .result)
+      run-done (a .weights .now) (a .coords .now) (a .m) (a .k) (a .d) (a .rounds) (a .generator) _ _ _ _ (f .seed .result) (l .lloyd .result) (h .cohesion-of .result)
           (f .seed .ensures (a .marks .now) .0) (f .seed .ensures (a .marks .now) .1) (g .start .ensures) (l .lloyd .ensures) (h .cohesion-of .ensures .0) (h .cohesion-of .ensures .1),
       run-left (a .weights .now) (a .coords .now) (a .m) (a .k) (a .d) _ _ _
           (rounds-labelled (a .weights .now) (a .coords .now) (a .m) (a .k) (a .d) (a .rounds) _ _ _ _ (s .pre .sized .sizes .k-some) (g .start .ensures) (l .lloyd .ensures)) (h .cohesion-of .ensures .1) (h .cohesion-of .ensures .2),

@@ -30,17 +30,17 @@ returns c =
     let b = n .before .before .before .before .before in
     let a = b .args in
     let u = putPart (a .marks .now) 0 (a .m) (z .fill-u32 .last .0) in
-    let l₁ = n .measure .kept .0 in
+    let l₁ = n .leaf-norms .kept .0 in
     let l₂ = v .fill-at .kept .0 ∙ l₁ in
     let l₃ = w .fill-at2 .kept .0 ∙ l₂ in
-    start-done (a .m) (a .k) (a .d) (a .work .now) (n .measure .last .0) (v .fill-at .last .0) (w .fill-at2 .last .0) (x .fill-at3 .last .0) (y .fill-at4 .last .0) (a .coords .now) (a .marks .now) u (z .fill-u32 .last .0)
+    start-done (a .m) (a .k) (a .d) (a .work .now) (n .leaf-norms .last .0) (v .fill-at .last .0) (w .fill-at2 .last .0) (x .fill-at3 .last .0) (y .fill-at4 .last .0) (a .coords .now) (a .marks .now) u (z .fill-u32 .last .0)
     (b .pre .work-long)
     l₁
     l₂
     l₃
     (x .fill-at3 .kept .0 ∙ l₃)
     (b .pre .marks-long)
-    (n .measure .ensures u)
+    (n .leaf-norms .ensures u)
     (v .fill-at .ensures)
     (w .fill-at2 .ensures)
     (x .fill-at3 .ensures)

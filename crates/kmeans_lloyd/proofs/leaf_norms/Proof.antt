@@ -1,4 +1,4 @@
--- `kmeans_lloyd::measure` meets its contract. The invariant of both loops: where the scales of the leaves before the loop's first are their norms, those of the leaves before i are,
+-- `kmeans_lloyd::leaf_norms` meets its contract. The invariant of both loops: where the scales of the leaves before the loop's first are their norms, those of the leaves before i are,
 -- the others as they were. Assumes nothing.
 use mathlib.Core.Path.{_≡_, refl}
 use Prim.Native.Nat.{_+_, _*_, _≤_, _-_}
@@ -10,8 +10,8 @@ use Rattle.kmeans_layout.specs.Areas.{stateIn}
 use Rattle.kmeans_layout.proofs.Regions.{length-scale}
 use Rattle.kmeans_lloyd.proofs.Starts.{NormedFrom, norms-start, norms-four, norms-turn, norms-end}
 use borrow.Author.Needs.{needs}
-use Rattle.kmeans_lloyd.proofs.measure.Statement.{statement}
-use Rattle.kmeans_lloyd.proofs.measure.Tie as tie
+use Rattle.kmeans_lloyd.proofs.leaf_norms.Statement.{statement}
+use Rattle.kmeans_lloyd.proofs.leaf_norms.Tie as tie
 
 abbrev Inv-loop : tie.InvT-loop
 Inv-loop work₀ coords m k d kd scale i₀ work i = (i ≤ m) × (length work ≡ length work₀) × NormedFrom m k d coords work₀ i₀ work i
@@ -109,8 +109,8 @@ returns c =
     let g : length (s .scale) ≡ a .m = length-scale (a .m) (a .k) (a .d) (a .work .now) u (b .pre .0 .work-long) in
     norms-end (a .m) (a .k) (a .d) (a .coords .now) u s g (l .work) (l .i) (omega arith) (l .inv .2 u s g (f .inv .2 u s g (norms-start (a .coords .now) (a .d) s)))
 
-pub measure-spec : {M : Type 1} → statement M
-measure-spec =
+pub leaf-norms-spec : {M : Type 1} → statement M
+leaf-norms-spec =
     tie.close
     (tie.spec
     Inv-loop
