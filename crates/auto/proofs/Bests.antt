@@ -8,7 +8,7 @@ use native.Mathlib.Omega.{arith}
 use lib.Dec.{T-not}
 use lib.ListN.{length}
 use lib.Ieee.{Float, nan, inf, lt}
-use Rattle.kmeans_lloyd.specs.Totals.{sumOver}
+use Rattle.counts.specs.Counts.{sumOver}
 use Rattle.mixture_run.specs.Fits.{Once}
 use Rattle.mixture_kappa.specs.declared.Settings.{Settings}
 use Rattle.mixture_outputs.specs.Outputs.{Outputs, written}

@@ -13,7 +13,7 @@ use Rattle.kmeans_lloyd.specs.Lloyd.{startedFrom}
 use Rattle.kmeans_seeding.specs.Seeding.{seedsOf}
 use Rattle.kmeans_lloyd.specs.Runs.{freshRun}
 use Rattle.kmeans_lloyd.specs.Results.{resultOf}
-use Rattle.kmeans_lloyd.specs.Totals.{sumOver}
+use Rattle.counts.specs.Counts.{sumOver}
 use Rattle.kmeans_lloyd.proofs.Runs.{run-counts}
 use Rattle.kmeans_lloyd.proofs.Tallies.{begun-most}
 use Rattle.mixture_run.specs.Fits.{Once, onceOf}

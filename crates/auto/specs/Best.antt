@@ -8,7 +8,7 @@ use lib.Dec.{T}
 use lib.ListN.{length}
 use lib.Ieee.{Float, inf, lt}
 use Rattle.rng.specs.SplitMix.{restartSeedOf}
-use Rattle.kmeans_lloyd.specs.Totals.{sumOver}
+use Rattle.counts.specs.Counts.{sumOver}
 use Rattle.mixture_run.specs.Fits.{warmOf}
 use Rattle.mixture_kappa.specs.declared.Settings.{Settings}
 use Rattle.mixture_outputs.specs.Outputs.{Outputs, written}

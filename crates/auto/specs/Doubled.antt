@@ -7,7 +7,7 @@ use lib.ListN.{length}
 use lib.Ieee.{Float}
 use Rattle.mixture_kappa.specs.declared.Settings.{Settings}
 use Rattle.mixture_outputs.specs.declared.Lengths.{Lengths}
-use Rattle.kmeans_lloyd.specs.Totals.{sumOver}
+use Rattle.counts.specs.Counts.{sumOver}
 use Rattle.mixture_restarts.specs.Doubled.{doubledInFit}
 use Rattle.auto_choice.specs.Choice.{highest, lowest}
 use Rattle.auto.specs.Refusals.{refusalOf}

@@ -4,7 +4,7 @@ use Prim.Native.Nat.{ℕ}
 use lib.Ieee.{Float}
 use Rattle.rng.specs.SplitMix.{restartSeedOf}
 use Rattle.mixture_kappa.specs.declared.Settings.{Settings}
-use Rattle.kmeans_lloyd.specs.Totals.{sumOver}
+use Rattle.counts.specs.Counts.{sumOver}
 use Rattle.kmeans_lloyd.specs.Doubled.{doubledOf}
 use Rattle.mixture_run.specs.Fits.{warmRounds}
 

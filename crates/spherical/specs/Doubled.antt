@@ -5,7 +5,7 @@ use mathlib.Core.List.{List}
 use Prim.Native.Nat.{ℕ, zero, suc, max}
 use lib.ListN.{length}
 use lib.Ieee.{Float}
-use Rattle.kmeans_lloyd.specs.Totals.{sumOver}
+use Rattle.counts.specs.Counts.{sumOver}
 use Rattle.kmeans_lloyd.specs.Doubled.{doubledOf}
 use Rattle.spherical.specs.Restarts.{restartsUpTo}
 use Rattle.spherical.specs.Refusals.{refusalOf}
