@@ -6,7 +6,7 @@ use native.Mathlib.Omega.{arith}
 use lib.ListN.{length}
 use Rattle.auto_choice.specs.Choice.{highest, lowest}
 use Rattle.limits.proofs.Limits.{sizes-met}
-use Rattle.kmeans_lloyd.proofs.Doubled.{none-over}
+use Rattle.counts.proofs.Sums.{none-over}
 use Rattle.mixture_restarts.proofs.Doubled.{fit-never-doubled}
 use Rattle.auto.specs.Doubled.{CallsNeverDoubled}
 use Rattle.auto.proofs.Refusals.{leaves-ok}

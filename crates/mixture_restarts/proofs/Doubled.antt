@@ -8,7 +8,8 @@ use Rattle.rng.specs.SplitMix.{restartSeedOf}
 use Rattle.limits.specs.Limits.{LeavesOk}
 use Rattle.mixture_kappa.specs.declared.Settings.{Settings}
 use Rattle.mixture_run.specs.Fits.{warmRounds}
-use Rattle.kmeans_lloyd.proofs.Doubled.{never-doubled, none-over}
+use Rattle.counts.proofs.Sums.{none-over}
+use Rattle.kmeans_lloyd.proofs.Doubled.{never-doubled}
 use Rattle.mixture_restarts.specs.Doubled.{doubledInFit}
 
 pub fit-never-doubled : (s : Settings) (weights coords : List Float) (d k : ℕ) → LeavesOk weights coords d → 1 ≤ k → k ≤ length weights

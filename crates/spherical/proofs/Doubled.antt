@@ -2,8 +2,9 @@
 -- nothing.
 use lib.ListN.{length}
 use Prim.Native.Nat.{ℕ, max}
-use Rattle.kmeans_lloyd.proofs.Doubled.{never-doubled, none-over}
-use Rattle.spherical.specs.Doubled.{stateBefore, CallsNeverDoubled}
+use Rattle.counts.proofs.Sums.{none-over}
+use Rattle.kmeans_lloyd.proofs.Doubled.{never-doubled}
+use Rattle.spherical.specs.Doubled.{generatorBefore, CallsNeverDoubled}
 use Rattle.spherical.proofs.Refusals.{ready}
 
 pub calls-never-doubled : CallsNeverDoubled
@@ -11,5 +12,5 @@ calls-never-doubled weights coords d k rounds restarts seed labels directions wo
     let r = ready weights coords d k rounds restarts labels directions work marks e in
     none-over _ 0 (max restarts 1)
     (λ (t : ℕ) below above.
-    never-doubled weights coords d k rounds (stateBefore weights coords (length weights) k d rounds seed t) (r .leaves) (r .k-some)
+    never-doubled weights coords d k rounds (generatorBefore weights coords (length weights) k d rounds seed t) (r .leaves) (r .sizes .k-some)
     (r .k-below) .none)

@@ -10,15 +10,15 @@ use Rattle.kmeans_lloyd.specs.Doubled.{doubledOf}
 use Rattle.spherical.specs.Restarts.{restartsUpTo}
 use Rattle.spherical.specs.Refusals.{refusalOf}
 
--- the generator's state before run t: the seed, and then what the runs before have left
-abbrev pub stateBefore : List Float → List Float → ℕ → ℕ → ℕ → ℕ → ℕ → ℕ → ℕ
-stateBefore weights coords m k d rounds seed zero = seed
-stateBefore weights coords m k d rounds seed (suc t) = restartsUpTo weights coords m k d rounds seed t .state
+-- the generator before run t: the seed, and then what the runs before have left
+abbrev pub generatorBefore : List Float → List Float → ℕ → ℕ → ℕ → ℕ → ℕ → ℕ → ℕ
+generatorBefore weights coords m k d rounds seed zero = seed
+generatorBefore weights coords m k d rounds seed (suc t) = restartsUpTo weights coords m k d rounds seed t .generator
 
 -- doubled, over all restarts; 0 restarts act as 1
 abbrev pub doubledIn : List Float → List Float → ℕ → ℕ → ℕ → ℕ → ℕ → ℕ → ℕ
 doubledIn weights coords m k d rounds restarts seed =
-    sumOver (λ (t : ℕ). doubledOf weights coords m k d rounds (stateBefore weights coords m k d rounds seed t)) 0
+    sumOver (λ (t : ℕ). doubledOf weights coords m k d rounds (generatorBefore weights coords m k d rounds seed t)) 0
     (max restarts 1)
 
 -- in a call that is not refused it is zero

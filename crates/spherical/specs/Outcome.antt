@@ -20,7 +20,7 @@ module _ (labels : List ℕ) (directions weights coords : List Float) (d k round
   abbrev pub doneWith : Result → Outcome
   doneWith r =
       record {
-        answer = Done (r .cohesion) (r .made) (r .saved);
+        answer = Done (r .cohesion) (r .counts);
         labels = r .labels ++ drop (length weights) labels;
         directions = r .centers ++ drop (k * d) directions;
       }
