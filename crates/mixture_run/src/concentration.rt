@@ -6,6 +6,7 @@ ghost use Rattle.float.specs.Arithmetic.{plusZero, sumFrom};
 ghost use Rattle.bessel.specs.Concentration.{Dimension, estimateOf};
 ghost use Rattle.mixture_kappa.specs.Kappas.{tabulate, meanLength, sharedKappa, kappaAt, kappasOf};
 ghost use Rattle.mixture_run.specs.Areas.{partsIn, withKappas, Area};
+use super::layout;
 
 // The concentration by a resultant's length and weight.
 fn kappa_by(length: f64, weight: f64, d: usize) -> f64
@@ -21,13 +22,12 @@ fn kappa_by(length: f64, weight: f64, d: usize) -> f64
 // The concentration of each group by its own length and weight.
 fn free_kappas(work: &mut [f64], m: usize, k: usize, d: usize)
     requires { ⌜ Area (length (now work)) m k d ⌝ }
-    ensures { λ _. ⌜ partsIn m k d (now (work .exit))
-        ≡ withKappas (tabulate (kappaAt d (partsIn m k d (now (work .entry)) .norms) (partsIn m k d (now (work .entry)) .totals)) k) (partsIn m k d (now (work .entry))) ⌝ }
+    ensures { λ _. ⌜ (let p = partsIn m k d (now (work .entry)) in
+        partsIn m k d (now (work .exit)) ≡ withKappas (tabulate (kappaAt d (p .norms) (p .totals)) k) p) ⌝ }
 {
-    let kd = k * d;
-    let kappas = kd + kd + k;
-    let totals = kappas + k + k;
-    let norms = totals + k;
+    let kappas = layout::kappas_at(k, d);
+    let totals = layout::totals_at(k, d);
+    let norms = layout::norms_at(k, d);
     let mut c = 0;
     while c < k {
         work[kappas + c] = kappa_by(work[norms + c], work[totals + c], d);
@@ -41,9 +41,8 @@ fn shared_kappa(work: &mut [f64], whole: f64, m: usize, k: usize, d: usize)
     ensures { λ _. ⌜ partsIn m k d (now (work .exit))
         ≡ withKappas (replicate k (sharedKappa d (sumFrom plusZero (partsIn m k d (now (work .entry)) .norms)) whole)) (partsIn m k d (now (work .entry))) ⌝ }
 {
-    let kd = k * d;
-    let kappas = kd + kd + k;
-    let norms = kappas + 3 * k;
+    let kappas = layout::kappas_at(k, d);
+    let norms = layout::norms_at(k, d);
     let s = &work[..];
     let pooled = vector::fold(&s[norms..norms + k]);
     kmeans_layout::fill_at(work, kappas, k, kappa_by(pooled, whole, d));

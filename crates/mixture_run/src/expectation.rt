@@ -8,6 +8,7 @@ ghost use Rattle.bessel.specs.Start.{StartOf};
 ghost use Rattle.mixture_kappa.specs.Groups.{logNormOf};
 ghost use Rattle.mixture_run.specs.Mixture.{basesOf, likenessAt, likenesses, expectUpTo};
 ghost use Rattle.mixture_run.specs.Areas.{partsIn, modelOf, withBases, withResp, basedFour, fourLikenesses, Area, Leaves, LeafOf, GroupOf};
+use super::layout;
 
 // That of a concentration after the last one, whose normalizer is `norm`; equal ones share it.
 fn norm_for(kappa: f64, last: f64, norm: f64, d: usize, start: f64) -> f64
@@ -27,10 +28,9 @@ pub(crate) fn put_bases(work: &mut [f64], m: usize, k: usize, d: usize)
         ≡ withBases (basesOf k d (modelOf (partsIn m k d (now (work .entry))))) (partsIn m k d (now (work .entry))) ⌝ }
 {
     let start = gamma_table::ln_gamma_half(d);
-    let kd = k * d;
-    let weights = kd + kd;
-    let kappas = weights + k;
-    let bases = kappas + k;
+    let weights = layout::weights_at(k, d);
+    let kappas = layout::kappas_at(k, d);
+    let bases = layout::bases_at(k, d);
     let mut last = work[kappas];
     let mut norm = mixture_kappa::log_norm_from(last, d, start);
     let mut c = 0;
@@ -57,12 +57,12 @@ fn likeness(work: &[f64], coords: &[f64], i: usize, c: usize, m: usize, k: usize
     requires { ⌜ (length (now coords) ≡ m * d) × (LeafOf i m k d) × (GroupOf c k d) ⌝ }
     ensures { λ r. ⌜ r ≡ likenessAt d (partsIn m k d (now (work .entry)) .bases) (modelOf (partsIn m k d (now (work .entry)))) (rowOf (now (coords .entry)) d i) c ⌝ }
 {
-    let kd = k * d;
-    let kappa = kd + kd + k + c;
+    let base = layout::bases_at(k, d) + c;
+    let kappa = layout::kappas_at(k, d) + c;
     let at = i * d;
     let row = c * d;
     let v = vector::dot(&coords[at..at + d], &work[row..row + d]);
-    based_at(work, kappa + k, kappa, v)
+    based_at(work, base, kappa, v)
 }
 
 // The likenesses that four dots give, by the four bases from `base` on and the four concentrations from `kappa` on.
@@ -92,9 +92,8 @@ fn four_likenesses(
     requires { ⌜ (length (now coords) ≡ m * d) × (LeafOf i m k d) × (c + 4 ≤ k) × ((c + 4) * d ≤ k * d) ⌝ }
     ensures { λ r. ⌜ r ≡ fourLikenesses d (partsIn m k d (now (work .entry)) .bases) (modelOf (partsIn m k d (now (work .entry)))) (rowOf (now (coords .entry)) d i) c ⌝ }
 {
-    let kd = k * d;
-    let kappa = kd + kd + k + c;
-    let base = kappa + k;
+    let base = layout::bases_at(k, d) + c;
+    let kappa = layout::kappas_at(k, d) + c;
     let at = i * d;
     let f = kmeans_nearest::row_dots(&coords[at..at + d], work, c, d);
     based(work, base, kappa, f)
@@ -119,17 +118,16 @@ fn put_likenesses(work: &mut [f64], coords: &[f64], i: usize, m: usize, k: usize
         ≡ withResp (putPart (partsIn m k d (now (work .entry)) .resp) (i * k) k (likenesses k d (partsIn m k d (now (work .entry)) .bases) (modelOf (partsIn m k d (now (work .entry)))) (rowOf (now (coords .entry)) d i)))
         (partsIn m k d (now (work .entry))) ⌝ }
 {
-    let kd = k * d;
-    let resp = kd + kd + 5 * k + i * k;
+    let row = layout::responsibilities_at(k, d) + i * k;
     let mut c = 0;
     while 4 <= k - c {
         let f = four_likenesses(work, coords, i, c, m, k, d);
-        put_four(work, resp + c, f);
+        put_four(work, row + c, f);
         c += 4;
     }
     while c < k {
         let v = likeness(work, coords, i, c, m, k, d);
-        work[resp + c] = v;
+        work[row + c] = v;
         c += 1;
     }
 }
@@ -155,7 +153,6 @@ pub(crate) fn expect(
         put_likenesses(work, coords, i, m, k, d);
         i += 1;
     }
-    let kd = k * d;
-    let resp = kd + kd + 5 * k;
+    let resp = layout::responsibilities_at(k, d);
     mixture_softmax::soften(&mut work[resp..resp + m * k], weights, k)
 }

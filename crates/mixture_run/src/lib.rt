@@ -12,6 +12,7 @@ ghost use Rattle.mixture_run.specs.Areas.{partsIn, modelOf, emOf, Area, 
 
 mod concentration;
 mod expectation;
+pub mod layout;
 mod maximization;
 mod start;
 

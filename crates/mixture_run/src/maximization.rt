@@ -10,6 +10,7 @@ ghost use Rattle.mixture_kappa.specs.Kappas.{tabulate};
 ghost use Rattle.mixture_run.specs.Mixture.{gatherGroup, gatherLeaf, gatherUpTo, evenWeight, weightBy, weightAt, directionsUpTo, maximize};
 ghost use Rattle.mixture_run.specs.Areas.{partsIn, modelOf, gatheredOf, withDirections, withWeights, withNorms, withGathered, Area, Leaves, LeafOf, GroupOf};
 use super::concentration;
+use super::layout;
 
 // The row at `to` gains w times the row of coordinates at `from`.
 fn add_row(work: &mut [f64], coords: &[f64], w: f64, to: usize, from: usize, d: usize)
@@ -36,12 +37,11 @@ fn gather_group(
         ≡ withGathered (gatherGroup d (mul binary64 weight (getD (rowOf (partsIn m k d (now (work .entry)) .resp) k i) c nan)) (rowOf (now (coords .entry)) d i) c (gatheredOf (partsIn m k d (now (work .entry)))))
         (partsIn m k d (now (work .entry))) ⌝ }
 {
-    let kd = k * d;
-    // the group's whole weight; its responsibility for leaf i stands 2 * k + i * k places on
-    let at = kd + kd + 3 * k + c;
-    let w = weight * work[at + k + k + i * k];
+    let at = layout::totals_at(k, d) + c;
+    let share = layout::responsibilities_at(k, d) + i * k + c;
+    let w = weight * work[share];
     work[at] = work[at] + w;
-    add_row(work, coords, w, kd + c * d, i * d, d);
+    add_row(work, coords, w, k * d + c * d, i * d, d);
 }
 
 // Every group gains leaf i.
@@ -77,7 +77,7 @@ fn gather(work: &mut [f64], weights: &[f64], coords: &[f64], m: usize, k: usize,
 {
     let kd = k * d;
     kmeans_layout::fill_at(work, kd, kd, 0.0);
-    kmeans_layout::fill_at(work, kd + kd + 3 * k, k, 0.0);
+    kmeans_layout::fill_at(work, layout::totals_at(k, d), k, 0.0);
     let mut i = 0;
     while i < m {
         gather_leaf(work, weights, coords, i, m, k, d);
@@ -90,11 +90,11 @@ pub(crate) fn put_norms(work: &mut [f64], m: usize, k: usize, d: usize)
     requires { ⌜ Area (length (now work)) m k d ⌝ }
     ensures { λ _. ⌜ partsIn m k d (now (work .exit)) ≡ withNorms (normsUpTo (partsIn m k d (now (work .entry)) .sums) d k) (partsIn m k d (now (work .entry))) ⌝ }
 {
-    let kd = k * d;
-    let norms = kd + kd + 4 * k;
+    let sums = k * d;
+    let norms = layout::norms_at(k, d);
     let mut c = 0;
     while c < k {
-        let at = kd + c * d;
+        let at = sums + c * d;
         let s = &work[..];
         let v = vector::norm(&s[at..at + d]);
         work[norms + c] = v;
@@ -127,9 +127,8 @@ fn put_weights(work: &mut [f64], whole: f64, m: usize, k: usize, d: usize)
     ensures { λ _. ⌜ partsIn m k d (now (work .exit))
         ≡ withWeights (tabulate (weightAt k whole (partsIn m k d (now (work .entry)) .totals)) k) (partsIn m k d (now (work .entry))) ⌝ }
 {
-    let kd = k * d;
-    let weights = kd + kd;
-    let totals = weights + 3 * k;
+    let weights = layout::weights_at(k, d);
+    let totals = layout::totals_at(k, d);
     let mut c = 0;
     while c < k {
         work[weights + c] = weight_by(work[totals + c], whole, k);
@@ -156,14 +155,14 @@ fn redirect(work: &mut [f64], m: usize, k: usize, d: usize)
     ensures { λ _. ⌜ partsIn m k d (now (work .exit))
         ≡ withDirections (directionsUpTo d (partsIn m k d (now (work .entry)) .sums) (partsIn m k d (now (work .entry)) .directions) k) (partsIn m k d (now (work .entry))) ⌝ }
 {
-    let kd = k * d;
-    let norms = kd + kd + 4 * k;
+    let sums = k * d;
+    let norms = layout::norms_at(k, d);
     let mut c = 0;
     while c < k {
         let n = work[norms + c];
         if n > 0.0 {
             let to = c * d;
-            divide_within(work, kd + to, to, d, n);
+            divide_within(work, sums + to, to, d, n);
         }
         c += 1;
     }
@@ -187,8 +186,7 @@ pub(crate) fn maximize_model(
 {
     gather(work, weights, coords, m, k, d);
     put_norms(work, m, k, d);
-    let kd = k * d;
-    let totals = kd + kd + 3 * k;
+    let totals = layout::totals_at(k, d);
     let s = &work[..];
     let whole = vector::sum(&s[totals..totals + k]);
     put_weights(work, whole, m, k, d);

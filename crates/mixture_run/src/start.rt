@@ -7,6 +7,7 @@ ghost use Rattle.mixture_run.specs.Mixture.{evenWeight};
 ghost use Rattle.mixture_run.specs.Fits.{labelTotalsUpTo, startKappasBy};
 ghost use Rattle.mixture_run.specs.Areas.{partsIn, withWeights, withTotals, withResp, Area, Labels};
 use super::concentration;
+use super::layout;
 use super::maximization;
 
 // The weights of the groups that the labels make.
@@ -15,8 +16,7 @@ fn label_totals(work: &mut [f64], marks: &[u32], weights: &[f64], m: usize, k: u
     requires { ⌜ Labels m k (now marks) ⌝ }
     ensures { λ _. ⌜ partsIn m k d (now (work .exit)) ≡ withTotals (labelTotalsUpTo (now (weights .entry)) (take m (now (marks .entry))) k m) (partsIn m k d (now (work .entry))) ⌝ }
 {
-    let kd = k * d;
-    let totals = kd + kd + 3 * k;
+    let totals = layout::totals_at(k, d);
     kmeans_layout::fill_at(work, totals, k, 0.0);
     let mut i = 0;
     while i < m {
@@ -43,8 +43,7 @@ pub(crate) fn init_kappas(
 {
     label_totals(work, marks, weights, m, k, d);
     maximization::put_norms(work, m, k, d);
-    let kd = k * d;
-    let totals = kd + kd + 3 * k;
+    let totals = layout::totals_at(k, d);
     let s = &work[..];
     let whole = vector::fold(&s[totals..totals + k]);
     concentration::concentrate(work, kappa, whole, m, k, d);
@@ -55,8 +54,11 @@ pub(crate) fn clear(work: &mut [f64], m: usize, k: usize, d: usize)
     requires { ⌜ Area (length (now work)) m k d ⌝ }
     ensures { λ _. ⌜ partsIn m k d (now (work .exit)) ≡ withResp (replicate (m * k) plusZero) (withWeights (replicate k (evenWeight k)) (partsIn m k d (now (work .entry)))) ⌝ }
 {
-    let kd = k * d;
-    let weights = kd + kd;
-    kmeans_layout::fill_at(work, weights, k, maximization::even_weight(k));
-    kmeans_layout::fill_at(work, weights + 5 * k, m * k, 0.0);
+    kmeans_layout::fill_at(
+        work,
+        layout::weights_at(k, d),
+        k,
+        maximization::even_weight(k),
+    );
+    kmeans_layout::fill_at(work, layout::responsibilities_at(k, d), m * k, 0.0);
 }

@@ -35,8 +35,11 @@ put-likenesses-requires c κs =
 abbrev start : tie.After-slice-known2 Inv-loop μ-loop → tie.Start Inv-loop μ-loop
 start p = let q = p .before .before .before .before .before in q .before .before .before .before
 
-abbrev start-2 : tie.After-slice-known3 Inv-loop μ-loop → tie.Start Inv-loop μ-loop
-start-2 p = let q = p .before .before .before .before .before in q .before .before .before .before
+abbrev placed : tie.After-slice-known3 Inv-loop μ-loop → tie.After-responsibilities-at Inv-loop μ-loop
+placed c = c .before .before .before .before
+
+abbrev start-2 : tie.After-responsibilities-at Inv-loop μ-loop → tie.Start Inv-loop μ-loop
+start-2 r = r .before .before .before .before .before .before
 
 loop-again : tie.Need-loop-again Inv-loop μ-loop
 loop-again c =
@@ -50,25 +53,28 @@ loop-again c =
 
 soften-requires : tie.Need-soften-requires Inv-loop μ-loop
 soften-requires c κs =
-    let l = c .before .before .loop in
-    let s = c .before .before .before .before .before .before in
+    let r = c .before in
+    let l = r .before .before .loop in
+    let s = start-2 r in
     let a = s .args in
-    rows-of (l .work) (a .weights .now) (a .m) (a .k) (a .d) _ (area-of (length (a .work .now)) (length (l .work)) (a .m) (a .k) (a .d) (l .inv .1) (s .pre .0)) (s .pre .1 .weights-long) refl
+    rows-of (l .work) (a .weights .now) (a .m) (a .k) (a .d) _ (area-of (length (a .work .now)) (length (l .work)) (a .m) (a .k) (a .d) (l .inv .1) (s .pre .0)) (s .pre .1 .weights-long) (r .responsibilities-at .ensures)
 
 returns : tie.Need-returns Inv-loop μ-loop
 returns c =
     let x = c .before .before .soften in
-    let l = c .before .before .before .before .before .loop in
-    let s = start-2 c in
+    let r = placed c in
+    let l = r .before .before .loop in
+    let s = start-2 r in
     let a = s .args in
-    let at = a .k * a .d + a .k * a .d + 5 * a .k in
+    let at = r .responsibilities-at .result in
+    let place = r .responsibilities-at .ensures in
     let n = at + a .m * a .k - at in
     let size : n ≡ a .m * a .k = omega arith in
-    let all : l .i ≡ a .m = omega (arith, c .before .before .before .before .loop-test .left, l .inv .0) in (
-      loglik-done (a .m) (a .k) (a .d) (a .work .now) (a .coords .now) (a .weights .now) (l .work) (l .i) at n (s .pre .1 .weights-long) (s .pre .0 .work-long) (l .inv .1) all (l .inv .2) refl size (x .result)
-          (x .ensures .0),
-      resp-done (a .m) (a .k) (a .d) (a .work .now) (a .coords .now) (a .weights .now) (l .work) (l .i) at n (s .pre .1 .weights-long) (s .pre .0 .work-long) (l .inv .1) all (l .inv .2) refl size (x .last .0)
-          (x .ensures .1),
+    let all : l .i ≡ a .m = omega (arith, r .before .loop-test .left, l .inv .0) in (
+      loglik-done (a .m) (a .k) (a .d) (a .work .now) (a .coords .now) (a .weights .now) (l .work) (l .i) at n (s .pre .1 .weights-long)
+          (s .pre .0 .work-long) (l .inv .1) all (l .inv .2) place size (x .result) (x .ensures .0),
+      resp-done (a .m) (a .k) (a .d) (a .work .now) (a .coords .now) (a .weights .now) (l .work) (l .i) at n (s .pre .1 .weights-long)
+          (s .pre .0 .work-long) (l .inv .1) all (l .inv .2) place size (x .last .0) (x .ensures .1),
     )
 
 pub expect-spec : {M : Type 1} → statement M
@@ -82,10 +88,7 @@ expect-spec =
     (λ c. search needs)
     (λ c. search needs)
     loop-again
-    (λ c. search needs)
-    (λ c. search needs)
-    (λ c. search needs)
-    (λ c. search needs)
+    (λ c κs. search needs)
     (λ c. search needs)
     (λ c. search needs)
     (λ c. search needs)

@@ -26,24 +26,25 @@ fill-at2-at p = let q = p .before .before .before .before in q .before .before .
 
 -- the start, and the area where the loop begins
 abbrev start : tie.After-fill-at2 Inv-loop μ-loop → tie.Start Inv-loop μ-loop
-start f = let q = f .before .before .before .before .before in q .before .before .before .before
+start f = let q = f .before .before .before .before .before in q .before .before .before .before .before
 
 abbrev begun : tie.After-fill-at2 Inv-loop μ-loop → List Float
 begun f = f .fill-at2 .last .0
 
 same-at : (f : tie.After-fill-at2 Inv-loop μ-loop) → length (begun f) ≡ length (start f .args .work .now)
-same-at f = f .fill-at2 .kept .0 ∙ f .before .before .before .before .fill-at .kept .0
+same-at f = f .fill-at2 .kept .0 ∙ f .before .before .before .before .before .fill-at .kept .0
 
 -- there the sums and the whole weights are cleared
 cleared-at : (f : tie.After-fill-at2 Inv-loop μ-loop) → let a = start f .args in
     partsIn (a .m) (a .k) (a .d) (begun f) ≡ leavesDone (a .weights .now) (a .coords .now) (a .k) (a .d) (partsIn (a .m) (a .k) (a .d) (a .work .now)) 0
 unfolding ofBits
 cleared-at f =
-    let g = f .before .before .before .before in
+    let t = f .before .totals-at in
+    let g = f .before .before .before .before .before in
     let s = start f in
     let a = s .args in
-    cleared (a .weights .now) (a .coords .now) (a .m) (a .k) (a .d) (a .work .now) (g .fill-at .last .0) (begun f) (s .pre .0) (g .fill-at .kept .0) (g .fill-at .ensures)
-    (f .fill-at2 .ensures)
+    cleared (a .weights .now) (a .coords .now) (a .m) (a .k) (a .d) (t .result) (a .work .now) (g .fill-at .last .0) (begun f) (t .ensures)
+    (s .pre .0) (g .fill-at .kept .0) (g .fill-at .ensures) (f .fill-at2 .ensures)
 
 loop-holds : tie.Need-loop-holds Inv-loop μ-loop
 loop-holds c =
@@ -93,9 +94,7 @@ gather-spec =
     μ-loop
     (λ c. search needs)
     (λ c κs. search needs)
-    (λ c. search needs)
-    (λ c. search needs)
-    (λ c. search needs)
+    (λ c κs. search needs)
     (λ c κs. search needs)
     loop-holds
     gather-leaf-requires
