@@ -20,7 +20,7 @@ use Rattle.kmeans_sums.specs.Sums.{normsUpTo, centerBy}
 use Rattle.kmeans_sums.proofs.Sums.{norms-length}
 use Rattle.rows.proofs.Rows.{put-same}
 use Rattle.mixture_run.specs.Mixture.{directionsUpTo}
-use Rattle.mixture_run.specs.Areas.{Parts, partsIn, withDirections, withNorms, total}
+use Rattle.mixture_run.specs.Areas.{Parts, partsIn, normsAt, withDirections, withNorms, total}
 use Rattle.mixture_run.proofs.Regions.{directionsR, sumsR, normsR, frontIn, get-in, part-in, put-in, length-in, front-in-start, front-in-turn, front-in-end}
 
 -- ---- the norms of the rows
@@ -42,11 +42,11 @@ module _ (m k d : ℕ) (w₀ : List Float) where
   unfolding normsUpTo
   norms-start = front-in-start normsR m k d w₀
 
-  pub norms-turn : (w : List Float) (c : ℕ) (v : Float) → c < k → total m k d ≤ length w₀
+  pub norms-turn : (w : List Float) (to c : ℕ) (v : Float) → to ≡ normsAt k d + c → c < k → total m k d ≤ length w₀
       → v ≡ normOf (part w (k * d + c * d) (k * d + c * d + d - (k * d + c * d))) → partsIn m k d w ≡ normsDone c
-      → partsIn m k d (set w (k * d + k * d + 4 * k + c) v) ≡ normsDone (c + 1)
+      → partsIn m k d (set w to v) ≡ normsDone (c + 1)
   unfolding normsUpTo
-  norms-turn w c v h t e f =
+  norms-turn w to c v place h t e f =
       let sums = partsIn m k d w₀ .sums in
       let at = k * d + c * d in
       let g : at + d - at ≡ d = omega arith in
@@ -54,7 +54,7 @@ module _ (m k d : ℕ) (w₀ : List Float) where
       part-in sumsR m k d w at (c * d) d (omega arith) (row-within c k d h) ∙ ap (λ (q : Parts). rowOf (q .sums) d c) f in
       let ev : v ≡ normOf (rowOf sums d c) = e ∙ rw (g, row) in
       let more : normsUpTo sums d c ++ (v ∷ []) ≡ normsUpTo sums d (c + 1) = rw (add-one, ev) in
-      front-in-turn normsR m k d w₀ w (normsUpTo sums d c) _ c v (norms-length sums d c) (omega arith) h t f
+      front-in-turn normsR m k d w₀ w (normsUpTo sums d c) _ c v (norms-length sums d c) (omega (arith, place)) h t f
       ∙ ap (λ (l : List Float). frontIn normsR m k d w₀ l (c + 1)) more
 
   pub norms-end : (w : List Float) (c : ℕ) → c ≡ k → total m k d ≤ length w₀ → partsIn m k d w ≡ normsDone c
@@ -104,10 +104,7 @@ module _ (d : ℕ) (p₀ : Parts) where
   directions-start = refl
 
 module _ (m k d : ℕ) (p₀ : Parts) (w : List Float) (c : ℕ) (h : c < k) (long : total m k d ≤ length w) (norms : p₀ .norms ≡ normsUpTo (p₀ .sums) d k)
-    (f : partsIn m k d w ≡ directionsDone d p₀ c) where
-  abbrev normAt : ℕ
-  normAt = k * d + k * d + 4 * k + c
-
+    (f : partsIn m k d w ≡ directionsDone d p₀ c) (normAt : ℕ) (place : normAt ≡ normsAt k d + c) where
   -- the norm that a turn reads, and the row it divides
   norm-is : getD w normAt nan ≡ normOf (rowOf (p₀ .sums) d c)
   norm-is =

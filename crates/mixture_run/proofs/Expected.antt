@@ -19,13 +19,13 @@ use Rattle.mixture_softmax.proofs.Joined.{joined-length, joined-row, joined-non
 use Rattle.rows.proofs.Fills.{front-end}
 use Rattle.mixture_kappa.specs.Kappas.{tabulate}
 use Rattle.mixture_run.specs.Mixture.{Model, likenessAt, likenesses, softmax, expectUpTo}
-use Rattle.mixture_run.specs.Areas.{Parts, partsIn, total, modelOf, withResp, basedFour, fourLikenesses}
+use Rattle.mixture_run.specs.Areas.{Parts, partsIn, kappasAt, basesAt, respAt, total, modelOf, withResp, basedFour, fourLikenesses}
 use Rattle.mixture_run.proofs.Regions.{directionsR, kappasR, basesR, respR, set-in, get-in, part-in, whole-in, put-whole-in, length-in, tabulate-length, tabulate-turn}
 
 -- ---- the likenesses of a leaf
 
 -- one of them, by what the code reads
-pub likeness-done : (m k d : ℕ) (w coords : List Float) (i c : ℕ) (v : Float) (base kappa at n : ℕ) → base ≡ k * d + k * d + k + k + c → kappa ≡ k * d + k * d + k + c
+pub likeness-done : (m k d : ℕ) (w coords : List Float) (i c : ℕ) (v : Float) (base kappa at n : ℕ) → base ≡ basesAt k d + c → kappa ≡ kappasAt k d + c
     → at ≡ c * d → n ≡ d → c < k → v ≡ dotOf (part coords (i * d) (i * d + d - i * d)) (part w at n)
     → add binary64 (getD w base nan) (mul binary64 (getD w kappa nan) v) ≡ likenessAt d (partsIn m k d w .bases) (modelOf (partsIn m k d w)) (rowOf coords d i) c
 likeness-done m k d w coords i c v base kappa at n b q a f h e =
@@ -35,14 +35,13 @@ likeness-done m k d w coords i c v base kappa at n b q a f h e =
     rw (base-in, kappa-in, e, part-cut coords (i * d) d, f, row)
 
 -- four of them
-pub four-done : (m k d : ℕ) (w coords : List Float) (i c : ℕ) (f : Four) → c + 4 ≤ k → f ≡ rowDots (part coords (i * d) (i * d + d - i * d)) w d c
-    → _≡_ {A = Four} (basedFour w (k * d + k * d + k + c + k) (k * d + k * d + k + c) f)
+pub four-done : (m k d : ℕ) (w coords : List Float) (i c : ℕ) (f : Four) (base kappa : ℕ) → base ≡ basesAt k d + c → kappa ≡ kappasAt k d + c
+    → c + 4 ≤ k → f ≡ rowDots (part coords (i * d) (i * d + d - i * d)) w d c
+    → _≡_ {A = Four} (basedFour w base kappa f)
     (fourLikenesses d (partsIn m k d w .bases) (modelOf (partsIn m k d w)) (rowOf coords d i) c)
-four-done m k d w coords i c f h is =
-    let base = k * d + k * d + k + c + k in
-    let kappa = k * d + k * d + k + c in
+four-done m k d w coords i c f base kappa b q h is =
     let one = likeness-done m k d w coords i in
-    let at-a = one c (f .a) base kappa (c * d) d (omega arith) refl refl refl (omega arith) (ap (λ (g : Four). g .a) is) in
+    let at-a = one c (f .a) base kappa (c * d) d b q refl refl (omega arith) (ap (λ (g : Four). g .a) is) in
     let at-b = one (c + 1) (f .b) (base + 1) (kappa + 1) ((c + 1) * d) d (omega arith) (omega arith) refl refl (omega arith) (ap (λ (g : Four). g .b) is) in
     let at-c = one (c + 2) (f .c) (base + 2) (kappa + 2) ((c + 2) * d) d (omega arith) (omega arith) refl refl (omega arith) (ap (λ (g : Four). g .c) is) in
     let at-e = one (c + 3) (f .e) (base + 3) (kappa + 3) ((c + 3) * d) d (omega arith) (omega arith) refl refl (omega arith) (ap (λ (g : Four). g .e) is) in
@@ -60,7 +59,7 @@ module _ (m k d : ℕ) (w₀ coords : List Float) (i : ℕ) where
 
   module _ (r : i * k + k ≤ m * k) (g : total m k d ≤ length w₀) where
     -- one stored
-    liked-store : (w : List Float) (at c n : ℕ) (v : Float) → at ≡ k * d + k * d + 5 * k + i * k + c → n ≡ c + 1 → c < k
+    liked-store : (w : List Float) (at c n : ℕ) (v : Float) → at ≡ respAt k d + i * k + c → n ≡ c + 1 → c < k
         → v ≡ likenessAt d (partsIn m k d w₀ .bases) (modelOf (partsIn m k d w₀)) (rowOf coords d i) c → partsIn m k d w ≡ liked c → partsIn m k d (set w at v) ≡ liked n
     liked-store w at c n v a s h e f =
         let p₀ = partsIn m k d w₀ in
@@ -72,25 +71,23 @@ module _ (m k d : ℕ) (w₀ coords : List Float) (i : ℕ) where
         ∙ ap (λ (l : List Float). withResp l p₀) (put-more (p₀ .resp) (tabulate like c) (i * k) c v nan (tabulate-length like c) inside)
         ∙ ap (λ (l : List Float). withResp (putPart (p₀ .resp) (i * k) (c + 1) l) p₀) (tabulate-turn like c v e))
 
-    pub liked-turn : (w : List Float) (c : ℕ) (v : Float) → c < k → v ≡ likenessAt d (partsIn m k d w .bases) (modelOf (partsIn m k d w)) (rowOf coords d i) c
-        → partsIn m k d w ≡ liked c → partsIn m k d (set w (k * d + k * d + 5 * k + i * k + c) v) ≡ liked (c + 1)
-    liked-turn w c v h e f =
-        liked-store w (k * d + k * d + 5 * k + i * k + c) c (c + 1) v refl refl h
+    pub liked-turn : (w : List Float) (at c : ℕ) (v : Float) → at ≡ respAt k d + i * k + c → c < k → v ≡ likenessAt d (partsIn m k d w .bases) (modelOf (partsIn m k d w)) (rowOf coords d i) c
+        → partsIn m k d w ≡ liked c → partsIn m k d (set w at v) ≡ liked (c + 1)
+    liked-turn w at c v a h e f =
+        liked-store w at c (c + 1) v a refl h
         (e ∙ ap (λ (p : Parts). likenessAt d (p .bases) (modelOf p) (rowOf coords d i) c) f) f
 
     -- four stored
-    pub liked-four : (w w' : List Float) (c : ℕ) (v : Four) → c + 4 ≤ k
+    pub liked-four : (w w' : List Float) (at c : ℕ) (v : Four) → at ≡ respAt k d + i * k + c → c + 4 ≤ k
         → v ≡ fourLikenesses d (partsIn m k d w .bases) (modelOf (partsIn m k d w)) (rowOf coords d i) c
-        → let at = k * d + k * d + 5 * k + i * k + c in
-        w' ≡ set (set (set (set w at (v .a)) (at + 1) (v .b)) (at + 2) (v .c)) (at + 3) (v .e) → partsIn m k d w ≡ liked c → partsIn m k d w' ≡ liked (c + 4)
-    liked-four w w' c v h e s f =
-        let at = k * d + k * d + 5 * k + i * k + c in
+        → w' ≡ set (set (set (set w at (v .a)) (at + 1) (v .b)) (at + 2) (v .c)) (at + 3) (v .e) → partsIn m k d w ≡ liked c → partsIn m k d w' ≡ liked (c + 4)
+    liked-four w w' at c v a h e s f =
         let is : v ≡ fourLikenesses d (partsIn m k d w₀ .bases) (modelOf (partsIn m k d w₀)) (rowOf coords d i) c =
         e ∙ ap (λ (p : Parts). fourLikenesses d (p .bases) (modelOf p) (rowOf coords d i) c) f in
         let w₁ = set w at (v .a) in
         let w₂ = set w₁ (at + 1) (v .b) in
         let w₃ = set w₂ (at + 2) (v .c) in
-        let f₁ = liked-store w at c (c + 1) (v .a) refl refl (omega arith) (ap (λ (g : Four). g .a) is) f in
+        let f₁ = liked-store w at c (c + 1) (v .a) a refl (omega arith) (ap (λ (g : Four). g .a) is) f in
         let f₂ = liked-store w₁ (at + 1) (c + 1) (c + 2) (v .b) (omega arith) (omega arith) (omega arith) (ap (λ (g : Four). g .b) is) f₁ in
         let f₃ = liked-store w₂ (at + 2) (c + 2) (c + 3) (v .c) (omega arith) (omega arith) (omega arith) (ap (λ (g : Four). g .c) is) f₂ in
         ap (partsIn m k d) s ∙ liked-store w₃ (at + 3) (c + 3) (c + 4) (v .e) (omega arith) (omega arith) (omega arith) (ap (λ (g : Four). g .e) is) f₃
@@ -162,7 +159,7 @@ module _ (m k d : ℕ) (w₀ coords : List Float) where
 
   -- all of them, softened in their places
   module _ (weights w : List Float) (i at n : ℕ) (long : length weights ≡ m) (room : total m k d ≤ length w₀) (same : length w ≡ length w₀) (all : i ≡ m)
-      (f : partsIn m k d w ≡ likesIn i) (start : at ≡ k * d + k * d + 5 * k) (size : n ≡ m * k) where
+      (f : partsIn m k d w ≡ likesIn i) (start : at ≡ respAt k d) (size : n ≡ m * k) where
     liked-all : partsIn m k d w ≡ withResp (joined likes m) (partsIn m k d w₀)
     liked-all =
         let p₀ = partsIn m k d w₀ in

@@ -14,7 +14,7 @@ use Rattle.vector.specs.Vectors.{addScaled}
 use Rattle.rows.proofs.Rows.{length-part}
 use Rattle.vector.proofs.Vectors.{add-scaled-length}
 use Rattle.mixture_run.specs.Mixture.{gatherGroup, gatherLeaf, gatherUpTo}
-use Rattle.mixture_run.specs.Areas.{Parts, partsIn, gatheredOf, withSums, withTotals, withGathered, Area, LeafOf, GroupOf, total}
+use Rattle.mixture_run.specs.Areas.{Parts, partsIn, totalsAt, respAt, gatheredOf, withSums, withTotals, withGathered, Area, LeafOf, GroupOf, total}
 use Rattle.mixture_run.proofs.Regions.{sumsR, totalsR, respR, set-in, get-in, part-in, put-in, length-in}
 use Rattle.mixture_run.proofs.Groups.{fill-in}
 
@@ -31,12 +31,10 @@ row-added w x r v to from d e =
     rw (e, f, g)
 
 -- ---- group c gains leaf i: its whole weight is stored, then its row of the sums
-module _ (m k d : ℕ) (w coords : List Float) (weight : Float) (i c : ℕ) (area : Area (length w) m k d) (leaf : LeafOf i m k d) (group : GroupOf c k d) where
-  abbrev totalAt : ℕ
-  totalAt = k * d + k * d + 3 * k + c
-
+module _ (m k d : ℕ) (w coords : List Float) (weight : Float) (i c : ℕ) (area : Area (length w) m k d) (leaf : LeafOf i m k d) (group : GroupOf c k d)
+    (totalAt shareAt : ℕ) (total-is : totalAt ≡ totalsAt k d + c) (share-is : shareAt ≡ respAt k d + i * k + c) where
   abbrev gained : Float
-  gained = mul binary64 weight (getD w (totalAt + k + k + i * k) nan)
+  gained = mul binary64 weight (getD w shareAt nan)
 
   abbrev stored : List Float
   stored = set w totalAt (add binary64 (getD w totalAt nan) gained)
@@ -51,8 +49,8 @@ module _ (m k d : ℕ) (w coords : List Float) (weight : Float) (i c : ℕ) (are
       let p = partsIn m k d w in
       let at = k * d + c * d in
       let t : total m k d ≤ length stored = rw length-set (area .work-long) in
-      let share : getD w (totalAt + k + k + i * k) nan ≡ getD (rowOf (p .resp) k i) c nan =
-      get-in respR m k d w (totalAt + k + k + i * k) (i * k + c) nan (omega arith) (omega (arith, leaf .shares, group .below))
+      let share : getD w shareAt nan ≡ getD (rowOf (p .resp) k i) c nan =
+      get-in respR m k d w shareAt (i * k + c) nan (omega arith) (omega (arith, leaf .shares, group .below))
       ∙ sym (row-get (p .resp) k i c nan (group .below)) in
       let g₁ = mul binary64 weight (getD (rowOf (p .resp) k i) c nan) in
       let eg : gained ≡ g₁ = ap (λ (x : Float). mul binary64 weight x) share in
@@ -98,12 +96,12 @@ module _ (weights coords : List Float) (k d : ℕ) (p₀ : Parts) where
       rw add-one (f ∙ ap (λ (q : Parts). withGathered (gatherLeaf d (getD weights i nan) (rowOf (q .resp) k i) (rowOf coords d i) (gatheredOf q) k) q) e)
 
 -- where the loop begins, the sums and the whole weights are cleared
-pub cleared : (weights coords : List Float) (m k d : ℕ) (w w₁ w₂ : List Float) → Area (length w) m k d → length w₁ ≡ length w
-    → w₁ ≡ putPart w (k * d) (k * d) (replicate (k * d) plusZero) → w₂ ≡ putPart w₁ (k * d + k * d + 3 * k) k (replicate k plusZero)
+pub cleared : (weights coords : List Float) (m k d at : ℕ) (w w₁ w₂ : List Float) → at ≡ totalsAt k d → Area (length w) m k d
+    → length w₁ ≡ length w → w₁ ≡ putPart w (k * d) (k * d) (replicate (k * d) plusZero) → w₂ ≡ putPart w₁ at k (replicate k plusZero)
     → partsIn m k d w₂ ≡ leavesDone weights coords k d (partsIn m k d w) 0
 unfolding gatherUpTo
-cleared weights coords m k d w w₁ w₂ area l e₁ e₂ =
-    fill-in totalsR m k d w₁ w₂ (k * d + k * d + 3 * k) k plusZero (omega arith) refl (omega (arith, area .work-long, l)) e₂
+cleared weights coords m k d at w w₁ w₂ place area l e₁ e₂ =
+    fill-in totalsR m k d w₁ w₂ at k plusZero (omega arith) refl (omega (arith, area .work-long, l)) e₂
     ∙ ap (withTotals (replicate k plusZero)) (fill-in sumsR m k d w w₁ (k * d) (k * d) plusZero (omega arith) refl (area .work-long) e₁)
 
 -- the start, and the end from the parts before the clearing

@@ -10,7 +10,7 @@ use lib.Seq.{getD-take}
 use lib.Ieee.{Float, nan, binary64, add}
 use Rattle.float.specs.Arithmetic.{plusZero}
 use Rattle.mixture_run.specs.Fits.{labelTotalsUpTo}
-use Rattle.mixture_run.specs.Areas.{Parts, partsIn, withTotals}
+use Rattle.mixture_run.specs.Areas.{Parts, partsIn, totalsAt, withTotals}
 use Rattle.mixture_run.proofs.Regions.{totalsR, set-in, get-in}
 
 module _ (m k d : ℕ) (w₀ weights : List Float) (marks : List ℕ) where
@@ -22,12 +22,11 @@ module _ (m k d : ℕ) (w₀ weights : List Float) (marks : List ℕ) where
   unfolding labelTotalsUpTo
   totals-start w e = e ∙ ap (withTotals (replicate k plusZero)) (sym e)
 
-  pub totals-turn : (w : List Float) (i : ℕ) → i < m → getD marks i 0 < k → partsIn m k d w ≡ totalled i
-      → let at = k * d + k * d + 3 * k + getD marks i 0 in partsIn m k d (set w at (add binary64 (getD w at nan) (getD weights i nan))) ≡ totalled (i + 1)
+  pub totals-turn : (w : List Float) (at i : ℕ) → at ≡ totalsAt k d + getD marks i 0 → i < m → getD marks i 0 < k
+      → partsIn m k d w ≡ totalled i → partsIn m k d (set w at (add binary64 (getD w at nan) (getD weights i nan))) ≡ totalled (i + 1)
   unfolding labelTotalsUpTo
-  totals-turn w i h b f =
+  totals-turn w at i place h b f =
       let c = getD marks i 0 in
-      let at = k * d + k * d + 3 * k + c in
       let t = labelTotalsUpTo weights (take m marks) k i in
       let v = add binary64 (getD w at nan) (getD weights i nan) in
       let e : v ≡ add binary64 (getD t c nan) (getD weights i nan) =

@@ -30,6 +30,25 @@ lengths m k d = k * d ∷ k * d ∷ k ∷ k ∷ k ∷ k ∷ k ∷ m * k ∷ []
 abbrev pub total : ℕ → ℕ → ℕ → ℕ
 total m k d = k * d + k * d + k + k + k + k + k + m * k
 
+-- where the regions start; the directions stand at 0 and the resultants at k * d
+abbrev pub weightsAt : (k d : ℕ) → ℕ
+weightsAt k d = k * d + k * d
+
+abbrev pub kappasAt : (k d : ℕ) → ℕ
+kappasAt k d = k * d + k * d + k
+
+abbrev pub basesAt : (k d : ℕ) → ℕ
+basesAt k d = k * d + k * d + k + k
+
+abbrev pub totalsAt : (k d : ℕ) → ℕ
+totalsAt k d = k * d + k * d + k + k + k
+
+abbrev pub normsAt : (k d : ℕ) → ℕ
+normsAt k d = k * d + k * d + k + k + k + k
+
+abbrev pub respAt : (k d : ℕ) → ℕ
+respAt k d = k * d + k * d + k + k + k + k + k
+
 abbrev pub named : List (List Float) → Parts
 named w =
     record {

@@ -1,0 +1,64 @@
+// What stands before the first round: the concentrations of the labelled groups, weights 1 / k, no responsibilities.
+ghost use mathlib.Core.Path.{_≡_};
+ghost use Prim.Native.Nat.{_+_, _*_, _<_, _≤_};
+ghost use lib.ListN.{length, replicate, take};
+ghost use Rattle.float.specs.Arithmetic.{plusZero};
+ghost use Rattle.mixture_run.specs.Mixture.{evenWeight};
+ghost use Rattle.mixture_run.specs.Fits.{labelTotalsUpTo, startKappasBy};
+ghost use Rattle.mixture_run.specs.Areas.{partsIn, withWeights, withTotals, withResp, Area, Labels};
+use super::concentration;
+use super::layout;
+use super::maximization;
+
+// The weights of the groups that the labels make.
+fn label_totals(work: &mut [f64], marks: &[u32], weights: &[f64], m: usize, k: usize, d: usize)
+    requires { ⌜ (Area (length (now work)) m k d) × (length (now weights) ≡ m) × (m ≤ length (now marks)) ⌝ }
+    requires { ⌜ Labels m k (now marks) ⌝ }
+    ensures { λ _. ⌜ partsIn m k d (now (work .exit)) ≡ withTotals (labelTotalsUpTo (now (weights .entry)) (take m (now (marks .entry))) k m) (partsIn m k d (now (work .entry))) ⌝ }
+{
+    let totals = layout::totals_at(k, d);
+    kmeans_layout::fill_at(work, totals, k, 0.0);
+    let mut i = 0;
+    while i < m {
+        let at = totals + marks[i] as usize;
+        work[at] = work[at] + weights[i];
+        i += 1;
+    }
+}
+
+// The concentrations of the groups that the labels make, whose resultants stand in the area.
+pub(crate) fn init_kappas(
+    work: &mut [f64],
+    marks: &[u32],
+    weights: &[f64],
+    kappa: mixture_kappa::Kappa,
+    m: usize,
+    k: usize,
+    d: usize,
+)
+    requires { ⌜ (Area (length (now work)) m k d) × (length (now weights) ≡ m) × (m ≤ length (now marks)) ⌝ }
+    requires { ⌜ Labels m k (now marks) ⌝ }
+    ensures { λ _. ⌜ (partsIn m k d (now (work .exit)) .directions ≡ partsIn m k d (now (work .entry)) .directions)
+        × (partsIn m k d (now (work .exit)) .kappas ≡ startKappasBy kappa k d (partsIn m k d (now (work .entry)) .sums) (labelTotalsUpTo (now (weights .entry)) (take m (now (marks .entry))) k m)) ⌝ }
+{
+    label_totals(work, marks, weights, m, k, d);
+    maximization::put_norms(work, m, k, d);
+    let totals = layout::totals_at(k, d);
+    let s = &work[..];
+    let whole = vector::fold(&s[totals..totals + k]);
+    concentration::concentrate(work, kappa, whole, m, k, d);
+}
+
+// Weights 1 / k, and no responsibilities.
+pub(crate) fn clear(work: &mut [f64], m: usize, k: usize, d: usize)
+    requires { ⌜ Area (length (now work)) m k d ⌝ }
+    ensures { λ _. ⌜ partsIn m k d (now (work .exit)) ≡ withResp (replicate (m * k) plusZero) (withWeights (replicate k (evenWeight k)) (partsIn m k d (now (work .entry)))) ⌝ }
+{
+    kmeans_layout::fill_at(
+        work,
+        layout::weights_at(k, d),
+        k,
+        maximization::even_weight(k),
+    );
+    kmeans_layout::fill_at(work, layout::responsibilities_at(k, d), m * k, 0.0);
+}
