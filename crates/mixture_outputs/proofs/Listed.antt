@@ -1,5 +1,5 @@
--- What fills the outputs: a list written place by place with f 0, f 1, ..; a part of an area as the code cuts it; the logw of a group by reads of the area. By the laws
--- of the regions. Assumes nothing.
+-- What fills the outputs: a list written place by place with f 0, f 1, ..; a part of an area as the code cuts it; the logw of
+-- a group by reads of the area. By the laws of the regions. Assumes nothing.
 use mathlib.Core.Path.{_≡_, ap, ap₂, _∙_}
 use mathlib.Core.List.{List, [], _∷_, _++_}
 use Prim.Native.Nat.{ℕ, _+_, _*_, _-_, _≤_, _<_}
@@ -16,7 +16,7 @@ use Rattle.pick.proofs.Places.{argmax-below}
 use Rattle.mixture_kappa.specs.Kappas.{tabulate}
 use Rattle.mixture_kappa.specs.Groups.{logNormOf}
 use Rattle.mixture_run.specs.Fits.{lnWeight, logwAt}
-use Rattle.mixture_run.specs.Areas.{partsIn, modelOf}
+use Rattle.mixture_run.specs.Areas.{partsIn, modelOf, weightsAt, kappasAt}
 use Rattle.mixture_run.proofs.Regions.{weightsR, kappasR, get-in, tabulate-turn}
 
 -- ---- a list of which the first i places are written
@@ -40,9 +40,9 @@ label-below l at n v h g e =
     omega (arith, e, long, argmax-below (part l at (at + n - at)) (omega (arith, long)))
 
 -- ---- ln weight + log normalizer of group c
-pub logw-is : (m k d : ℕ) (w : List Float) (c : ℕ) (x y : Float) → c < k → x ≡ lnWeight (getD w (k * d + k * d + c) nan) → y ≡ logNormOf d (getD w (k * d + k * d + k + c) nan)
-    → add binary64 x y ≡ logwAt d (modelOf (partsIn m k d w)) c
-logw-is m k d w c x y h e f =
-    let r₁ = get-in weightsR m k d w (k * d + k * d + c) c nan (omega arith) h in
-    let r₂ = get-in kappasR m k d w (k * d + k * d + k + c) c nan (omega arith) h in
+pub logw-is : (m k d : ℕ) (w : List Float) (c p q : ℕ) (x y : Float) → c < k → p ≡ weightsAt k d → q ≡ kappasAt k d
+    → x ≡ lnWeight (getD w (p + c) nan) → y ≡ logNormOf d (getD w (q + c) nan) → add binary64 x y ≡ logwAt d (modelOf (partsIn m k d w)) c
+logw-is m k d w c p q x y h ep eq e f =
+    let r₁ = get-in weightsR m k d w (p + c) c nan (omega arith) h in
+    let r₂ = get-in kappasR m k d w (q + c) c nan (omega arith) h in
     ap₂ (add binary64) (e ∙ ap lnWeight r₁) (f ∙ ap (logNormOf d) r₂)

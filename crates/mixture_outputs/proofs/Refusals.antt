@@ -1,28 +1,31 @@
--- Number 4: what it says that the arrays are long enough, and that beside the limits both halves of the work arrays have room and the outputs can be filled. By cases
--- on the Bools of the tests. Assumes nothing.
+-- What it says that a mixture fit is not refused: the leaves are within the limits, and the arrays are long enough for its runs
+-- and outputs. By cases on the Bools of the tests. Assumes nothing.
 use mathlib.Core.Path.{_≡_, refl}
-use mathlib.Core.Bool.{true}
+use mathlib.Core.List.{List}
+use mathlib.Core.Bool.{Bool, true}
 use Prim.Native.Nat.{ℕ, _*_, _≤_}
-use native.Mathlib.Nat.{mul-le-mul}
 use native.Mathlib.Omega.{arith}
 use lib.Dec.{leb}
+use lib.ListN.{length}
+use lib.Ieee.{Float}
 use borrow.Author.Tests.{leb-true}
-use Rattle.limits.specs.Limits.{workLength, marksLength}
-use Rattle.limits.proofs.Limits.{both}
-use Rattle.mixture_restarts.specs.Halves.{Roomy}
-use Rattle.mixture_restarts.proofs.Halves.{halved}
-use Rattle.mixture_outputs.specs.Refusals.{outputsOk, arraysOk}
-use Rattle.mixture_outputs.specs.Fillable.{LeavesFit, GroupsFit, Fillable}
+use Rattle.limits.specs.Limits.{workLength, marksLength, mostGroups, LeavesOk}
+use Rattle.limits.proofs.Limits.{both, admitted, sizes-met}
+use Rattle.limits.proofs.Sizes.{sizes-of}
+use Rattle.mixture_kappa.specs.declared.Settings.{Settings}
+use Rattle.mixture_restarts.proofs.Halves.{halves-of}
+use Rattle.mixture_outputs.specs.Refusals.{outputsOk, arraysOk, fitRefusal}
+use Rattle.mixture_outputs.specs.Fillable.{LeavesFit, GroupsFit, Fillable, Fittable}
 use Rattle.mixture_outputs.specs.declared.Lengths.{Lengths}
 
--- the arrays are long enough for k groups
-pub record Arrays (m k d : ℕ) (l : Lengths) : Type 0 where
-  pub leaves : LeavesFit (l .labels) (l .responsibilities) m k
-  pub groups : GroupsFit (l .weights) (l .directions) (l .concentrations) (l .logw) k d
-  pub work-long : workLength m k d ≤ l .work
-  pub marks-long : marksLength m k ≤ l .marks
+-- ---- the arrays are long enough for k groups
+record Arrays (m k d : ℕ) (l : Lengths) : Type 0 where
+  leaves : LeavesFit (l .labels) (l .responsibilities) m k
+  groups : GroupsFit (l .weights) (l .directions) (l .concentrations) (l .logw) k d
+  work-long : workLength m k d ≤ l .work
+  marks-long : marksLength m k ≤ l .marks
 
-pub arrays-met : (m k d : ℕ) (l : Lengths) → arraysOk m k d l ≡ true → Arrays m k d l
+arrays-met : (m k d : ℕ) (l : Lengths) → arraysOk m k d l ≡ true → Arrays m k d l
 arrays-met m k d l e =
     let o = both (outputsOk m k d l) _ e in
     let w = both (leb (workLength m k d) (l .work)) (leb (marksLength m k) (l .marks)) (o .1) in
@@ -44,36 +47,50 @@ arrays-met m k d l e =
       marks-long = leb-true _ _ (w .1);
     }
 
--- both halves have room
-pub roomy-by : (m k d rounds coords : ℕ) (l : Lengths) → (1 ≤ m) × (m ≤ 4096) × (1 ≤ d) × (d ≤ 256) × (coords ≡ m * d) → 1 ≤ k → k ≤ 64 → rounds ≤ 10000 → Arrays m k d l
-    → Roomy (l .work) (l .marks) m coords m k d rounds
-roomy-by m k d rounds coords l s some small r a =
+-- ---- nothing is refused
+pub record Ready (groups : Bool) (weights coords : List Float) (d k rounds : ℕ) (l : Lengths) : Type 0 where
+  pub admitted : groups ≡ true
+  pub fittable : Fittable (length weights) (length coords) (length weights) k d rounds l
+  pub leaves : LeavesOk weights coords d
+
+pub ready : (groups : Bool) (weights coords : List Float) (d k : ℕ) (s : Settings) (l : Lengths)
+    → (groups ≡ true → (1 ≤ k) × (k ≤ mostGroups)) → fitRefusal groups weights coords d k s l ≡ 0
+    → Ready groups weights coords d k (s .rounds) l
+unfolding fitRefusal
+ready groups weights coords d k s l few none =
+    let m = length weights in
+    let t = admitted _ groups _ _ _ _ none in
+    let z = sizes-met m d (length coords) (t .sizes-ok) in
+    let g = few (t .groups-ok) in
+    let a = arrays-met m k d l (t .arrays-ok) in
     record {
-      m-some = s .0;
-      m-small = s .1;
-      k-some = some;
-      k-small = small;
-      d-some = s .2;
-      d-small = s .3;
-      mk-small = mul-le-mul (s .1) small;
-      kd-small = mul-le-mul small (s .3);
-      md-small = mul-le-mul (s .1) (s .3);
-      work-long = omega (arith, a .work-long);
-      marks-long = omega (arith, a .marks-long);
-      weights-long = refl;
-      coords-long = s .4;
-      rounds-small = r;
+      admitted = t .groups-ok;
+      fittable =
+          record {
+            runnable =
+                record {
+                  halves =
+                      record {
+                        sizes = sizes-of m k d (z .0) (z .1) (g .0) (g .1) (z .2) (z .3);
+                        work-long = omega (arith, a .work-long);
+                      };
+                  marks-long = omega (arith, a .marks-long);
+                  weights-long = refl;
+                  coords-long = z .4;
+                  rounds-small = leb-true _ _ (t .settings-ok);
+                };
+            leaves = a .leaves;
+            groups = a .groups;
+          };
+      leaves = record { sizes-ok = t .sizes-ok; weights-ok = t .weights-ok; coords-ok = t .coords-ok };
     }
 
--- what fills the outputs is there
-pub fillable : (work weights coords m k d rounds : ℕ) (l : Lengths) → work ≡ l .work → Roomy (l .work) (l .marks) weights coords m k d rounds → Arrays m k d l
+-- what fills the outputs is there, while the work array is as long as it was
+pub fillable : (work weights coords m k d rounds : ℕ) (l : Lengths) → work ≡ l .work → Fittable weights coords m k d rounds l
     → Fillable (l .labels) (l .responsibilities) (l .weights) (l .directions) (l .concentrations) (l .logw) work m k d
-fillable work weights coords m k d rounds l e r a =
+fillable work weights coords m k d rounds l e f =
     record {
-      k-some = r .k-some;
-      d-some = r .d-some;
-      d-small = r .d-small;
-      halved = halved (l .work) work (l .marks) weights coords m k d rounds e r;
-      leaves = a .leaves;
-      groups = a .groups;
+      halves = halves-of (l .work) work (l .marks) weights coords m k d rounds e (f .runnable);
+      leaves = f .leaves;
+      groups = f .groups;
     }

@@ -1,17 +1,19 @@
-// The output and work arrays of a mixture fit (vmf.rs, the fields of a fit; mixture.rs, ln_weight; document 01, 'Leaves, settings, fit', 'Mixture' and number 4 of 'Refusals
-// by call'): whether they are long enough, and the outputs filled from the part of the kept run.
+// What the mixture fits share (vmf.rs, the fields of a fit; mixture.rs, ln_weight; document 01, 'Leaves, settings, fit',
+// 'Mixture' and 'Refusals by call'): what they refuse, and the outputs filled from the part of the kept run.
 ghost use mathlib.Core.Path.{_≡_};
 ghost use mathlib.Core.List.{_++_};
+ghost use mathlib.Core.Bool.{true};
 ghost use Prim.Native.Nat.{_*_, _≤_, _<_};
 ghost use lib.ListN.{length, drop};
+ghost use Rattle.limits.specs.Limits.{mostGroups};
 ghost use Rattle.mixture_run.specs.Fits.{labelsOf, lnWeight, logwOf};
 ghost use Rattle.mixture_run.specs.Areas.{partsIn, modelOf, Area};
 ghost use Rattle.mixture_restarts.specs.Halves.{keptEm};
 ghost use Rattle.mixture_outputs.specs.Outputs.{Outputs, arrays, written};
-ghost use Rattle.mixture_outputs.specs.Refusals.{outputsOk, arraysOk};
+ghost use Rattle.mixture_outputs.specs.Refusals.{outputsOk, arraysOk, fitRefusal};
 ghost use Rattle.mixture_outputs.specs.Fillable.{LeavesFit, GroupsFit, Fillable};
 
-// ---- long enough
+// ---- what is refused
 
 // The lengths of the output and work arrays.
 pub struct Lengths {
@@ -39,11 +41,41 @@ fn outputs_ok(m: usize, k: usize, d: usize, l: Lengths) -> bool
 }
 
 // The outputs and the work arrays are long enough.
-pub fn arrays_ok(m: usize, k: usize, d: usize, l: Lengths) -> bool
+fn arrays_ok(m: usize, k: usize, d: usize, l: Lengths) -> bool
     requires { ⌜ (m ≤ 4096) × (k ≤ 64) × (d ≤ 256) ⌝ }
     ensures { λ r. ⌜ r ≡ arraysOk m k d l ⌝ }
 {
     outputs_ok(m, k, d, l) & limits::work_ok(m, k, d, l.work, l.marks)
+}
+
+// The first refusal from 1 to 6 that holds, or 0, of a fit of k groups, of the automatic fit up to k. Whether k is admitted is
+// the fit's to say.
+pub fn refusal(
+    weights: &[f64],
+    coords: &[f64],
+    d: usize,
+    k: usize,
+    groups: bool,
+    s: mixture_kappa::Settings,
+    l: Lengths,
+) -> u32
+    requires { ⌜ (groups ≡ true → k ≤ mostGroups) ⌝ }
+    ensures { λ r. ⌜ r ≡ fitRefusal groups (now (weights .entry)) (now (coords .entry)) d k s l ⌝ }
+{
+    let m = weights.len();
+    if !limits::sizes_ok(m, d, coords.len()) {
+        return 1;
+    }
+    if !groups {
+        return 2;
+    }
+    if s.rounds > 10000 {
+        return 3;
+    }
+    if !arrays_ok(m, k, d, l) {
+        return 4;
+    }
+    limits::leaves_refusal(weights, coords)
 }
 
 // ---- filled
@@ -73,9 +105,8 @@ fn put_logw(logw: &mut [f64], area: &[f64], m: usize, k: usize, d: usize)
     requires { ⌜ (Area (length (now area)) m k d) × (length (now logw) ≡ k) ⌝ }
     ensures { λ _. ⌜ now (logw .exit) ≡ logwOf k d (modelOf (partsIn m k d (now (area .entry)))) ⌝ }
 {
-    let kd = k * d;
-    let weights = kd + kd;
-    let kappas = weights + k;
+    let weights = mixture_run::layout::weights_at(k, d);
+    let kappas = mixture_run::layout::kappas_at(k, d);
     let mut c = 0;
     while c < k {
         logw[c] = ln_weight(area[weights + c]) + mixture_kappa::log_norm(area[kappas + c], d);
@@ -96,9 +127,8 @@ fn fill_leaves(
     ensures { λ _. ⌜ (now (labels .exit) ≡ labelsOf (partsIn m k d (now (area .entry)) .resp) m k ++ drop m (now (labels .entry)))
         × (now (responsibilities .exit) ≡ partsIn m k d (now (area .entry)) .resp ++ drop (m * k) (now (responsibilities .entry))) ⌝ }
 {
-    let kd = k * d;
     let mk = m * k;
-    let resp = kd + kd + k + k + k + k + k;
+    let resp = mixture_run::layout::responsibilities_at(k, d);
     put_labels(&mut labels[..m], &area[resp..resp + mk], m, k);
     rows::copy(&mut responsibilities[..mk], &area[resp..resp + mk]);
 }
@@ -121,8 +151,8 @@ fn fill_groups(
         × (now (logw .exit) ≡ logwOf k d (modelOf (partsIn m k d (now (area .entry)))) ++ drop k (now (logw .entry))) ⌝ }
 {
     let kd = k * d;
-    let at = kd + kd;
-    let kappas = at + k;
+    let at = mixture_run::layout::weights_at(k, d);
+    let kappas = mixture_run::layout::kappas_at(k, d);
     rows::copy(&mut weights[..k], &area[at..at + k]);
     rows::copy(&mut directions[..kd], &area[..kd]);
     rows::copy(&mut concentrations[..k], &area[kappas..kappas + k]);
@@ -138,7 +168,7 @@ pub fn fill_outputs(
     concentrations: &mut [f64],
     logw: &mut [f64],
     work: &[f64],
-    r: mixture_keeper::Runs,
+    r: mixture_restarts::Runs,
     m: usize,
     k: usize,
     d: usize,
@@ -149,7 +179,7 @@ pub fn fill_outputs(
         (written m k d (keptEm m k d (now (work .entry)) r)
         (arrays (now (labels .entry)) (now (responsibilities .entry)) (now («group_weights» .entry)) (now (directions .entry)) (now (concentrations .entry)) (now (logw .entry)))) ⌝ }
 {
-    let area = mixture_keeper::kept_part(work, r, m, k, d);
+    let area = mixture_restarts::kept_part(work, r, m, k, d);
     fill_leaves(labels, responsibilities, area, m, k, d);
     fill_groups(
         group_weights,

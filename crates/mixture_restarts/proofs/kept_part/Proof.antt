@@ -1,78 +1,60 @@
--- Both halves lie within the array, wherever the held one starts, and the keeper's part of them is the kept one's. Assumes nothing.
+-- `mixture_restarts::kept_part` meets its contract: both halves lie within the array, wherever the held one starts, and the
+-- keeper's part of them is the kept one's. Assumes nothing.
+use mathlib.Core.Path.{_≡_, ap, _∙_}
 use Prim.Native.Nat.{_+_, _≤_}
 use native.Mathlib.Omega.{arith}
 use lib.ListN.{length}
+use borrow.Author.Needs.{needs}
 use Rattle.kmeans_layout.specs.Halves.{half}
 use Rattle.kmeans_layout.proofs.Halves.{held-within, free-within}
-use Rattle.mixture_restarts.proofs.Kept.{parts-long, part-kept}
-use borrow.Author.Needs.{needs}
+use Rattle.mixture_restarts.proofs.Halves.{parts-long, part-kept}
 use Rattle.mixture_restarts.proofs.kept_part.Statement.{statement}
 use Rattle.mixture_restarts.proofs.kept_part.Tie as tie
 
+abbrev half-at : tie.After-free-at → tie.After-half
+half-at c = c .before .before
+
+abbrev start : tie.After-half → tie.Start
+start h = h .before .before
+
 -- both halves lie within the array
-held-in : (c : tie.After-free-at) → let a = c .before .before .before .args in c .before .held-at .result + half (a .m) (a .k) (a .d) ≤ length (a .work .now)
+both-in : (h : tie.After-half) → let n = h .half .result in n + n ≤ length (start h .args .work .now)
+both-in h = omega (arith, h .half .ensures, start h .pre .work-long)
+
+held-in : (c : tie.After-free-at) → let h = half-at c in c .before .held-at .result + h .half .result ≤ length (start h .args .work .now)
 held-in c =
-    let s = c .before .before .before in
-    held-within (s .args .r .second) (half (s .args .m) (s .args .k) (s .args .d)) (length (s .args .work .now)) _ (s .pre .work-long) (c .before .held-at .ensures) .0
+    let h = half-at c in
+    held-within (start h .args .r .second) (h .half .result) _ _ (both-in h) (c .before .held-at .ensures) .0
 
-free-in : (c : tie.After-free-at) → let a = c .before .before .before .args in c .free-at .result + half (a .m) (a .k) (a .d) ≤ length (a .work .now)
+free-in : (c : tie.After-free-at) → let h = half-at c in c .free-at .result + h .half .result ≤ length (start h .args .work .now)
 free-in c =
-    let s = c .before .before .before in
-    free-within (s .args .r .second) (half (s .args .m) (s .args .k) (s .args .d)) (length (s .args .work .now)) _ (s .pre .work-long) (c .free-at .ensures)
-
-add-keeper : tie.Need-add-keeper
-add-keeper c = omega (arith, held-in c)
-
-mul-keeper : tie.Need-mul-keeper
-mul-keeper c = omega (arith, held-in c)
-
-part-keeper-end : tie.Need-part-keeper-end
-part-keeper-end c = omega (arith, held-in c)
-
-add-keeper-2 : tie.Need-add-keeper-2
-add-keeper-2 c = omega (arith, free-in (c .before))
-
-mul-keeper-2 : tie.Need-mul-keeper-2
-mul-keeper-2 c = omega (arith, free-in (c .before))
-
-part-keeper-end-2 : tie.Need-part-keeper-end-2
-part-keeper-end-2 c = omega (arith, free-in (c .before))
-
-keeper-requires : tie.Need-keeper-requires
-keeper-requires c κs =
-    let a = c .before .before .before .before .before .args in
-    let f = c .before .before in
-    (parts-long (a .m) (a .k) (a .d) (a .work .now) (f .before .held-at .result) (held-in f), parts-long (a .m) (a .k) (a .d) (a .work .now) (f .free-at .result) (free-in f))
+    let h = half-at c in
+    free-within (start h .args .r .second) (h .half .result) _ _ (both-in h) (c .free-at .ensures)
 
 returns : tie.Need-returns
 returns c =
-    let a = c .before .before .before .before .before .before .args in
     let f = c .before .before .before in
-    part-kept (a .m) (a .k) (a .d) (a .work .now) _ (a .r) (f .before .held-at .result) (f .free-at .result) (f .before .held-at .ensures) (f .free-at .ensures) (c .keeper .ensures)
+    let h = half-at f in
+    let a = start h .args in
+    part-kept (a .m) (a .k) (a .d) (h .half .result) (a .work .now) _ (a .r) (f .before .held-at .result) (f .free-at .result)
+    (h .half .ensures) (f .before .held-at .ensures) (f .free-at .ensures) (c .keeper .ensures)
 
 pub kept-part-spec : {M : Type 1} → statement M
 kept-part-spec =
     tie.close
     (tie.spec
-    (λ c. search needs)
-    (λ c. search needs)
-    (λ c. search needs)
-    (λ c. search needs)
-    (λ c. search needs)
-    (λ c. search needs)
-    (λ c. search needs)
-    (λ c. search needs)
     (λ c κs. search needs)
     (λ c κs. search needs)
-    add-keeper
-    mul-keeper
+    (λ c κs. search needs)
+    (λ c. omega (arith, held-in c))
+    (λ c. omega (arith, held-in c))
     (λ c. search needs)
     (λ c. search needs)
-    part-keeper-end
-    add-keeper-2
-    mul-keeper-2
+    (λ c. omega (arith, held-in c))
+    (λ c. omega (arith, free-in (c .before)))
+    (λ c. omega (arith, free-in (c .before)))
     (λ c. search needs)
     (λ c. search needs)
-    part-keeper-end-2
-    keeper-requires
+    (λ c. omega (arith, free-in (c .before)))
+    (λ c κs. search needs)
     returns)

@@ -48,18 +48,20 @@ em-requires c κs =
 
 same-length : tie.Need-same-length
 same-length c =
-    let e = c .before .before .before .before .before .before in
+    let p = c .before in
+    let e = p .before .before .before .before .before .before in
     let i = e .before .before .before .before in
     let r = i .before .before .before .before .before .before .before in
-    c .before .before .em .kept .0 ∙ e .clear .kept .0 ∙ i .init-kappas .kept .0 ∙ r .run .kept .0
+    p .before .before .em .kept .0 ∙ e .clear .kept .0 ∙ i .init-kappas .kept .0 ∙ r .run .kept .0
 
 same-length-2 : tie.Need-same-length-2
-same-length-2 c = run-at c .run .kept .1 .0
+same-length-2 c = run-at (c .before) .run .kept .1 .0
 
 returns : tie.Need-returns
 returns c =
-    let m = c .before .before .em in
-    let e = c .before .before .before .before .before .before in
+    let p = c .before in
+    let m = p .before .before .em in
+    let e = p .before .before .before .before .before .before in
     let i = e .before .before .before .before in
     let r = i .before .before .before .before .before .before .before in
     let a = r .before .before .before .before .before .before .before .args in

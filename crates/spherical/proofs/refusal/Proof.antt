@@ -60,8 +60,13 @@ unfolding refusalOf
 returns-5 c =
     let f = c .before .before in
     let e = f .before .before in
-    rw (sizes-passed (first e), groups-passed e, rounds-passed (f .before), restarts-passed f,
-      sym (c .before .arrays-ok .ensures) ∙ not-true _ (c .if5 .taken))
+    rw (
+      sizes-passed (first e),
+      groups-passed e,
+      rounds-passed (f .before),
+      restarts-passed f,
+      sym (c .before .arrays-ok .ensures) ∙ not-true _ (c .if5 .taken),
+    )
 
 returns-6 : tie.Need-returns-6
 unfolding refusalOf
@@ -69,8 +74,13 @@ returns-6 c =
     let h = c .before in
     let f = h .before .before in
     let e = f .before .before in
-    rw (sizes-passed (first e), groups-passed e, rounds-passed (f .before), restarts-passed f,
-      sym (h .before .arrays-ok .ensures) ∙ not-false _ (h .if5 .left)) (c .leaves-refusal .ensures)
+    rw (
+      sizes-passed (first e),
+      groups-passed e,
+      rounds-passed (f .before),
+      restarts-passed f,
+      sym (h .before .arrays-ok .ensures) ∙ not-false _ (h .if5 .left),
+    ) (c .leaves-refusal .ensures)
 
 pub refusal-spec : {M : Type 1} → statement M
 refusal-spec =
