@@ -1,54 +1,34 @@
--- One number tried, and all numbers of a range: what the four runs keep is the lone fit, so the tally and the arrays go on as the definition does; past what the numbers so
--- far fill the arrays are as found, so that the next one is written as into the arrays found. Over plain lists. Assumes nothing.
+-- One number fitted, and all numbers of a range: what the four runs keep is the lone fit, so the choice, its log-likelihood, the
+-- counts and the arrays go on as the definition does. By cases on whether the score beats the one held. Assumes nothing.
 use mathlib.Core.Path.{_≡_, refl, ap, ap₂, sym, subst, _∙_}
-use mathlib.Core.List.{List, _++_}
-use mathlib.Core.Bool.{Bool, true, false}
+use mathlib.Core.List.{List}
+use mathlib.Core.Bool.{Bool, true, false, true≢false}
 use Prim.Native.Nat.{ℕ, suc, _+_, _*_, _-_, _≤_}
-use native.Mathlib.Nat.{add-mul, mul-add, one-mul, mul-one}
 use native.Mathlib.Omega.{arith}
-use lib.ListN.{length, drop}
-use lib.Seq.{drop-drop, drop-at}
-use lib.Ieee.{Float, lt}
+use lib.ListN.{length}
+use lib.Ieee.{Float, inf, lt}
 use Rattle.logarithm.specs.Logarithm.{lnOf}
-use Rattle.rows.specs.Rows.{part, rowOf}
-use Rattle.pick.specs.Places.{argmaxOf}
-use Rattle.kmeans_layout.specs.Halves.{half, heldAt, freeAt}
-use Rattle.mixture_run.specs.Mixture.{Em}
-use Rattle.mixture_run.specs.Fits.{Once, labelsOf, logwAt, logwOf}
-use Rattle.mixture_run.specs.Areas.{Area}
+use Rattle.counts.specs.Counts.{plusOf, noCounts, sumOver, AtMost, ofRuns}
+use Rattle.counts.specs.declared.Counts.{Counts}
+use Rattle.counts.proofs.Sums.{at-most-more, at-most-plus}
 use Rattle.mixture_kappa.specs.declared.Settings.{Settings}
-use Rattle.mixture_run.proofs.Regions.{respR, weightsR, directionsR, kappasR, length-in, tabulate-length}
+use Rattle.mixture_run.specs.Mixture.{Em}
+use Rattle.mixture_run.specs.Areas.{Area}
+use Rattle.mixture_run.proofs.Regions.{respR, weightsR, directionsR, kappasR, length-in}
 use Rattle.mixture_restarts.specs.Runs.{runOf, runsUpTo, fitOf}
-use Rattle.mixture_outputs.specs.Outputs.{Outputs, written, lengthsOf}
-use Rattle.mixture_restarts.specs.Halves.{Both, keptEm}
-use Rattle.mixture_keeper.specs.Kept.{keptPart, keptLoglik}
-use Rattle.mixture_outputs.specs.Fillable.{Fillable}
-use Rattle.mixture_keeper.specs.declared.Runs.{Runs}
+use Rattle.mixture_restarts.specs.Halves.{TwoHalves, Both, keptLoglik, keptPartOf, keptEm}
+use Rattle.mixture_restarts.specs.declared.Runs.{Runs}
+use Rattle.mixture_outputs.specs.Outputs.{Outputs, written}
 use Rattle.mixture_outputs.proofs.Kept.{kept-area, fit-em, fit-counts}
-use Rattle.auto_choice.specs.Choice.{totalOf, scoreBy, heldScore}
-use Rattle.auto_tries.specs.Tries.{Auto, tallyBy, outputsBy, lone, score, tryNumber, autoUpTo}
-use Rattle.auto_tries.specs.Ready.{TallySmall, RunsSmall, keptTally, leftTally, Full, Tails, TriedNumber}
+use Rattle.auto_choice.specs.Choice.{totalOf, scoreBy, heldScore, chooseBy, choose, chosen}
+use Rattle.auto_choice.specs.declared.Choice.{Choice}
+use Rattle.auto_choice.specs.declared.Choice.the-variants.{Number, Nothing}
+use Rattle.auto_tries.specs.Lone.{lone, score, chosenOf, countsOf, writtenBy}
+use Rattle.auto_tries.specs.Tries.{Full, Tails, loglikBy, FitOfK, Fitted}
 use Rattle.auto_tries.specs.declared.Tally.{Tally}
+use Rattle.auto_tries.proofs.Tails.{tails-more, tails-written, written-same}
 
--- ---- the counts stay small
-pub runs-small : (held last : Once) (w : List Float) (m k d : ℕ) (r : Runs) → Both held last w m k d r → RunsSmall r
-runs-small held last w m k d r b = record { made = b .made-small; saved = b .saved-small }
-
-pub tally-small : (t : Tally) (n : ℕ) → n ≤ 64 → TallySmall t n → TallySmall t 64
-tally-small t n h v = record { made = omega (arith, v .made); saved = omega (arith, v .saved) }
-
-kept-small : (t : Tally) (k : ℕ) (x loglik : Float) (r : Runs) (n : ℕ) → RunsSmall r → TallySmall t n → TallySmall (keptTally k x loglik r t) (n + 1)
-kept-small t k x loglik r n a v = record { made = omega (arith, v .made, a .made); saved = omega (arith, v .saved, a .saved) }
-
-left-small : (t : Tally) (r : Runs) (n : ℕ) → RunsSmall r → TallySmall t n → TallySmall (leftTally r t) (n + 1)
-left-small t r n a v = record { made = omega (arith, v .made, a .made); saved = omega (arith, v .saved, a .saved) }
-
--- ---- the outputs can still be filled when the work array is as long as it was
-pub fillable-of : (labels resp weights directions kappas logw work work' m k d : ℕ) → work' ≡ work → Fillable labels resp weights directions kappas logw work m k d
-    → Fillable labels resp weights directions kappas logw work' m k d
-fillable-of labels resp weights directions kappas logw work work' m k d e v = rw e v
-
--- ---- one number tried
+-- ---- one number fitted
 module _ (weights coords : List Float) (d k : ℕ) (s : Settings) (w : List Float) (r : Runs)
     (b : Both (runsUpTo s weights coords (length weights) k d 2) (runOf s weights coords (length weights) k d 3) w (length weights) k d r) where
   abbrev m : ℕ
@@ -58,10 +38,10 @@ module _ (weights coords : List Float) (d k : ℕ) (s : Settings) (w : List Floa
   found = fitOf s weights coords m k d .em
 
   -- what is found is a part of an area, so its lists are as long as the regions
-  full-of : (labels resp ws directions kappas logw : ℕ) → Fillable labels resp ws directions kappas logw (length w) m k d → Full m k d found
-  full-of labels resp ws directions kappas logw f =
-      let area = keptPart (part w (heldAt (r .second) (half m k d)) (half m k d)) (part w (freeAt (r .second) (half m k d)) (half m k d)) (half m k d) (r .held) (r .last) in
-      let a : Area (length area) m k d = kept-area m k d w r (f .halved .work-long) area refl (f .k-some) (f .d-some) (f .d-small) (f .halved) in
+  full-of : TwoHalves (length w) m k d → Full m k d found
+  full-of h =
+      let area = keptPartOf m k d w r in
+      let a : Area (length area) m k d = kept-area m k d w r h area refl in
       let e : Full m k d (keptEm m k d w r) =
       record {
         resp = length-in respR m k d area (a .work-long);
@@ -71,142 +51,125 @@ module _ (weights coords : List Float) (d k : ℕ) (s : Settings) (w : List Floa
       } in
       subst (Full m k d) (fit-em s weights coords m k d w r b) e
 
-  module _ (o o' : Outputs) (t q : Tally) (loglik lnTotal x : Float) (beats : Bool) (el : loglik ≡ keptLoglik (r .held) (r .last)) (en : lnTotal ≡ lnOf (totalOf weights))
-      (ex : x ≡ scoreBy (s .kappa) k d loglik lnTotal) (eb : beats ≡ lt x (heldScore (t .choice))) where
+  module _ (t : Tally) (loglik lnTotal x : Float) (beats : Bool) (counts : Counts) (el : loglik ≡ keptLoglik (r .held) (r .last))
+      (en : lnTotal ≡ lnOf (totalOf weights)) (ex : x ≡ scoreBy (s .kappa) k d loglik lnTotal) (eb : beats ≡ lt x (heldScore (t .choice)))
+      (ec : counts ≡ plusOf (t .counts) (r .counts)) (h : TwoHalves (length w) m k d) where
     loglik-is : loglik ≡ found .loglik
     loglik-is = el ∙ ap (λ (y : Em). y .loglik) (fit-em s weights coords m k d w r b)
 
-    score-is : x ≡ score o weights coords d s k
+    score-is : x ≡ score weights coords d s k
     score-is = ex ∙ ap₂ (scoreBy (s .kappa) k d) loglik-is en
 
-    test-is : (y : Bool) → beats ≡ y → lt (score o weights coords d s k) (heldScore (t .choice)) ≡ y
+    test-is : (y : Bool) → beats ≡ y → lt (score weights coords d s k) (heldScore (t .choice)) ≡ y
     test-is y e = ap (λ (z : Float). lt z (heldScore (t .choice))) (sym score-is) ∙ sym eb ∙ e
 
-    kept-is : keptTally k x loglik r t ≡ tallyBy true k (score o weights coords d s k) (lone o weights coords d s k) t
-    kept-is =
-        let n = fit-counts s weights coords m k d w r b in
-        rw (score-is, loglik-is, n .0, n .1)
+    choice-is : (y : Bool) → beats ≡ y → chooseBy y (Number k x) (t .choice) ≡ choose (t .choice) k (score weights coords d s k)
+    choice-is y e =
+        ap (λ (z : Float). chooseBy y (Number k z) (t .choice)) score-is
+        ∙ ap (λ (z : Bool). chooseBy z (Number k (score weights coords d s k)) (t .choice)) (sym (test-is y e))
 
-    left-is : leftTally r t ≡ tallyBy false k (score o weights coords d s k) (lone o weights coords d s k) t
-    left-is =
-        let n = fit-counts s weights coords m k d w r b in
-        rw (n .0, n .1)
+    counts-are : r .counts ≡ lone weights coords d s k .counts
+    counts-are = fit-counts s weights coords m k d w r b
 
-    pub tried-kept : (labels resp ws directions kappas logw : ℕ) → Fillable labels resp ws directions kappas logw (length w) m k d → beats ≡ true
-        → o' ≡ written m k d (keptEm m k d w r) o → q ≡ keptTally k x loglik r t → TriedNumber weights coords d k s t q o o'
-    tried-kept labels resp ws directions kappas logw f taken eo eq =
-        let e = sym (test-is true taken) in
+    counted : counts ≡ plusOf (t .counts) (lone weights coords d s k .counts)
+    counted = ec ∙ ap (plusOf (t .counts)) counts-are
+
+    small : AtMost (ofRuns 4) (lone weights coords d s k .counts)
+    small = subst (AtMost (ofRuns 4)) counts-are (b .small)
+
+    pub fitted-kept : (o o' : Outputs) → beats ≡ true → o' ≡ written m k d (keptEm m k d w r) o
+        → FitOfK weights coords d s k t (record { choice = Number k x; loglik = loglik; counts = counts }) o o'
+    fitted-kept o o' taken eo =
         record {
-          tally = eq ∙ kept-is ∙ ap (λ (y : Bool). tallyBy y k (score o weights coords d s k) (lone o weights coords d s k) t) e;
-          outputs =
-              eo ∙ ap (λ (y : Em). written m k d y o) (fit-em s weights coords m k d w r b)
-              ∙ ap (λ (y : Bool). outputsBy y (written m k d (lone o weights coords d s k .em) o) o) e;
-          full = full-of labels resp ws directions kappas logw f;
-          small = λ (n : ℕ) (v : TallySmall t n). subst (λ (y : Tally). TallySmall y (n + 1)) (sym eq) (kept-small t k x loglik r n (runs-small _ _ w m k d r b) v);
+          choice = choice-is true taken;
+          counts = counted;
+          kept = λ e. (loglik-is, eo ∙ ap (λ (y : Em). written m k d y o) (fit-em s weights coords m k d w r b));
+          left = λ e. absurd (true≢false (sym (test-is true taken) ∙ e));
+          full = full-of h;
+          small = small;
         }
 
-    pub tried-left : (labels resp ws directions kappas logw : ℕ) → Fillable labels resp ws directions kappas logw (length w) m k d → beats ≡ false
-        → o' ≡ o → q ≡ leftTally r t → TriedNumber weights coords d k s t q o o'
-    tried-left labels resp ws directions kappas logw f left eo eq =
-        let e = sym (test-is false left) in
+    pub fitted-left : (o : Outputs) → beats ≡ false
+        → FitOfK weights coords d s k t (record { choice = t .choice; loglik = t .loglik; counts = counts }) o o
+    fitted-left o left =
         record {
-          tally = eq ∙ left-is ∙ ap (λ (y : Bool). tallyBy y k (score o weights coords d s k) (lone o weights coords d s k) t) e;
-          outputs = eo ∙ ap (λ (y : Bool). outputsBy y (written m k d (lone o weights coords d s k .em) o) o) e;
-          full = full-of labels resp ws directions kappas logw f;
-          small = λ (n : ℕ) (v : TallySmall t n). subst (λ (y : Tally). TallySmall y (n + 1)) (sym eq) (left-small t r n (runs-small _ _ w m k d r b) v);
+          choice = choice-is false left;
+          counts = counted;
+          kept = λ e. absurd (true≢false (sym e ∙ test-is false left));
+          left = λ e. (refl, refl);
+          full = full-of h;
+          small = small;
         }
-
--- ---- arrays as long as others
-pub lengths-of : (o o' : Outputs) (work work' marks marks' : ℕ) → length (o' .labels) ≡ length (o .labels) → length (o' .responsibilities) ≡ length (o .responsibilities)
-    → length (o' .weights) ≡ length (o .weights) → length (o' .directions) ≡ length (o .directions) → length (o' .concentrations) ≡ length (o .concentrations)
-    → length (o' .logw) ≡ length (o .logw) → work' ≡ work → marks' ≡ marks → lengthsOf o' work' marks' ≡ lengthsOf o work marks
-lengths-of o o' work work' marks marks' e1 e2 e3 e4 e5 e6 e7 e8 = rw (e1, e2, e3, e4, e5, e6, e7, e8)
-
--- ---- the rest of the arrays
-module _ {A : Type 0} (n y p : ℕ) (e : p ≡ n + y) where
-  drop-more : (l l' : List A) → drop n l ≡ drop n l' → drop p l ≡ drop p l'
-  drop-more l l' h = rw e (sym (drop-drop y n l) ∙ ap (drop y) h ∙ drop-drop y n l')
-
-  drop-past : (x l : List A) → length x ≡ n → drop p (x ++ drop n l) ≡ drop p l
-  drop-past x l h = rw e (sym (drop-drop y n (x ++ drop n l)) ∙ ap (drop y) (drop-at x (drop n l) n h) ∙ drop-drop y n l)
-
-module _ (m k d : ℕ) where
-  leaves-more : m * (k + 1) ≡ m * k + m
-  leaves-more = rw (mul-add, mul-one)
-
-  groups-more : (k + 1) * d ≡ k * d + d
-  groups-more = rw (add-mul, one-mul)
-
-  same-leaves : m ≡ m + 0
-  same-leaves = omega arith
-
-  pub tails-start : (o : Outputs) → Tails m k d o o
-  tails-start o = record { labels = refl; responsibilities = refl; weights = refl; directions = refl; concentrations = refl; logw = refl }
-
-  tails-more : (o o₀ : Outputs) → Tails m k d o o₀ → Tails m (k + 1) d o o₀
-  tails-more o o₀ t =
-      record {
-        labels = t .labels;
-        responsibilities = drop-more (m * k) m (m * (k + 1)) leaves-more _ _ (t .responsibilities);
-        weights = drop-more k 1 (k + 1) refl _ _ (t .weights);
-        directions = drop-more (k * d) d ((k + 1) * d) groups-more _ _ (t .directions);
-        concentrations = drop-more k 1 (k + 1) refl _ _ (t .concentrations);
-        logw = drop-more k 1 (k + 1) refl _ _ (t .logw);
-      }
-
-  tails-written : (em : Em) (o : Outputs) → Full m k d em → Tails m (k + 1) d (written m k d em o) o
-  unfolding written
-  tails-written em o f =
-      record {
-        labels = drop-past m 0 m same-leaves (labelsOf (em .resp) m k) (o .labels) (tabulate-length (λ (i : ℕ). argmaxOf (rowOf (em .resp) k i)) m);
-        responsibilities = drop-past (m * k) m (m * (k + 1)) leaves-more (em .resp) (o .responsibilities) (f .resp);
-        weights = drop-past k 1 (k + 1) refl (em .model .weights) (o .weights) (f .weights);
-        directions = drop-past (k * d) d ((k + 1) * d) groups-more (em .model .directions) (o .directions) (f .directions);
-        concentrations = drop-past k 1 (k + 1) refl (em .model .kappas) (o .concentrations) (f .kappas);
-        logw = drop-past k 1 (k + 1) refl (logwOf k d (em .model)) (o .logw) (tabulate-length (logwAt d (em .model)) k);
-      }
-
-  -- written into arrays with the same rest it is the same
-  written-same : (em : Em) (o o₀ : Outputs) → Tails m k d o o₀ → written m k d em o ≡ written m k d em o₀
-  unfolding written
-  written-same em o o₀ t = rw (t .labels, t .responsibilities, t .weights, t .directions, t .concentrations, t .logw)
-
-  tails-by : (em : Em) (o o₀ : Outputs) (y : Bool) → Full m k d em → Tails m k d o o₀ → Tails m (k + 1) d (outputsBy y (written m k d em o) o) o₀
-  tails-by em o o₀ true f t = subst (λ (z : Outputs). Tails m (k + 1) d z o₀) (sym (written-same em o o₀ t)) (tails-written em o₀ f)
-  tails-by em o o₀ false f t = tails-more o o₀ t
 
 -- ---- one number more
 module _ (o₀ : Outputs) (weights coords : List Float) (d : ℕ) (s : Settings) (lo : ℕ) where
-  pub numbers-start : (t : Tally) → t ≡ autoUpTo o₀ weights coords d s lo 0 .tally → _≡_ {A = Auto} (record { tally = t; outputs = o₀ }) (autoUpTo o₀ weights coords d s lo (lo - lo))
-  unfolding autoUpTo
-  numbers-start t e =
+  pub fitted-start : (t : Tally) → t ≡ record { choice = Nothing; loglik = inf true; counts = noCounts }
+      → Fitted weights coords d s o₀ lo (lo - lo) t o₀
+  unfolding chosen sumOver
+  fitted-start t e =
       let f : lo - lo ≡ 0 = omega arith in
-      rw (f, e)
+      rw f
+      (record {
+        choice = ap (λ (x : Tally). x .choice) e;
+        loglik = ap (λ (x : Tally). x .loglik) e;
+        counts = ap (λ (x : Tally). x .counts) e;
+        outputs = refl;
+      })
 
-  pub numbers-end : (hi k : ℕ) (a : Auto) → k ≡ hi + 1 → a ≡ autoUpTo o₀ weights coords d s lo (k - lo) → a ≡ autoUpTo o₀ weights coords d s lo (hi + 1 - lo)
-  numbers-end hi k a e h = h ∙ ap (λ (n : ℕ). autoUpTo o₀ weights coords d s lo (n - lo)) e
+  pub fitted-end : (hi k : ℕ) (t : Tally) (o : Outputs) → k ≡ hi + 1 → Fitted weights coords d s o₀ lo (k - lo) t o
+      → Fitted weights coords d s o₀ lo (hi + 1 - lo) t o
+  fitted-end hi k t o e h = rw e at h
 
-  module _ (k : ℕ) (t q : Tally) (o o' : Outputs) (tried : TriedNumber weights coords d k s t q o o') (tails : Tails (length weights) k d o o₀) where
-    pub tails-turn : Tails (length weights) (k + 1) d o' o₀
-    tails-turn =
-        subst (λ (z : Outputs). Tails (length weights) (k + 1) d z o₀) (sym (tried .outputs))
-        (tails-by (length weights) k d (lone o weights coords d s k .em) o o₀ (lt (score o weights coords d s k) (heldScore (t .choice))) (tried .full) tails)
+  module _ (k n : ℕ) (t q : Tally) (o o' : Outputs) (fit : FitOfK weights coords d s k t q o o') (tails : Tails (length weights) k d o o₀)
+    where
+      abbrev beaten : Bool
+      beaten = lt (score weights coords d s k) (heldScore (t .choice))
 
-    tried-is : _≡_ {A = Auto} (record { tally = q; outputs = o' }) (tryNumber o₀ weights coords d s k (record { tally = t; outputs = o }))
-    tried-is =
-        let same = written-same (length weights) k d (lone o weights coords d s k .em) o o₀ tails in
-        let e = tried .outputs ∙ ap (λ (z : Outputs). outputsBy (lt (score o weights coords d s k) (heldScore (t .choice))) z o) same in
-        rw (tried .tally, e)
+      tails-by : (y : Bool) → beaten ≡ y → Tails (length weights) (k + 1) d o' o₀
+      tails-by true e =
+          let em = lone weights coords d s k .em in
+          let same = fit .kept e .1 ∙ written-same (length weights) k d em o o₀ tails in
+          subst (λ (z : Outputs). Tails (length weights) (k + 1) d z o₀) (sym same) (tails-written (length weights) k d em o₀ (fit .full))
+      tails-by false e =
+          subst (λ (z : Outputs). Tails (length weights) (k + 1) d z o₀) (sym (fit .left e .1)) (tails-more (length weights) k d o o₀ tails)
 
-    pub numbers-turn : lo ≤ k → _≡_ {A = Auto} (record { tally = t; outputs = o }) (autoUpTo o₀ weights coords d s lo (k - lo))
-        → _≡_ {A = Auto} (record { tally = q; outputs = o' }) (autoUpTo o₀ weights coords d s lo (k + 1 - lo))
-    unfolding autoUpTo
-    numbers-turn h e =
-        let f : k + 1 - lo ≡ suc (k - lo) = omega arith in
-        let g : lo + (k - lo) ≡ k = omega arith in
-        rw (f, g) (tried-is ∙ ap (tryNumber o₀ weights coords d s k) e)
+      pub tails-turn : Tails (length weights) (k + 1) d o' o₀
+      tails-turn = tails-by beaten refl
 
-    pub small-turn : lo ≤ k → TallySmall t (k - lo) → TallySmall q (k + 1 - lo)
-    small-turn h v =
-        let f : k + 1 - lo ≡ k - lo + 1 = omega arith in
-        rw f (tried .small (k - lo) v)
+      -- what goes with the choice, by whether the score beats the one held
+      chosen-by : (y : Bool) → beaten ≡ y → t .loglik ≡ loglikBy weights coords d s (t .choice)
+          → o ≡ writtenBy weights coords d s (t .choice) o₀
+          → let c = chooseBy y (Number k (score weights coords d s k)) (t .choice) in
+          (q .loglik ≡ loglikBy weights coords d s c) × (o' ≡ writtenBy weights coords d s c o₀)
+      chosen-by true e el eo =
+          (fit .kept e .0, fit .kept e .1 ∙ written-same (length weights) k d (lone weights coords d s k .em) o o₀ tails)
+      chosen-by false e el eo = (fit .left e .0 ∙ el, fit .left e .1 ∙ eo)
+
+      fitted-next : lo + n ≡ k → Fitted weights coords d s o₀ lo n t o → Fitted weights coords d s o₀ lo (suc n) q o'
+      unfolding chosen sumOver
+      fitted-next at v =
+          let c = chosenOf weights coords d s lo n in
+          let x = score weights coords d s k in
+          let ec : q .choice ≡ choose c k x = fit .choice ∙ ap (λ (z : Choice). choose z k x) (v .choice) in
+          let lw = chosen-by beaten refl (v .loglik ∙ ap (loglikBy weights coords d s) (sym (v .choice)))
+          (v .outputs ∙ ap (λ (z : Choice). writtenBy weights coords d s z o₀) (sym (v .choice))) in
+          let next : choose c k x ≡ choose c (lo + n) (score weights coords d s (lo + n)) =
+          ap (λ (j : ℕ). choose c j (score weights coords d s j)) (sym at) in
+          let same = ap (λ (z : Choice). choose z k x) (v .choice) ∙ next in
+          record {
+            choice = ec ∙ next;
+            loglik = lw .0 ∙ ap (loglikBy weights coords d s) same;
+            counts =
+                fit .counts ∙ ap (λ (z : Counts). plusOf z (lone weights coords d s k .counts)) (v .counts)
+                ∙ ap (λ (j : ℕ). plusOf (countsOf weights coords d s lo n) (lone weights coords d s j .counts)) (sym at);
+            outputs = lw .1 ∙ ap (λ (z : Choice). writtenBy weights coords d s z o₀) same;
+          }
+
+      pub fitted-turn : lo ≤ k → n ≡ k - lo → Fitted weights coords d s o₀ lo n t o → Fitted weights coords d s o₀ lo (k + 1 - lo) q o'
+      fitted-turn h e v =
+          let f : k + 1 - lo ≡ suc n = omega arith in
+          let g : lo + n ≡ k = omega arith in
+          rw f (fitted-next g v)
+
+      pub small-turn : lo ≤ k → AtMost (ofRuns (4 * (k - lo))) (t .counts) → AtMost (ofRuns (4 * (k + 1 - lo))) (q .counts)
+      small-turn h v = rw (fit .counts) (at-most-more (omega arith) (at-most-plus v (fit .small)))

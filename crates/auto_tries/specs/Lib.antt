@@ -1,2 +1,2 @@
+pub mod Lone
 pub mod Tries
-pub mod Ready

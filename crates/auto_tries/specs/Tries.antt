@@ -1,55 +1,57 @@
--- Document 01, 'Choosing the number of groups': the numbers tried one after the other, each by its lone fit and its score. Definitions only.
+-- What the functions that fit the numbers one after the other ask and promise: the tally so far, the rest of each output as
+-- found, and one number more. No definition of document 01 stands on this file.
+use mathlib.Core.Path.{_≡_}
 use mathlib.Core.List.{List}
-use mathlib.Core.Bool.{Bool, true, false}
-use Prim.Native.Nat.{ℕ, zero, suc, _+_}
-use lib.ListN.{length}
+use mathlib.Core.Bool.{true, false}
+use Prim.Native.Nat.{ℕ, _+_, _*_}
+use lib.ListN.{length, drop}
 use lib.Ieee.{Float, inf, lt}
-use Rattle.mixture_run.specs.Fits.{Once}
+use Rattle.counts.specs.Counts.{plusOf, AtMost, ofRuns}
 use Rattle.mixture_kappa.specs.declared.Settings.{Settings}
-use Rattle.mixture_restarts.specs.Runs.{fitOf}
+use Rattle.mixture_run.specs.Mixture.{Em}
 use Rattle.mixture_outputs.specs.Outputs.{Outputs, written}
-use Rattle.auto_choice.specs.Choice.{scoreOf, heldScore}
+use Rattle.auto_choice.specs.Choice.{heldScore, choose}
+use Rattle.auto_choice.specs.declared.Choice.{Choice}
 use Rattle.auto_choice.specs.declared.Choice.the-variants.{Number, Nothing}
+use Rattle.auto_tries.specs.Lone.{lone, score, chosenOf, countsOf, writtenBy}
 use Rattle.auto_tries.specs.declared.Tally.{Tally}
 
--- after the numbers tried so far: the choice with its log-likelihood, the counts of all fits, and the output arrays
-pub record Auto : Type 0 where
-  pub tally : Tally
-  pub outputs : Outputs
+-- what is found is as long as k groups make it
+pub record Full (m k d : ℕ) (em : Em) : Type 0 where
+  pub resp : length (em .resp) ≡ m * k
+  pub weights : length (em .model .weights) ≡ k
+  pub directions : length (em .model .directions) ≡ k * d
+  pub kappas : length (em .model .kappas) ≡ k
 
-abbrev pub tallyBy : Bool → ℕ → Float → Once → Tally → Tally
-tallyBy true k score fit t =
-    record {
-      choice = Number k score;
-      loglik = fit .em .loglik;
-      made = t .made + fit .made;
-      saved = t .saved + fit .saved;
-    }
-tallyBy false k score fit t =
-    record { choice = t .choice; loglik = t .loglik; made = t .made + fit .made; saved = t .saved + fit .saved }
+-- the rest of each output, past what k groups fill, is as found
+pub record Tails (m k d : ℕ) (o o₀ : Outputs) : Type 0 where
+  pub labels : drop m (o .labels) ≡ drop m (o₀ .labels)
+  pub responsibilities : drop (m * k) (o .responsibilities) ≡ drop (m * k) (o₀ .responsibilities)
+  pub weights : drop k (o .weights) ≡ drop k (o₀ .weights)
+  pub directions : drop (k * d) (o .directions) ≡ drop (k * d) (o₀ .directions)
+  pub concentrations : drop k (o .concentrations) ≡ drop k (o₀ .concentrations)
+  pub logw : drop k (o .logw) ≡ drop k (o₀ .logw)
 
-abbrev pub outputsBy : Bool → Outputs → Outputs → Outputs
-outputsBy true new held = new
-outputsBy false new held = held
+module _ (weights coords : List Float) (d : ℕ) (s : Settings) where
+  -- the log-likelihood that goes with a choice: −infinity where there is none
+  abbrev pub loglikBy : Choice → Float
+  loglikBy Nothing = inf true
+  loglikBy (Number k x) = lone weights coords d s k .em .loglik
 
--- the arrays as found, the leaves and the settings
-module _ (o : Outputs) (weights coords : List Float) (d : ℕ) (s : Settings) where
-  -- the lone fit of k, and its score
-  abbrev pub lone : ℕ → Once
-  lone k = fitOf s weights coords (length weights) k d
+  -- number k fitted after the tally t, with these arrays before and after: it is written where its score beats the one held
+  pub record FitOfK (k : ℕ) (t q : Tally) (o o' : Outputs) : Type 0 where
+    pub choice : q .choice ≡ choose (t .choice) k (score weights coords d s k)
+    pub counts : q .counts ≡ plusOf (t .counts) (lone weights coords d s k .counts)
+    pub kept : lt (score weights coords d s k) (heldScore (t .choice)) ≡ true
+        → (q .loglik ≡ lone weights coords d s k .em .loglik)
+        × (o' ≡ written (length weights) k d (lone weights coords d s k .em) o)
+    pub left : lt (score weights coords d s k) (heldScore (t .choice)) ≡ false → (q .loglik ≡ t .loglik) × (o' ≡ o)
+    pub full : Full (length weights) k d (lone weights coords d s k .em)
+    pub small : AtMost (ofRuns 4) (lone weights coords d s k .counts)
 
-  abbrev pub score : ℕ → Float
-  score k = scoreOf (s .kappa) k d weights (lone k .em .loglik)
-
-  -- one number more: a kept fit is written into the arrays as found
-  abbrev pub tryNumber : ℕ → Auto → Auto
-  tryNumber k a =
-      record {
-        tally = tallyBy (lt (score k) (heldScore (a .tally .choice))) k (score k) (lone k) (a .tally);
-        outputs = outputsBy (lt (score k) (heldScore (a .tally .choice))) (written (length weights) k d (lone k .em) o) (a .outputs);
-      }
-
-  -- the first n numbers from lo on
-  unfoldable pub autoUpTo : ℕ → ℕ → Auto
-  autoUpTo lo zero = record { tally = record { choice = Nothing; loglik = inf true; made = 0; saved = 0 }; outputs = o }
-  autoUpTo lo (suc n) = tryNumber (lo + n) (autoUpTo lo n)
+  -- the first n numbers from lo on fitted, with the arrays found as o
+  pub record Fitted (o : Outputs) (lo n : ℕ) (t : Tally) (o' : Outputs) : Type 0 where
+    pub choice : t .choice ≡ chosenOf weights coords d s lo n
+    pub loglik : t .loglik ≡ loglikBy (chosenOf weights coords d s lo n)
+    pub counts : t .counts ≡ countsOf weights coords d s lo n
+    pub outputs : o' ≡ writtenBy weights coords d s (chosenOf weights coords d s lo n) o
