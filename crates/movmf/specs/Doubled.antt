@@ -13,5 +13,5 @@ use Rattle.movmf.specs.Refusals.{refusalOf}
 abbrev pub CallsNeverDoubled : Type 0
 CallsNeverDoubled =
     (weights coords : List Float) (d k : ℕ) (s : Settings) (l : Lengths)
-    → refusalOf weights coords d k (s .rounds) l ≡ 0
+    → refusalOf weights coords d k s l ≡ 0
     → doubledInFit s weights coords (length weights) k d ≡ 0

@@ -1,3 +1,4 @@
 pub mod Refusals
 pub mod Outcome
+pub mod Answers
 pub mod Doubled

@@ -1,4 +1,5 @@
--- Document 01, 'Leaves, settings, fit' and 'Mixture': what a call of `movmf_with` answers, and what the output arrays hold after it. Definitions only.
+-- Document 01, 'Leaves, settings, fit' and 'Mixture': what a call of `movmf_with` answers, and what the output arrays hold
+-- after it. Definitions only.
 use mathlib.Core.List.{List}
 use Prim.Native.Nat.{ℕ, zero, suc}
 use lib.ListN.{length}
@@ -20,7 +21,7 @@ module _ (o : Outputs) (weights coords : List Float) (d k : ℕ) (s : Settings) 
   abbrev pub doneWith : Once → Outcome
   doneWith fit =
       record {
-        answer = Done k (fit .em .loglik) (fit .made) (fit .saved);
+        answer = Done k (fit .em .loglik) (fit .counts);
         outputs = written (length weights) k d (fit .em) o;
       }
 
@@ -30,4 +31,4 @@ module _ (o : Outputs) (weights coords : List Float) (d k : ℕ) (s : Settings) 
   outcomeBy (suc code) = record { answer = Refused (suc code); outputs = o }
 
   abbrev pub outcome : Outcome
-  outcome = outcomeBy (refusalOf weights coords d k (s .rounds) (lengthsOf o work marks))
+  outcome = outcomeBy (refusalOf weights coords d k s (lengthsOf o work marks))

@@ -3,16 +3,11 @@ use mathlib.Core.List.{List}
 use Prim.Native.Nat.{ℕ}
 use lib.ListN.{length}
 use lib.Ieee.{Float}
-use Rattle.limits.specs.Limits.{need, weightOk, coordinateOk, every, sizesOk, groupsOk, roundsOk}
-use Rattle.mixture_outputs.specs.Refusals.{arraysOk}
+use Rattle.limits.specs.Limits.{groupsOk}
+use Rattle.mixture_kappa.specs.declared.Settings.{Settings}
+use Rattle.mixture_outputs.specs.Refusals.{fitRefusal}
 use Rattle.mixture_outputs.specs.declared.Lengths.{Lengths}
 
--- the same order as in `spherical_kmeans`, without restarts; 0 for none
-unfoldable pub refusalOf : List Float → List Float → ℕ → ℕ → ℕ → Lengths → ℕ
-refusalOf weights coords d k rounds l =
-    need (sizesOk (length weights) d (length coords)) 1
-    (need (groupsOk k (length weights)) 2
-    (need (roundsOk rounds) 3
-    (need (arraysOk (length weights) k d l) 4
-    (need (every weightOk weights) 5
-    (need (every coordinateOk coords) 6 0)))))
+-- 2 if k is 0, above 64 or above m
+abbrev pub refusalOf : (weights coords : List Float) (d k : ℕ) → Settings → Lengths → ℕ
+refusalOf weights coords d k s l = fitRefusal (groupsOk k (length weights)) weights coords d k s l

@@ -1,48 +1,13 @@
-// The mixture of von Mises-Fisher distributions, the public entries (vmf.rs, movmf_with and movmf; document 01, 'Mixture' and 'Refusals by call'): what must be refused
-// is, the four runs are made, and the outputs are filled from the part of the kept one.
+// The mixture of von Mises-Fisher distributions, the public entries (vmf.rs, movmf_with and movmf; document 01, 'Mixture' and
+// 'Refusals by call'): what must be refused is, the four runs are made, and the outputs are filled from the part of the
+// kept one.
 ghost use mathlib.Core.Path.{_≡_};
 ghost use lib.ListN.{length};
 ghost use Rattle.mixture_kappa.specs.declared.Kappa.the-variants.{Free};
-ghost use Rattle.mixture_outputs.specs.Outputs.{arrays};
+ghost use Rattle.mixture_outputs.specs.Outputs.{arrays, lengthsOf};
 ghost use Rattle.movmf.specs.Refusals.{refusalOf};
 ghost use Rattle.movmf.specs.Outcome.{Outcome, outcome};
-
-// ---- what is refused
-
-// The first refusal that holds, or 0.
-fn refusal(
-    weights: &[f64],
-    coords: &[f64],
-    d: usize,
-    k: usize,
-    rounds: usize,
-    l: mixture_outputs::Lengths,
-) -> u32
-    ensures { λ r. ⌜ r ≡ refusalOf (now (weights .entry)) (now (coords .entry)) d k rounds l ⌝ }
-{
-    let m = weights.len();
-    if !limits::sizes_ok(m, d, coords.len()) {
-        return 1;
-    }
-    if !limits::groups_ok(k, m) {
-        return 2;
-    }
-    if rounds > 10000 {
-        return 3;
-    }
-    if !mixture_outputs::arrays_ok(m, k, d, l) {
-        return 4;
-    }
-    if !limits::weights_ok(weights) {
-        return 5;
-    }
-    if !limits::coordinates_ok(coords) {
-        return 6;
-    }
-    0
-}
-
-// ---- the entries
+ghost use Rattle.movmf.specs.Answers.{AnswersWith};
 
 // What a call answers: the number of the refusal, or k, the log-likelihood and the counts.
 pub enum Fitted {
@@ -50,13 +15,13 @@ pub enum Fitted {
     Done {
         k: usize,
         loglik: f64,
-        made: u64,
-        saved: u64,
+        counts: counts::Counts,
     },
 }
 
-// The mixture fit of m leaves (m weights, m * d coordinates) with k groups. The outputs hold m labels, m * k responsibilities, k weights, k * d directions, k
-// concentrations and k logw and may be longer; a refusal changes none of them. The work arrays' contents afterwards are free.
+// The mixture fit of m leaves (m weights, m * d coordinates) with k groups. The outputs hold m labels, m * k
+// responsibilities, k weights, k * d directions, k concentrations and k logw and may be longer; a refusal changes none of
+// them. The work arrays' contents afterwards are free.
 pub fn movmf_with(
     weights: &[f64],
     coords: &[f64],
@@ -73,9 +38,18 @@ pub fn movmf_with(
     marks: &mut [u32],
 ) -> Fitted
     ensures { λ r. ⌜ _≡_ {A = Outcome}
-        (record { answer = r; outputs = arrays (now (labels .exit)) (now (responsibilities .exit)) (now («group_weights» .exit)) (now (directions .exit)) (now (concentrations .exit)) (now (logw .exit)) })
-        (outcome (arrays (now (labels .entry)) (now (responsibilities .entry)) (now («group_weights» .entry)) (now (directions .entry)) (now (concentrations .entry)) (now (logw .entry)))
-        (now (weights .entry)) (now (coords .entry)) d k s (length (now (work .entry))) (length (now (marks .entry)))) ⌝ }
+        (record {
+          answer = r;
+          outputs = arrays (now (labels .exit)) (now (responsibilities .exit)) (now («group_weights» .exit))
+              (now (directions .exit)) (now (concentrations .exit)) (now (logw .exit));
+        })
+        (outcome (arrays (now (labels .entry)) (now (responsibilities .entry)) (now («group_weights» .entry))
+        (now (directions .entry)) (now (concentrations .entry)) (now (logw .entry))) (now (weights .entry)) (now (coords .entry)) d k
+        s (length (now (work .entry))) (length (now (marks .entry)))) ⌝ }
+    ensures { λ r. ⌜ AnswersWith (refusalOf (now (weights .entry)) (now (coords .entry)) d k s
+        (lengthsOf (arrays (now (labels .entry)) (now (responsibilities .entry)) (now («group_weights» .entry))
+        (now (directions .entry)) (now (concentrations .entry)) (now (logw .entry)))
+        (length (now (work .entry))) (length (now (marks .entry))))) r ⌝ }
 {
     let l = mixture_outputs::Lengths {
         labels: labels.len(),
@@ -87,11 +61,12 @@ pub fn movmf_with(
         work: work.len(),
         marks: marks.len(),
     };
-    let code = refusal(weights, coords, d, k, s.rounds, l);
+    let m = weights.len();
+    let groups = limits::groups_ok(k, m);
+    let code = mixture_outputs::refusal(weights, coords, d, k, groups, s, l);
     if code != 0 {
         return Fitted::Refused(code);
     }
-    let m = weights.len();
     let r = mixture_restarts::four_runs(work, marks, weights, coords, s, m, k, d);
     mixture_outputs::fill_outputs(
         labels,
@@ -106,12 +81,9 @@ pub fn movmf_with(
         k,
         d,
     );
-    Fitted::Done {
-        k,
-        loglik: mixture_keeper::kept_loglik(r),
-        made: r.made,
-        saved: r.saved,
-    }
+    let loglik = mixture_restarts::kept_loglik(r);
+    let counts = r.counts;
+    Fitted::Done { k, loglik, counts }
 }
 
 // The same, each group with a concentration of its own.
@@ -132,9 +104,18 @@ pub fn movmf(
     marks: &mut [u32],
 ) -> Fitted
     ensures { λ r. ⌜ _≡_ {A = Outcome}
-        (record { answer = r; outputs = arrays (now (labels .exit)) (now (responsibilities .exit)) (now («group_weights» .exit)) (now (directions .exit)) (now (concentrations .exit)) (now (logw .exit)) })
-        (outcome (arrays (now (labels .entry)) (now (responsibilities .entry)) (now («group_weights» .entry)) (now (directions .entry)) (now (concentrations .entry)) (now (logw .entry)))
-        (now (weights .entry)) (now (coords .entry)) d k (record { rounds = rounds; seed = seed; kappa = Free }) (length (now (work .entry))) (length (now (marks .entry)))) ⌝ }
+        (record {
+          answer = r;
+          outputs = arrays (now (labels .exit)) (now (responsibilities .exit)) (now («group_weights» .exit))
+              (now (directions .exit)) (now (concentrations .exit)) (now (logw .exit));
+        })
+        (outcome (arrays (now (labels .entry)) (now (responsibilities .entry)) (now («group_weights» .entry))
+        (now (directions .entry)) (now (concentrations .entry)) (now (logw .entry))) (now (weights .entry)) (now (coords .entry)) d k
+        (record { rounds = rounds; seed = seed; kappa = Free }) (length (now (work .entry))) (length (now (marks .entry)))) ⌝ }
+    ensures { λ r. ⌜ AnswersWith (refusalOf (now (weights .entry)) (now (coords .entry)) d k (record { rounds = rounds; seed = seed; kappa = Free })
+        (lengthsOf (arrays (now (labels .entry)) (now (responsibilities .entry)) (now («group_weights» .entry))
+        (now (directions .entry)) (now (concentrations .entry)) (now (logw .entry)))
+        (length (now (work .entry))) (length (now (marks .entry))))) r ⌝ }
 {
     let s = mixture_kappa::Settings {
         rounds,
