@@ -110,15 +110,15 @@ module _ (k i : ℕ) (x : Bounds) (s : State) where
   bounds-same e f g = rw (getD-set-same (s .low) i (x .low) nan f, getD-set-same (s .high) i (x .high) nan g, ← e)
 
 module _ (m k d : ℕ) (w : List Float) (u : List ℕ) (coords : List Float) (it i : ℕ) (t : Slowest) where
-  pub leaf-anew : (s' : State) (own other : Float) (b : Bounds) (r : Bool) → total m k d ≤ length w → i < m → getD u i 0 < k
-      → own ≡ getD w (driftAt m k d + getD u i 0) nan → other ≡ otherThan t (getD u i 0) → b ≡ boundsAt (stateIn m k d w u) i → Spent k own other b
+  pub leaf-anew : (s' : State) (own other : Float) (b : Bounds) (r : Bool) → total m k d ≤ length w → i < m
+      → own ≡ getD (stateIn m k d w u .drift) (getD (stateIn m k d w u .labels) i 0) nan → other ≡ otherThan t (getD u i 0) → b ≡ boundsAt (stateIn m k d w u) i → Spent k own other b
       → r ≡ not (eqb (getD (stateIn m k d w u .labels) i 0) (bestOf coords k d (stateIn m k d w u) i .index))
       → s' ≡ putBest k i (bestOf coords k d (stateIn m k d w u) i) (stateIn m k d w u) → LeafPassed coords k d it i (shiftLeaf k t i (stateIn m k d w u)) s' false r
   unfolding putBounds
-  leaf-anew s' own other b r g h l eown eother eb spent er es =
+  leaf-anew s' own other b r g h eown eother eb spent er es =
       let s = stateIn m k d w u in
       let y = shiftOf k t i s in
-      let ey : shiftedBounds (ltb 1 k) own other b ≡ y = rw (eb, eother, eown, get-drift m k d w u (getD u i 0) nan l, get-labels m k d w u i 0 h) in
+      let ey : shiftedBounds (ltb 1 k) own other b ≡ y = rw (eb, eother, eown, get-labels m k d w u i 0 h) in
       let stays : skips it (shiftedBounds (ltb 1 k) own other b) ≡ false = rw (spent .several) (spent .stays it) in
       let hl : i < length (s .low) = rw (length-low m k d w u g) h in
       let hh : i < length (s .high) = rw (length-high m k d w u g) h in

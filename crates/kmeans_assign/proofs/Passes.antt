@@ -33,18 +33,17 @@ use Rattle.kmeans_layout.proofs.Sizes.{labelled-of}
 
 -- ---- the shift
 module _ (m k d : ℕ) (w w' : List Float) (u : List ℕ) (i : ℕ) where
-  pub shift-done : (t : Slowest) (own other : Float) (b n : Bounds) → i < m → getD u i 0 < k → own ≡ getD w (driftAt m k d + getD u i 0) nan
+  pub shift-done : (t : Slowest) (own other : Float) (b n : Bounds) → i < m
+      → own ≡ getD (stateIn m k d w u .drift) (getD (stateIn m k d w u .labels) i 0) nan
       → other ≡ otherThan t (getD u i 0) → b ≡ boundsAt (stateIn m k d w u) i → n ≡ shiftedBounds (ltb 1 k) own other b
       → stateIn m k d w' u ≡ putBounds i n (stateIn m k d w u) → stateIn m k d w' u ≡ shiftLeaf k t i (stateIn m k d w u)
-  shift-done t own other b n h l eown eother eb en e =
-      e ∙ rw (en, eb, eother, eown, get-drift m k d w u (getD u i 0) nan l, get-labels m k d w u i 0 h)
+  shift-done t own other b n h eown eother eb en e = e ∙ rw (en, eb, eother, eown, get-labels m k d w u i 0 h)
 
-pub slowest-is : (m k d : ℕ) (w : List Float) (u : List ℕ) (t : Slowest) → total m k d ≤ length w
-    → t ≡ slowestUpTo (take (driftAt m k d + k - driftAt m k d) (drop (driftAt m k d) w)) (length (take (driftAt m k d + k - driftAt m k d) (drop (driftAt m k d) w)))
-    → t ≡ slowestUpTo (stateIn m k d w u .drift) k
-slowest-is m k d w u t g e =
-    let f : driftAt m k d + k - driftAt m k d ≡ k = omega arith in
-    e ∙ rw (f, drift-are m k d w u, length-drift m k d w u g)
+pub slowest-is : (m k d : ℕ) (w : List Float) (u : List ℕ) (at : ℕ) (t : Slowest) → total m k d ≤ length w → at ≡ driftAt m k d
+    → (let l = take (at + k - at) (drop at w) in t ≡ slowestUpTo l (length l)) → t ≡ slowestUpTo (stateIn m k d w u .drift) k
+slowest-is m k d w u at t g ea e =
+    let f : at + k - at ≡ k = omega arith in
+    e ∙ rw (f, ea, drift-are m k d w u, length-drift m k d w u g)
 
 module _ (k : ℕ) (t : Slowest) (s : State) where
   pub shift-labels : (n : ℕ) → shiftUpTo k t s n .labels ≡ s .labels
@@ -75,11 +74,11 @@ module _ (m k d : ℕ) (w : List Float) (u : List ℕ) (coords : List Float) (i 
       → not (eqb (getD u i 0) (b .index)) ≡ not (eqb (getD (stateIn m k d w u .labels) i 0) (bestOf coords k d (stateIn m k d w u) i .index))
   leaf-changed h e = rw (← e, get-labels m k d w u i 0 h)
 
-  pub leaf-done : (w' : List Float) (o n : Bounds) → i < m → b ≡ bestOf coords k d (stateIn m k d w u) i → o ≡ boundsAt (stateIn m k d w u) i → n ≡ boundsBy k b o
-      → ((v : List ℕ) → stateIn m k d w' v ≡ putBounds i n (stateIn m k d (set w (servedAt m k d + i) (b .dot)) v))
+  pub leaf-done : (w' : List Float) (served : ℕ) (o n : Bounds) → i < m → served ≡ servedAt m k d → b ≡ bestOf coords k d (stateIn m k d w u) i → o ≡ boundsAt (stateIn m k d w u) i → n ≡ boundsBy k b o
+      → ((v : List ℕ) → stateIn m k d w' v ≡ putBounds i n (stateIn m k d (set w (served + i) (b .dot)) v))
       → stateIn m k d w' (set u i (b .index)) ≡ putBest k i (bestOf coords k d (stateIn m k d w u) i) (stateIn m k d w u)
-  leaf-done w' o n h e eo en f =
-      f (set u i (b .index)) ∙ ap (putBounds i n) (put-label-done m k d w u i h (b .dot) (b .index)) ∙ rw (← e, en, eo)
+  leaf-done w' served o n h es e eo en f =
+      f (set u i (b .index)) ∙ ap (putBounds i n) (put-label-done m k d w u i h served (b .dot) (b .index) es) ∙ rw (← e, en, eo)
 
 -- ---- a leaf's turn in a pass
 module _ (coords : List Float) (k d it i : ℕ) (s s' : State) (b : Bounds) (t : Bool) where

@@ -20,10 +20,9 @@ fn bounds_at(work: &[f64], i: usize, m: usize, k: usize, d: usize) -> kmeans_bou
     requires { ⌜ LeafOf i m d ⌝ }
     ensures { λ r. ⌜ ((u : List ℕ) → r ≡ boundsAt (stateIn m k d (now (work .entry)) u) i) ⌝ }
 {
-    let kd = k * d;
-    let scale = kd + kd;
-    let low = scale + m;
-    let high = low + m;
+    let scale = kmeans_layout::scale_at(m, k, d);
+    let low = kmeans_layout::low_at(m, k, d);
+    let high = kmeans_layout::high_at(m, k, d);
     kmeans_bounds::Bounds {
         scale: work[scale + i],
         low: work[low + i],
@@ -37,9 +36,8 @@ fn put_bounds(work: &mut [f64], i: usize, b: kmeans_bounds::Bounds, m: usize, k:
     requires { ⌜ LeafOf i m d ⌝ }
     ensures { λ _. ⌜ ((u : List ℕ) → stateIn m k d (now (work .exit)) u ≡ putBounds i b (stateIn m k d (now (work .entry)) u)) ⌝ }
 {
-    let kd = k * d;
-    let low = kd + kd + m;
-    let high = low + m;
+    let low = kmeans_layout::low_at(m, k, d);
+    let high = kmeans_layout::high_at(m, k, d);
     work[low + i] = b.low;
     work[high + i] = b.high;
 }
@@ -107,7 +105,7 @@ fn place_leaf(
     let s = &work[..];
     let b = kmeans_nearest::best_of(&coords[at..at + d], &s[..kd], k, d);
     let o = bounds_at(s, i, m, k, d);
-    let served = kd + kd + m + m + m;
+    let served = kmeans_layout::served_at(m, k, d);
     work[served + i] = b.dot;
     put_bounds(work, i, bounds_by(b, o, k), m, k, d);
     let label = b.index as u32;
@@ -167,8 +165,7 @@ fn turn_leaf(
     ensures { λ r. ⌜ LeafPassed (now (coords .entry)) k d it i (shiftLeaf k t i (stateIn m k d (now (work .entry)) (now (marks .entry)))) (stateIn m k d (now (work .exit)) (now (marks .exit))) (r .skipped) (r .changed) ⌝ }
 {
     let label = marks[i] as usize;
-    let kd = k * d;
-    let drift = kd + kd + m + m + m + m;
+    let drift = kmeans_layout::drift_at(m, k, d);
     let own = work[drift + label];
     let other = other_drift(t, label);
     let b = bounds_at(work, i, m, k, d);
@@ -258,8 +255,7 @@ fn shift_and_assign(
         (passUpTo (now (coords .entry)) k d it (shiftUpTo k (slowestUpTo (stateIn m k d (now (work .entry)) (now (marks .entry)) .drift) k) (stateIn m k d (now (work .entry)) (now (marks .entry))) m) m) ⌝ }
     ensures { λ r. ⌜ AtMost ofRound (r .counts) ⌝ }
 {
-    let kd = k * d;
-    let drift = kd + kd + m + m + m + m;
+    let drift = kmeans_layout::drift_at(m, k, d);
     let s = &work[..];
     let t = kmeans_bounds::two_smallest(&s[drift..drift + k]);
     let mut p = Passed {

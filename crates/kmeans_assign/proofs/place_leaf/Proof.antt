@@ -12,11 +12,21 @@ use borrow.Author.Needs.{needs}
 use Rattle.kmeans_assign.proofs.place_leaf.Statement.{statement}
 use Rattle.kmeans_assign.proofs.place_leaf.Tie as tie
 
+-- places, each from a later one
+abbrev start-of : tie.After-best-of → tie.Start
+start-of p = p .before .before .before .before .before .before .before
+
+abbrev best-call : tie.After-bounds-by → tie.After-best-of
+best-call p = p .before .before .before .before
+
+abbrev start : tie.After-bounds-by → tie.Start
+start p = start-of (best-call p)
+
 -- the best centre, past the call
-best-at : (c : tie.After-best-of) → let a = c .before .before .before .before .before .before .before .args in
+best-at : (c : tie.After-best-of) → let a = start-of c .args in
     c .best-of .result ≡ bestOf (a .coords .now) (a .k) (a .d) (stateIn (a .m) (a .k) (a .d) (a .work .now) (a .marks .now)) (a .i)
 best-at c =
-    let a = c .before .before .before .before .before .before .before .args in
+    let a = start-of c .args in
     best-is (a .m) (a .k) (a .d) (a .work .now) (a .marks .now) (a .coords .now) (a .i) (c .best-of .result) (c .best-of .ensures)
 
 slice-aggregate-best-of : tie.Need-slice-aggregate-best-of
@@ -32,10 +42,6 @@ best-of-requires c κs =
       long = length-take-le (s .args .k * s .args .d) (s .args .work .now) (omega (arith, s .pre .0 .work-long));
     }
 
--- places, each from a later one
-abbrev start : tie.After-bounds-by → tie.Start
-start p = let q = p .before .before .before .before .before in q .before .before .before .before .before
-
 put-bounds-requires : tie.Need-put-bounds-requires
 put-bounds-requires c κs =
     let s = start c in
@@ -44,8 +50,8 @@ put-bounds-requires c κs =
 
 cast-label : tie.Need-cast-label
 cast-label c =
-    let b = c .before .before .before .before .before .before .before in
-    let s = b .before .before .before .before .before .before .before in
+    let b = best-call (c .before .before .before .before) in
+    let s = start-of b in
     let a = s .args in
     let below = leaf-below (a .m) (a .k) (a .d) (a .work .now) (a .marks .now) (a .coords .now) (a .i) (b .best-of .result) (s .pre .0 .sizes .k-some) (best-at b) in
     omega (arith, below, s .pre .0 .sizes .k-small)
@@ -65,14 +71,15 @@ same-length c = simp length-set at (c .before .before .before .before .put-bound
 returns : tie.Need-returns
 returns c =
     let f = c .before .before .before .before in
-    let b = f .before .before .before .before in
-    let s = b .before .before .before .before .before .before .before in
+    let v = f .before .before .before in
+    let b = v .before .before in
+    let s = start-of b in
     let a = s .args in
     let e = best-at b in (
       leaf-changed (a .m) (a .k) (a .d) (a .work .now) (a .marks .now) (a .coords .now) (a .i) (b .best-of .result) (s .pre .1 .below) e,
       leaf-done (a .m) (a .k) (a .d) (a .work .now) (a .marks .now) (a .coords .now) (a .i) (b .best-of .result) (f .put-bounds .last .0)
-          (f .before .before .before .bounds-at .result) (f .before .bounds-by .result) (s .pre .1 .below) e (f .before .before .before .bounds-at .ensures (a .marks .now)) (f .before .bounds-by .ensures)
-          (f .put-bounds .ensures),
+          (v .served-at .result) (v .before .bounds-at .result) (f .before .bounds-by .result) (s .pre .1 .below) (v .served-at .ensures) e
+          (v .before .bounds-at .ensures (a .marks .now)) (f .before .bounds-by .ensures) (f .put-bounds .ensures),
     )
 
 pub place-leaf-spec : {M : Type 1} → statement M
@@ -89,17 +96,14 @@ place-leaf-spec =
     slice-aggregate-best-of
     best-of-requires
     (λ c κs. search needs)
-    (λ c. search needs)
-    (λ c. search needs)
-    (λ c. search needs)
-    (λ c. search needs)
+    (λ c κs. search needs)
     (λ c. search needs)
     (λ c. search needs)
     (λ c. search needs)
     (λ c κs. search needs)
     put-bounds-requires
     cast-label
-    (λ c. search needs)
+    (λ c. let s = start (c .before .before .before .before) in omega (arith, s .pre .0 .sizes .m-small, s .pre .1 .below))
     slice-read-changed
     mul-marks
     slice-write-marks

@@ -17,20 +17,23 @@ use Rattle.kmeans_assign.proofs.shift_and_assign.Statement.{statement}
 use Rattle.kmeans_assign.proofs.shift_and_assign.Tie as tie
 
 abbrev Inv-loop : tie.InvT-loop
-Inv-loop work₀ marks₀ coords it m k d kd drift t p₀ i₀ work marks p i =
+Inv-loop work₀ marks₀ coords it m k d drift t p₀ i₀ work marks p i =
     (i ≤ m) × Sized (length work) (length marks) (length coords) m k d
     × (passed (stateIn m k d work marks) p ≡ passUpTo coords k d it (shiftUpTo k t (stateIn m k d work₀ marks₀) i) i) × (length work ≡ length work₀) × (length marks ≡ length marks₀)
 
 abbrev μ-loop : tie.MeasureT-loop
-μ-loop work₀ marks₀ coords it m k d kd drift t p₀ i₀ work marks p i = m - i
+μ-loop work₀ marks₀ coords it m k d drift t p₀ i₀ work marks p i = m - i
+
+-- places, each from a later one
+abbrev start-of : tie.After-none Inv-loop μ-loop → tie.Start Inv-loop μ-loop
+start-of p = let q = p .before .before .before .before in q .before .before .before .before
+
+abbrev start : tie.At-loop Inv-loop μ-loop → tie.Start Inv-loop μ-loop
+start p = start-of (p .before)
 
 loop-holds : tie.Need-loop-holds Inv-loop μ-loop
 unfolding shiftUpTo passUpTo
-loop-holds c = (omega arith, c .before .before .before .before .before .before .before .pre .0, rw (c .none .ensures), refl, refl)
-
--- places, each from a later one
-abbrev start : tie.At-loop Inv-loop μ-loop → tie.Start Inv-loop μ-loop
-start p = let q = p .before .before .before .before in q .before .before .before .before
+loop-holds c = (omega arith, start-of c .pre .0, rw (c .none .ensures), refl, refl)
 
 abbrev loop-at : tie.After-slice-known4 Inv-loop μ-loop → tie.At-loop Inv-loop μ-loop
 loop-at p = let q = p .before .before .before .before in q .before .before .before .before
@@ -78,12 +81,14 @@ returns : tie.Need-returns Inv-loop μ-loop
 returns c =
     let l = c .before .loop in
     let f = c .before .before .before in
+    let r = f .before .before .before in
     let s = start (c .before) in
     let a = s .args in
     let s₀ = stateIn (a .m) (a .k) (a .d) (a .work .now) (a .marks .now) in
     let e : l .i ≡ a .m = omega (arith, l .inv .0, c .loop-test .left) in
     let t : f .two-smallest .result ≡ slowestUpTo (s₀ .drift) (a .k) =
-    slowest-is (a .m) (a .k) (a .d) (a .work .now) (a .marks .now) (f .two-smallest .result) (s .pre .0 .work-long) (f .two-smallest .ensures) in (
+    slowest-is (a .m) (a .k) (a .d) (a .work .now) (a .marks .now) (r .drift-at .result) (f .two-smallest .result)
+    (s .pre .0 .work-long) (r .drift-at .ensures) (f .two-smallest .ensures) in (
       l .inv .2 ∙ ap (λ (n : ℕ). passUpTo (a .coords .now) (a .k) (a .d) (a .it) (shiftUpTo (a .k) (f .two-smallest .result) s₀ n) n) e
           ∙ ap (λ (x : Slowest). passUpTo (a .coords .now) (a .k) (a .d) (a .it) (shiftUpTo (a .k) x s₀ (a .m)) (a .m)) t,
       pass-small (a .coords .now) (a .k) (a .d) (a .it) _ (l .i) _ (l .p) (l .inv .2) (omega (arith, l .inv .0, l .inv .1 .sizes .m-small)) (l .inv .1 .sizes .k-small),
@@ -95,12 +100,7 @@ shift-and-assign-spec =
     (tie.spec
     Inv-loop
     μ-loop
-    (λ c. search needs)
-    (λ c. search needs)
-    (λ c. search needs)
-    (λ c. search needs)
-    (λ c. search needs)
-    (λ c. search needs)
+    (λ c κs. search needs)
     (λ c. search needs)
     (λ c. search needs)
     (λ c. search needs)

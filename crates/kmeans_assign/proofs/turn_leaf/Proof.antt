@@ -6,6 +6,7 @@ use Rattle.kmeans_assign.specs.Pass.{shiftLeaf}
 use Rattle.kmeans_layout.specs.Areas.{stateIn}
 use Rattle.kmeans_assign.specs.Turns.{LeafPassed}
 use Rattle.kmeans_layout.proofs.Sizes.{sized-of}
+use Rattle.kmeans_assign.proofs.Leaves.{own-drift}
 use Rattle.kmeans_assign.proofs.Passes.{shift-done}
 use Rattle.kmeans_assign.proofs.Fused.{leaf-anew}
 use borrow.Author.Needs.{needs}
@@ -18,15 +19,18 @@ returns c =
     let q = f .before .before .before in
     let b = q .before .before in
     let o = b .before .before in
-    let s = o .before .before .before .before .before .before in
+    let r = o .before .before in
+    let s = r .before .before .before .before .before in
     let a = s .args in
+    let own = own-drift (a .m) (a .k) (a .d) (a .work .now) (a .marks .now) (a .i) (r .drift-at .result) (s .pre .1 .0 .below) (s .pre .1 .1)
+    (r .drift-at .ensures) in
     leaf-anew (a .m) (a .k) (a .d) (a .work .now) (a .marks .now) (a .coords .now) (a .it) (a .i) (a .t) _ _ (o .other-drift .result) (b .bounds-at .result) (f .place-leaf .result)
-    (s .pre .0 .work-long) (s .pre .1 .0 .below) (s .pre .1 .1) refl (o .other-drift .ensures) (b .bounds-at .ensures (a .marks .now)) (q .before .is-spent .ensures (q .if1 .taken))
+    (s .pre .0 .work-long) (s .pre .1 .0 .below) own (o .other-drift .ensures) (b .bounds-at .ensures (a .marks .now)) (q .before .is-spent .ensures (q .if1 .taken))
     (f .place-leaf .ensures .0) (f .place-leaf .ensures .1)
 
 -- places, each from a later one
 abbrev start : tie.After-assign-leaf-arg2 → tie.Start
-start p = let q = p .before .before .before .before .before .before in let r = q .before .before .before .before .before .before in r .before .before .before .before .before
+start p = let q = p .before .before .before .before .before .before in let r = q .before .before .before .before .before .before in r .before .before .before .before .before .before
 
 assign-leaf-requires : tie.Need-assign-leaf-requires
 assign-leaf-requires c κs =
@@ -42,11 +46,14 @@ returns-2 c =
     let n = f .before .before in
     let b = n .before .before .before in
     let o = b .before .before in
-    let s = o .before .before .before .before .before .before in
+    let r = o .before .before in
+    let s = r .before .before .before .before .before in
     let a = s .args in
+    let own = own-drift (a .m) (a .k) (a .d) (a .work .now) (a .marks .now) (a .i) (r .drift-at .result) (s .pre .1 .0 .below) (s .pre .1 .1)
+    (r .drift-at .ensures) in
     let e : stateIn (a .m) (a .k) (a .d) (f .put-bounds .last .0) (a .marks .now) ≡ shiftLeaf (a .k) (a .t) (a .i) (stateIn (a .m) (a .k) (a .d) (a .work .now) (a .marks .now)) =
     shift-done (a .m) (a .k) (a .d) (a .work .now) (f .put-bounds .last .0) (a .marks .now) (a .i) (a .t) _ (o .other-drift .result) (b .bounds-at .result) (n .shifted .result)
-    (s .pre .1 .0 .below) (s .pre .1 .1) refl (o .other-drift .ensures) (b .bounds-at .ensures (a .marks .now)) (n .shifted .ensures) (f .put-bounds .ensures (a .marks .now)) in
+    (s .pre .1 .0 .below) own (o .other-drift .ensures) (b .bounds-at .ensures (a .marks .now)) (n .shifted .ensures) (f .put-bounds .ensures (a .marks .now)) in
     subst
     (λ (x : State). LeafPassed (a .coords .now) (a .k) (a .d) (a .it) (a .i) x (stateIn (a .m) (a .k) (a .d) (g .assign-leaf .last .0) (g .assign-leaf .last .1 .0)) (g .assign-leaf .result .skipped) (g .assign-leaf .result .changed))
     e (g .assign-leaf .ensures)
@@ -58,12 +65,7 @@ turn-leaf-spec =
     (λ c. search needs)
     (λ c. search needs)
     (λ c. search needs)
-    (λ c. search needs)
-    (λ c. search needs)
-    (λ c. search needs)
-    (λ c. search needs)
-    (λ c. search needs)
-    (λ c. search needs)
+    (λ c κs. search needs)
     (λ c. search needs)
     (λ c. search needs)
     (λ c. search needs)
