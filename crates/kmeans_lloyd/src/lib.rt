@@ -104,8 +104,7 @@ fn leaf_norms(work: &mut [f64], coords: &[f64], m: usize, k: usize, d: usize)
     requires { ⌜ (Area (length (now work)) m k d) × (length (now coords) ≡ m * d) × (m * d ≤ 1048576) ⌝ }
     ensures { λ _. ⌜ ((u : List ℕ) → stateIn m k d (now (work .exit)) u ≡ putScale (normsUpTo (now (coords .entry)) d m) (stateIn m k d (now (work .entry)) u)) ⌝ }
 {
-    let kd = k * d;
-    let scale = kd + kd;
+    let scale = kmeans_layout::scale_at(m, k, d);
     let mut i = 0;
     while 4 <= m - i {
         let n = four_norms(coords, i, d);
@@ -128,11 +127,10 @@ fn start(work: &mut [f64], marks: &mut [u32], coords: &[f64], m: usize, k: usize
     requires { ⌜ Sized (length (now work)) (length (now marks)) (length (now coords)) m k d ⌝ }
     ensures { λ _. ⌜ stateIn m k d (now (work .exit)) (now (marks .exit)) ≡ startedFrom (now (coords .entry)) m k d (stateIn m k d (now (work .entry)) (now (marks .entry)) .centers) ⌝ }
 {
-    let kd = k * d;
-    let low = kd + kd + m;
-    let high = low + m;
-    let served = high + m;
-    let drift = served + m;
+    let low = kmeans_layout::low_at(m, k, d);
+    let high = kmeans_layout::high_at(m, k, d);
+    let served = kmeans_layout::served_at(m, k, d);
+    let drift = kmeans_layout::drift_at(m, k, d);
     leaf_norms(work, coords, m, k, d);
     kmeans_layout::fill_at(work, low, m, -1.0 / 0.0);
     kmeans_layout::fill_at(work, high, m, 1.0 / 0.0);
