@@ -8,7 +8,7 @@ use lib.Dec.{T, not-T, ltb}
 use lib.Ieee.{Float, binary64, add, sub, mul, div, neg, lt, le, isNan, fits}
 use lib.Ieee.Bits.{is-false}
 use lib.Ieee.Fits.{mul-fits, sub-fits, cond-fits, and-l, and-r}
-use Rattle.float.specs.Arithmetic.{f64, number, plusZero, maxOf, clampOf}
+use Rattle.float.specs.Arithmetic.{number, plusZero, maxOf, clampOf}
 use Rattle.root.specs.Root.{rootOf}
 use Rattle.float.proofs.Bound.{Within}
 use Rattle.float.proofs.Ranges.{within-finite}
@@ -17,8 +17,8 @@ use Rattle.float.proofs.Monotone.{add-mono, sub-mono, sub-below, add-above, add
 use Rattle.root.proofs.RootValue.{root-not-negative, root-reach}
 use borrow.Author.Tests.{not-false}
 use Rattle.float.proofs.Tests.{of-true}
-use Rattle.kmeans_bounds.specs.Products.{slack, squaresOf, reachesOf, footOf, closeOf, maySkip}
-use Rattle.kmeans_bounds.specs.Shifts.{cosine, sinesOf, shiftLower, shiftUpper, shiftedBounds, skips}
+use Rattle.kmeans_bounds.specs.Products.{reachesOf, half, footOf, closeOf, maySkip, NeverSkipped}
+use Rattle.kmeans_bounds.specs.Shifts.{cosine, squaresOf, sinesOf, shiftLower, shiftUpper, shiftedBounds, slack, skips}
 use Rattle.kmeans_bounds.specs.declared.Bounds.{Bounds}
 use Rattle.kmeans_bounds.proofs.Turns.{lower-within, upper-within, neither}
 
@@ -32,7 +32,7 @@ turned-within l p g =
     unit-mul (cosine l) (cosine p) (unit-clamp l (n .0)) (unit-clamp p (n .1))
 
 sines-not-negative : (a p : Float) → T (not (isNan (sinesOf a p))) → T (le plusZero (sinesOf a p))
-sines-not-negative a p g = root-not-negative (maxOf (mul binary64 (sub binary64 (number 1) (mul binary64 a a)) (sub binary64 (number 1) (mul binary64 p p))) plusZero) g
+sines-not-negative a p g = root-not-negative (squaresOf a p) g
 
 lower-below : (l p : Float) → T (not (isNan (turned l p))) → T (not (isNan (shiftLower l p))) → T (le (shiftLower l p) (turned l p))
 unfolding shiftLower
@@ -133,9 +133,6 @@ close-apart l p u q i j h k =
     (clamp-fits (mul binary64 half (add binary64 d (div binary64 (sub binary64 a e) d))) d (mul-fits binary64 half (add binary64 d (div binary64 (sub binary64 a e) d))) (sub-fits binary64 x y))
     (sub-fits binary64 d c) (and-l (reachesOf c a) (reachesOf f e) r) (and-r (reachesOf c a) (reachesOf f e) r) (and-r (reachesOf c a && reachesOf f e) w h)
     (subst (λ (z : Float). T (le slack z)) (ap₂ (sub binary64) (sym (lower-within l p (cosine l) (cosine p) refl refl (rootOf a) refl i)) (sym (upper-within u q (cosine u) (cosine q) refl refl (rootOf e) refl j))) k)
-  where
-    half : Float
-    half = f64 0x3FE0000000000000
 
 cannot-skip : (it : ℕ) (b : Bounds) (own other : Float) → (T (le slack (sub binary64 (shiftLower (b .low) own) (shiftUpper (b .high) other))) → ⊥) → skips it (shiftedBounds true own other b) ≡ false
 cannot-skip it b own other h =
@@ -149,7 +146,7 @@ tested false true k e = absurd (true≢false e)
 tested false false k e = inr (refl, not-false k e)
 
 -- a leaf that may_skip turns down is not skipped, in no round
-pub no-skip : (b : Bounds) (own other : Float) → maySkip own other b ≡ false → (it : ℕ) → skips it (shiftedBounds true own other b) ≡ false
+pub no-skip : (b : Bounds) (own other : Float) → maySkip own other b ≡ false → NeverSkipped own other b
 no-skip b own other e it =
     let l = b .low in
     let u = b .high in
