@@ -14,7 +14,7 @@ use lib.ListN.{length, getD, take, drop, set, length-set}
 use lib.Ieee.{Float, nan}
 use Rattle.rows.specs.Rows.{rowOf}
 use Rattle.counts.specs.Counts.{AtMost, ofRound}
-use Rattle.kmeans_bounds.specs.Shifts.{shiftedBounds, skips, otherThan, slowestUpTo}
+use Rattle.kmeans_bounds.specs.Shifts.{shiftedBounds, skips, otherThan, slowestOf}
 use Rattle.kmeans_nearest.specs.Nearest.{bestTo}
 use Rattle.kmeans_nearest.specs.declared.Best.{Best}
 use Rattle.kmeans_bounds.specs.declared.Bounds.{Bounds}
@@ -26,7 +26,7 @@ use Rattle.kmeans_layout.specs.Areas.{stateIn, total, driftAt, servedAt, Area, 
 use Rattle.kmeans_assign.specs.Turns.{LeafPassed, tallied}
 use Rattle.kmeans_assign.specs.declared.Passed.{Passed}
 use Rattle.kmeans_assign.specs.declared.Turn.{Turn}
-use Rattle.kmeans_layout.proofs.Regions.{get-drift, get-labels, drift-are, length-drift, centers-are}
+use Rattle.kmeans_layout.proofs.Regions.{get-drift, get-labels, drift-are, centers-are}
 use Rattle.kmeans_assign.proofs.Leaves.{put-label-done}
 use Rattle.kmeans_assign.proofs.Tallies.{counts-of-pass}
 use Rattle.kmeans_layout.proofs.Sizes.{labelled-of}
@@ -39,11 +39,11 @@ module _ (m k d : ℕ) (w w' : List Float) (u : List ℕ) (i : ℕ) where
       → stateIn m k d w' u ≡ putBounds i n (stateIn m k d w u) → stateIn m k d w' u ≡ shiftLeaf k t i (stateIn m k d w u)
   shift-done t own other b n h eown eother eb en e = e ∙ rw (en, eb, eother, eown, get-labels m k d w u i 0 h)
 
-pub slowest-is : (m k d : ℕ) (w : List Float) (u : List ℕ) (at : ℕ) (t : Slowest) → total m k d ≤ length w → at ≡ driftAt m k d
-    → (let l = take (at + k - at) (drop at w) in t ≡ slowestUpTo l (length l)) → t ≡ slowestUpTo (stateIn m k d w u .drift) k
-slowest-is m k d w u at t g ea e =
+pub slowest-is : (m k d : ℕ) (w : List Float) (u : List ℕ) (at : ℕ) (t : Slowest) → at ≡ driftAt m k d
+    → t ≡ slowestOf (take (at + k - at) (drop at w)) → t ≡ slowestOf (stateIn m k d w u .drift)
+slowest-is m k d w u at t ea e =
     let f : at + k - at ≡ k = omega arith in
-    e ∙ rw (f, ea, drift-are m k d w u, length-drift m k d w u g)
+    e ∙ rw (f, ea, drift-are m k d w u)
 
 module _ (k : ℕ) (t : Slowest) (s : State) where
   pub shift-labels : (n : ℕ) → shiftUpTo k t s n .labels ≡ s .labels
@@ -53,7 +53,7 @@ module _ (k : ℕ) (t : Slowest) (s : State) where
 
 -- the shift is made after the first round
 module _ (m k it : ℕ) (s : State) where
-  pub shift-made : 0 < it → shiftUpTo k (slowestUpTo (s .drift) k) s m ≡ shiftedFor m k it s
+  pub shift-made : 0 < it → shiftUpTo k (slowestOf (s .drift)) s m ≡ shiftedFor m k it s
   shift-made h = rw (lt-ltb 0 it h)
 
   pub shift-left : it ≤ 0 → s ≡ shiftedFor m k it s
@@ -146,8 +146,8 @@ labelled-after-pass coords m k d it s l h (suc n) =
 
 -- the pass keeps labels below k
 module _ (m k : ℕ) (s : State) where
-  shifted-labels : (b : Bool) → cond b (shiftUpTo k (slowestUpTo (s .drift) k) s m) s .labels ≡ s .labels
-  shifted-labels true = shift-labels k (slowestUpTo (s .drift) k) s m
+  shifted-labels : (b : Bool) → cond b (shiftUpTo k (slowestOf (s .drift)) s m) s .labels ≡ s .labels
+  shifted-labels true = shift-labels k (slowestOf (s .drift)) s m
   shifted-labels false = refl
 
   pub labelled-of-pass : (coords : List Float) (d it : ℕ) → 0 < k → Labelled m k s → Labelled m k (passOf coords m k d it s .state)
@@ -163,8 +163,8 @@ shift-centers k t s (suc n) = shift-centers k t s n
 shifted-centers : (m k it : ℕ) (s : State) → shiftedFor m k it s .centers ≡ s .centers
 shifted-centers m k it s = go (ltb 0 it)
   where
-    go : (b : Bool) → cond b (shiftUpTo k (slowestUpTo (s .drift) k) s m) s .centers ≡ s .centers
-    go true = shift-centers k (slowestUpTo (s .drift) k) s m
+    go : (b : Bool) → cond b (shiftUpTo k (slowestOf (s .drift)) s m) s .centers ≡ s .centers
+    go true = shift-centers k (slowestOf (s .drift)) s m
     go false = refl
 
 either-centers : (b : Bool) (x y : Pass) (l : List Float) → x .state .centers ≡ l → y .state .centers ≡ l → cond b x y .state .centers ≡ l

@@ -9,7 +9,7 @@ use Rattle.float.specs.Arithmetic.{plusZero}
 use Rattle.rows.specs.Rows.{rowOf}
 use Rattle.counts.specs.declared.Counts.{Counts}
 use Rattle.counts.specs.Counts.{noCounts}
-use Rattle.kmeans_bounds.specs.Shifts.{shiftedBounds, skips, slowestUpTo, otherThan}
+use Rattle.kmeans_bounds.specs.Shifts.{shiftedBounds, skips, slowestOf, otherThan}
 use Rattle.kmeans_nearest.specs.Nearest.{bestTo}
 use Rattle.kmeans_bounds.specs.declared.Bounds.{Bounds}
 use Rattle.kmeans_bounds.specs.declared.Slowest.{Slowest}
@@ -70,7 +70,7 @@ shiftUpTo k t s (suc i) = shiftLeaf k t i (shiftUpTo k t s i)
 
 -- after the first round
 abbrev pub shiftedFor : ℕ → ℕ → ℕ → State → State
-shiftedFor m k it s = cond (ltb 0 it) (shiftUpTo k (slowestUpTo (s .drift) k) s m) s
+shiftedFor m k it s = cond (ltb 0 it) (shiftUpTo k (slowestOf (s .drift)) s m) s
 
 -- ---- the assignment pass
 

@@ -8,7 +8,8 @@ use lib.Ieee.{Float, lt}
 use lib.Dec.{eqb, ltb}
 use Rattle.float.specs.Arithmetic.{plusZero}
 use Rattle.kmeans_bounds.specs.declared.Bounds.{Bounds}
-use Rattle.kmeans_bounds.specs.Shifts.{shiftedBounds, skips}
+use Rattle.kmeans_bounds.specs.Shifts.{skips}
+use Rattle.kmeans_bounds.specs.Products.{NeverSkipped}
 use Rattle.kmeans_layout.specs.State.{State}
 use Rattle.kmeans_assign.specs.Pass.{boundsAt, bestOf, putBest, moreMade, moreSaved}
 use Rattle.kmeans_assign.specs.declared.Passed.{Passed}
@@ -18,7 +19,7 @@ use Rattle.kmeans_assign.specs.declared.Turn.{Turn}
 pub record Spent (k : ℕ) (own other : Float) (b : Bounds) : Type 0 where
   pub several : ltb 1 k ≡ true
   pub scaled : lt plusZero (b .scale) ≡ true
-  pub stays : (it : ℕ) → skips it (shiftedBounds true own other b) ≡ false
+  pub stays : NeverSkipped own other b
 
 pub record LeafPassed (coords : List Float) (k d it i : ℕ) (s s' : State) (skipped changed : Bool) : Type 0 where
   pub skip : skipped ≡ skips it (boundsAt s i)

@@ -7,7 +7,7 @@ ghost use Prim.Native.Nat.{ℕ, _+_, _*_, _<_, _≤_};
 ghost use lib.Dec.{eqb};
 ghost use lib.ListN.{length, getD};
 ghost use Rattle.counts.specs.Counts.{AtMost, ofRound};
-ghost use Rattle.kmeans_bounds.specs.Shifts.{slowestUpTo, otherThan};
+ghost use Rattle.kmeans_bounds.specs.Shifts.{slowestOf, otherThan};
 ghost use Rattle.kmeans_assign.specs.Pass.{Pass, boundsAt, putBounds, shiftLeaf, shiftUpTo, boundsBy, bestOf, putBest, passUpTo, passOf};
 ghost use Rattle.kmeans_layout.specs.Areas.{stateIn, Sized, LeafOf, Labelled, Area};
 ghost use Rattle.kmeans_assign.specs.Turns.{Spent, LeafPassed, tallied};
@@ -252,7 +252,7 @@ fn shift_and_assign(
     requires { ⌜ Sized (length (now work)) (length (now marks)) (length (now coords)) m k d ⌝ }
     requires { ⌜ Labelled m k (stateIn m k d (now work) (now marks)) ⌝ }
     ensures { λ r. ⌜ _≡_ {A = Pass} (record { state = stateIn m k d (now (work .exit)) (now (marks .exit)); changed = r .changed; counts = r .counts })
-        (passUpTo (now (coords .entry)) k d it (shiftUpTo k (slowestUpTo (stateIn m k d (now (work .entry)) (now (marks .entry)) .drift) k) (stateIn m k d (now (work .entry)) (now (marks .entry))) m) m) ⌝ }
+        (passUpTo (now (coords .entry)) k d it (shiftUpTo k (slowestOf (stateIn m k d (now (work .entry)) (now (marks .entry)) .drift)) (stateIn m k d (now (work .entry)) (now (marks .entry))) m) m) ⌝ }
     ensures { λ r. ⌜ AtMost ofRound (r .counts) ⌝ }
 {
     let drift = kmeans_layout::drift_at(m, k, d);

@@ -4,7 +4,7 @@ use mathlib.Core.Path.{_≡_, refl, ap, _∙_}
 use Prim.Native.Nat.{ℕ, _≤_, _<_, _-_}
 use native.Mathlib.Omega.{arith}
 use lib.ListN.{length}
-use Rattle.kmeans_bounds.specs.Shifts.{slowestUpTo}
+use Rattle.kmeans_bounds.specs.Shifts.{slowestOf}
 use Rattle.kmeans_bounds.specs.declared.Slowest.{Slowest}
 use Rattle.kmeans_assign.specs.Pass.{shiftUpTo, passUpTo}
 use Rattle.kmeans_layout.specs.Areas.{Sized, stateIn}
@@ -86,9 +86,9 @@ returns c =
     let a = s .args in
     let s₀ = stateIn (a .m) (a .k) (a .d) (a .work .now) (a .marks .now) in
     let e : l .i ≡ a .m = omega (arith, l .inv .0, c .loop-test .left) in
-    let t : f .two-smallest .result ≡ slowestUpTo (s₀ .drift) (a .k) =
+    let t : f .two-smallest .result ≡ slowestOf (s₀ .drift) =
     slowest-is (a .m) (a .k) (a .d) (a .work .now) (a .marks .now) (r .drift-at .result) (f .two-smallest .result)
-    (s .pre .0 .work-long) (r .drift-at .ensures) (f .two-smallest .ensures) in (
+    (r .drift-at .ensures) (f .two-smallest .ensures) in (
       l .inv .2 ∙ ap (λ (n : ℕ). passUpTo (a .coords .now) (a .k) (a .d) (a .it) (shiftUpTo (a .k) (f .two-smallest .result) s₀ n) n) e
           ∙ ap (λ (x : Slowest). passUpTo (a .coords .now) (a .k) (a .d) (a .it) (shiftUpTo (a .k) x s₀ (a .m)) (a .m)) t,
       pass-small (a .coords .now) (a .k) (a .d) (a .it) _ (l .i) _ (l .p) (l .inv .2) (omega (arith, l .inv .0, l .inv .1 .sizes .m-small)) (l .inv .1 .sizes .k-small),
