@@ -18,11 +18,11 @@ use Rattle.kmeans_bounds.specs.declared.Slowest.{Slowest}
 use Rattle.kmeans_layout.specs.State.{State}
 use Rattle.kmeans_assign.specs.Pass.{Pass, boundsAt, putBounds, putLabel, shiftLeaf, shiftUpTo, boundsBy, bestOf, putBest, moreMade, passLeaf, passUpTo}
 use Rattle.kmeans_layout.specs.Areas.{stateIn, total, driftAt, Labelled}
-use Rattle.kmeans_assign.specs.Turns.{LeafPassed, Spent, tallied}
+use Rattle.kmeans_assign.specs.Turns.{Spent, LeafPlaced, LeafPassed, tallied, passed}
 use Rattle.kmeans_assign.specs.declared.Passed.{Passed}
 use Rattle.kmeans_assign.specs.declared.Turn.{Turn}
 use Rattle.kmeans_layout.proofs.Regions.{get-drift, get-labels, length-low, length-high}
-use Rattle.kmeans_assign.proofs.Passes.{shift-labels, passed, pass-turn, leaf-placed, labelled-after-pass}
+use Rattle.kmeans_assign.proofs.Passes.{shift-labels, pass-turn, leaf-placed, labelled-after-pass}
 
 -- ---- two leaves
 module _ (i j : ℕ) (h : i < j) (s : State) where
@@ -86,7 +86,7 @@ module _ (coords : List Float) (k d it : ℕ) (t : Slowest) (j : ℕ) where
 
 module _ (coords : List Float) (k d it : ℕ) (t : Slowest) (s : State) where
   pub fused-turn : (n : ℕ) (x x' : State) (p p' : Passed) (r : Turn) → passed x p ≡ passUpTo coords k d it (shiftUpTo k t s n) n
-      → LeafPassed coords k d it n (shiftLeaf k t n x) x' (r .skipped) (r .changed) → p' ≡ tallied p r k
+      → LeafPassed coords k d it n (shiftLeaf k t n x) x' r → p' ≡ tallied p r k
       → passed x' p' ≡ passUpTo coords k d it (shiftUpTo k t s (n + 1)) (n + 1)
   unfolding shiftUpTo
   fused-turn n x x' p p' r e l f =
@@ -112,10 +112,10 @@ module _ (k i : ℕ) (x : Bounds) (s : State) where
 module _ (m k d : ℕ) (w : List Float) (u : List ℕ) (coords : List Float) (it i : ℕ) (t : Slowest) where
   pub leaf-anew : (s' : State) (own other : Float) (b : Bounds) (r : Bool) → total m k d ≤ length w → i < m
       → own ≡ getD (stateIn m k d w u .drift) (getD (stateIn m k d w u .labels) i 0) nan → other ≡ otherThan t (getD u i 0) → b ≡ boundsAt (stateIn m k d w u) i → Spent k own other b
-      → r ≡ not (eqb (getD (stateIn m k d w u .labels) i 0) (bestOf coords k d (stateIn m k d w u) i .index))
-      → s' ≡ putBest k i (bestOf coords k d (stateIn m k d w u) i) (stateIn m k d w u) → LeafPassed coords k d it i (shiftLeaf k t i (stateIn m k d w u)) s' false r
+      → LeafPlaced coords k d i (stateIn m k d w u) s' r
+      → LeafPassed coords k d it i (shiftLeaf k t i (stateIn m k d w u)) s' (record { skipped = false; changed = r })
   unfolding putBounds
-  leaf-anew s' own other b r g h eown eother eb spent er es =
+  leaf-anew s' own other b r g h eown eother eb spent l =
       let s = stateIn m k d w u in
       let y = shiftOf k t i s in
       let ey : shiftedBounds (ltb 1 k) own other b ≡ y = rw (eb, eother, eown, get-labels m k d w u i 0 h) in
@@ -123,5 +123,5 @@ module _ (m k d : ℕ) (w : List Float) (u : List ℕ) (coords : List Float) (it
       let hl : i < length (s .low) = rw (length-low m k d w u g) h in
       let hh : i < length (s .high) = rw (length-high m k d w u g) h in
       let scaled : lt plusZero (getD (s .scale) i nan) ≡ true = ap (λ (o : Bounds). lt plusZero (o .scale)) (sym eb) ∙ spent .scaled in
-      leaf-placed coords k d it i (shiftLeaf k t i s) s' y false (sym (bounds-same k i y s refl hl hh)) (sym (ap (skips it) (sym ey) ∙ stays)) refl r er
-      (es ∙ sym (best-anew k i y s (bestOf coords k d s i) scaled))
+      leaf-placed coords k d it i (shiftLeaf k t i s) s' y false (sym (bounds-same k i y s refl hl hh)) (sym (ap (skips it) (sym ey) ∙ stays)) refl r
+      (record { change = l .change; state = l .state ∙ sym (best-anew k i y s (bestOf coords k d s i) scaled) })

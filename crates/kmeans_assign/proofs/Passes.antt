@@ -23,7 +23,7 @@ use Rattle.kmeans_nearest.proofs.Nearest.{best-below}
 use Rattle.kmeans_layout.specs.State.{State}
 use Rattle.kmeans_assign.specs.Pass.{Pass, boundsAt, putBounds, putLabel, shiftLeaf, shiftUpTo, shiftedFor, boundsBy, bestOf, putBest, moreMade, moreSaved, passUpTo, passOf}
 use Rattle.kmeans_layout.specs.Areas.{stateIn, total, driftAt, servedAt, Area, Labelled}
-use Rattle.kmeans_assign.specs.Turns.{LeafPassed, tallied}
+use Rattle.kmeans_assign.specs.Turns.{LeafPlaced, LeafPassed, tallied, passed}
 use Rattle.kmeans_assign.specs.declared.Passed.{Passed}
 use Rattle.kmeans_assign.specs.declared.Turn.{Turn}
 use Rattle.kmeans_layout.proofs.Regions.{get-drift, get-labels, drift-are, centers-are}
@@ -70,48 +70,43 @@ module _ (m k d : ℕ) (w : List Float) (u : List ℕ) (coords : List Float) (i 
   pub leaf-below : 0 < k → b ≡ bestOf coords k d (stateIn m k d w u) i → b .index < k
   leaf-below h e = rw e (best-below (rowOf coords d i) (stateIn m k d w u .centers) d (k - 1) k (omega arith))
 
-  pub leaf-changed : i < m → b ≡ bestOf coords k d (stateIn m k d w u) i
-      → not (eqb (getD u i 0) (b .index)) ≡ not (eqb (getD (stateIn m k d w u .labels) i 0) (bestOf coords k d (stateIn m k d w u) i .index))
-  leaf-changed h e = rw (← e, get-labels m k d w u i 0 h)
-
-  pub leaf-done : (w' : List Float) (served : ℕ) (o n : Bounds) → i < m → served ≡ servedAt m k d → b ≡ bestOf coords k d (stateIn m k d w u) i → o ≡ boundsAt (stateIn m k d w u) i → n ≡ boundsBy k b o
+  pub leaf-done : (w' : List Float) (served : ℕ) (o n : Bounds) → i < m → served ≡ servedAt m k d
+      → b ≡ bestOf coords k d (stateIn m k d w u) i → o ≡ boundsAt (stateIn m k d w u) i → n ≡ boundsBy k b o
       → ((v : List ℕ) → stateIn m k d w' v ≡ putBounds i n (stateIn m k d (set w (served + i) (b .dot)) v))
-      → stateIn m k d w' (set u i (b .index)) ≡ putBest k i (bestOf coords k d (stateIn m k d w u) i) (stateIn m k d w u)
+      → LeafPlaced coords k d i (stateIn m k d w u) (stateIn m k d w' (set u i (b .index))) (not (eqb (getD u i 0) (b .index)))
   leaf-done w' served o n h es e eo en f =
-      f (set u i (b .index)) ∙ ap (putBounds i n) (put-label-done m k d w u i h served (b .dot) (b .index) es) ∙ rw (← e, en, eo)
+      let put = put-label-done m k d w u i h served (b .dot) (b .index) es in
+      record {
+        change = rw (← e, get-labels m k d w u i 0 h);
+        state = f (set u i (b .index)) ∙ ap (putBounds i n) put ∙ rw (← e, en, eo);
+      }
 
 -- ---- a leaf's turn in a pass
 module _ (coords : List Float) (k d it i : ℕ) (s s' : State) (b : Bounds) (t : Bool) where
-  pub leaf-skipped : b ≡ boundsAt s i → t ≡ skips it b → t ≡ true → LeafPassed coords k d it i s s true false
-  leaf-skipped eb et e =
-      let f : skips it (boundsAt s i) ≡ true = ap (skips it) (sym eb) ∙ sym et ∙ e in
-      record { skip = sym f; change = rw f; state = rw f }
+  pub leaf-skipped : b ≡ boundsAt s i → t ≡ skips it b → t ≡ true
+      → LeafPassed coords k d it i s s (record { skipped = true; changed = false })
+  leaf-skipped eb et e = record { skip = sym e ∙ et ∙ ap (skips it) eb; change = refl; state = refl }
 
-  pub leaf-placed : b ≡ boundsAt s i → t ≡ skips it b → t ≡ false → (r : Bool) → r ≡ not (eqb (getD (s .labels) i 0) (bestOf coords k d s i .index))
-      → s' ≡ putBest k i (bestOf coords k d s i) s → LeafPassed coords k d it i s s' false r
-  leaf-placed eb et e r er es =
-      let f : skips it (boundsAt s i) ≡ false = ap (skips it) (sym eb) ∙ sym et ∙ e in
-      record { skip = sym f; change = rw f er; state = rw f es }
+  pub leaf-placed : b ≡ boundsAt s i → t ≡ skips it b → t ≡ false → (r : Bool) → LeafPlaced coords k d i s s' r
+      → LeafPassed coords k d it i s s' (record { skipped = false; changed = r })
+  leaf-placed eb et e r l = record { skip = sym e ∙ et ∙ ap (skips it) eb; change = l .change; state = l .state }
 
 -- ---- the pass
 
--- the definition's pass from the code's answer
-abbrev pub passed : State → Passed → Pass
-passed s p = record { state = s; changed = p .changed; counts = p .counts }
-
-turn-by : (b c : Bool) (x y x' : State) (p : Passed) (t : Turn) (k : ℕ) → t .skipped ≡ b → t .changed ≡ not b && c → x' ≡ cond b x y
-    → passed x' (tallied p t k)
+turn-by : (b c : Bool) (x y x' : State) (p : Passed) (t : Turn) (k : ℕ) → t .skipped ≡ b → t .changed ≡ not (t .skipped) && c
+    → x' ≡ cond (t .skipped) x y → passed x' (tallied p t k)
     ≡ cond b (record { state = x; changed = p .changed; counts = moreSaved k (p .counts) })
     (record { state = y; changed = p .changed || c; counts = moreMade k (p .counts) })
-turn-by true c x y x' p t k e f g = rw (e, g)
-turn-by false c x y x' p t k e f g = rw (e, f, g)
+turn-by true c x y x' p t k e f g = rw (g, e)
+turn-by false c x y x' p t k e f g = rw (f, g, e)
 
 module _ (coords : List Float) (k d it : ℕ) (s : State) where
-  pub pass-turn : (n : ℕ) (x x' : State) (p p' : Passed) (t : Turn) → passed x p ≡ passUpTo coords k d it s n → LeafPassed coords k d it n x x' (t .skipped) (t .changed)
-      → p' ≡ tallied p t k → passed x' p' ≡ passUpTo coords k d it s (n + 1)
+  pub pass-turn : (n : ℕ) (x x' : State) (p p' : Passed) (t : Turn) → passed x p ≡ passUpTo coords k d it s n
+      → LeafPassed coords k d it n x x' t → p' ≡ tallied p t k → passed x' p' ≡ passUpTo coords k d it s (n + 1)
   unfolding passUpTo
   pass-turn n x x' p p' t e l f =
-      let g = turn-by (skips it (boundsAt x n)) (not (eqb (getD (x .labels) n 0) (bestOf coords k d x n .index))) x (putBest k n (bestOf coords k d x n) x) x' p t k
+      let best = bestOf coords k d x n in
+      let g = turn-by (skips it (boundsAt x n)) (not (eqb (getD (x .labels) n 0) (best .index))) x (putBest k n best x) x' p t k
       (l .skip) (l .change) (l .state) in
       ap (passed x') f ∙ g ∙ rw (add-one, ← e)
 

@@ -17,7 +17,7 @@ use Rattle.kmeans_layout.specs.Areas.{Labelled}
 use Rattle.kmeans_lloyd.specs.Runs.{RoundBy, RoundDone, RunSoFar}
 use Rattle.kmeans_assign.specs.declared.Passed.{Passed}
 use Rattle.kmeans_lloyd.specs.declared.Round.{Round}
-use Rattle.kmeans_assign.proofs.Passes.{passed, labelled-of-pass}
+use Rattle.kmeans_assign.proofs.Passes.{labelled-of-pass}
 use Rattle.kmeans_update.proofs.Settles.{labelled-of-update}
 
 -- ---- a round, by its pass p

@@ -5,9 +5,10 @@ use Prim.Native.Nat.{ℕ, _≤_, _-_}
 use native.Mathlib.Omega.{arith}
 use lib.ListN.{length}
 use Rattle.kmeans_assign.specs.Pass.{passUpTo}
+use Rattle.kmeans_assign.specs.Turns.{passed}
 use Rattle.kmeans_layout.specs.Areas.{Sized, stateIn}
 use Rattle.kmeans_layout.proofs.Sizes.{sized-of, leaf-of}
-use Rattle.kmeans_assign.proofs.Passes.{passed, pass-turn, pass-small}
+use Rattle.kmeans_assign.proofs.Passes.{pass-turn, pass-small}
 use borrow.Author.Needs.{needs}
 use Rattle.kmeans_assign.proofs.assign.Statement.{statement}
 use Rattle.kmeans_assign.proofs.assign.Tie as tie

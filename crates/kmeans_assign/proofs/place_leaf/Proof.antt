@@ -7,7 +7,7 @@ use lib.Seq.{length-take-le}
 use Rattle.kmeans_assign.specs.Pass.{bestOf}
 use Rattle.kmeans_layout.specs.Areas.{stateIn}
 use Rattle.kmeans_layout.proofs.Sizes.{area-of}
-use Rattle.kmeans_assign.proofs.Passes.{area-set, best-is, leaf-below, leaf-changed, leaf-done}
+use Rattle.kmeans_assign.proofs.Passes.{area-set, best-is, leaf-below, leaf-done}
 use borrow.Author.Needs.{needs}
 use Rattle.kmeans_assign.proofs.place_leaf.Statement.{statement}
 use Rattle.kmeans_assign.proofs.place_leaf.Tie as tie
@@ -75,12 +75,9 @@ returns c =
     let b = v .before .before in
     let s = start-of b in
     let a = s .args in
-    let e = best-at b in (
-      leaf-changed (a .m) (a .k) (a .d) (a .work .now) (a .marks .now) (a .coords .now) (a .i) (b .best-of .result) (s .pre .1 .below) e,
-      leaf-done (a .m) (a .k) (a .d) (a .work .now) (a .marks .now) (a .coords .now) (a .i) (b .best-of .result) (f .put-bounds .last .0)
-          (v .served-at .result) (v .before .bounds-at .result) (f .before .bounds-by .result) (s .pre .1 .below) (v .served-at .ensures) e
-          (v .before .bounds-at .ensures (a .marks .now)) (f .before .bounds-by .ensures) (f .put-bounds .ensures),
-    )
+    leaf-done (a .m) (a .k) (a .d) (a .work .now) (a .marks .now) (a .coords .now) (a .i) (b .best-of .result) (f .put-bounds .last .0)
+    (v .served-at .result) (v .before .bounds-at .result) (f .before .bounds-by .result) (s .pre .1 .below) (v .served-at .ensures)
+    (best-at b) (v .before .bounds-at .ensures (a .marks .now)) (f .before .bounds-by .ensures) (f .put-bounds .ensures)
 
 pub place-leaf-spec : {M : Type 1} → statement M
 place-leaf-spec =

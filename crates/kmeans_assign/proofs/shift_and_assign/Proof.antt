@@ -7,10 +7,11 @@ use lib.ListN.{length}
 use Rattle.kmeans_bounds.specs.Shifts.{slowestOf}
 use Rattle.kmeans_bounds.specs.declared.Slowest.{Slowest}
 use Rattle.kmeans_assign.specs.Pass.{shiftUpTo, passUpTo}
+use Rattle.kmeans_assign.specs.Turns.{passed}
 use Rattle.kmeans_layout.specs.Areas.{Sized, stateIn}
 use Rattle.kmeans_layout.proofs.Regions.{get-labels}
 use Rattle.kmeans_layout.proofs.Sizes.{sized-of, leaf-of}
-use Rattle.kmeans_assign.proofs.Passes.{slowest-is, passed, pass-small}
+use Rattle.kmeans_assign.proofs.Passes.{slowest-is, pass-small}
 use Rattle.kmeans_assign.proofs.Fused.{fused-turn, fused-labelled}
 use borrow.Author.Needs.{needs}
 use Rattle.kmeans_assign.proofs.shift_and_assign.Statement.{statement}

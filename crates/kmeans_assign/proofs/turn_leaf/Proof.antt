@@ -26,7 +26,7 @@ returns c =
     (r .drift-at .ensures) in
     leaf-anew (a .m) (a .k) (a .d) (a .work .now) (a .marks .now) (a .coords .now) (a .it) (a .i) (a .t) _ _ (o .other-drift .result) (b .bounds-at .result) (f .place-leaf .result)
     (s .pre .0 .work-long) (s .pre .1 .0 .below) own (o .other-drift .ensures) (b .bounds-at .ensures (a .marks .now)) (q .before .is-spent .ensures (q .if1 .taken))
-    (f .place-leaf .ensures .0) (f .place-leaf .ensures .1)
+    (f .place-leaf .ensures)
 
 -- places, each from a later one
 abbrev start : tie.After-assign-leaf-arg2 → tie.Start
@@ -55,7 +55,7 @@ returns-2 c =
     shift-done (a .m) (a .k) (a .d) (a .work .now) (f .put-bounds .last .0) (a .marks .now) (a .i) (a .t) _ (o .other-drift .result) (b .bounds-at .result) (n .shifted .result)
     (s .pre .1 .0 .below) own (o .other-drift .ensures) (b .bounds-at .ensures (a .marks .now)) (n .shifted .ensures) (f .put-bounds .ensures (a .marks .now)) in
     subst
-    (λ (x : State). LeafPassed (a .coords .now) (a .k) (a .d) (a .it) (a .i) x (stateIn (a .m) (a .k) (a .d) (g .assign-leaf .last .0) (g .assign-leaf .last .1 .0)) (g .assign-leaf .result .skipped) (g .assign-leaf .result .changed))
+    (λ (x : State). LeafPassed (a .coords .now) (a .k) (a .d) (a .it) (a .i) x (stateIn (a .m) (a .k) (a .d) (g .assign-leaf .last .0) (g .assign-leaf .last .1 .0)) (g .assign-leaf .result))
     e (g .assign-leaf .ensures)
 
 pub turn-leaf-spec : {M : Type 1} → statement M

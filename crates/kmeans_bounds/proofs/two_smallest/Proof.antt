@@ -25,8 +25,7 @@ loop-holds c = (search needs, refl)
 
 loop-again : tie.Need-loop-again Inv-loop μ-loop
 loop-again c =
-    let l = c .before .before .before in
-    (
+    let l = c .before .before .before in (
       search needs,
       slowest-turn (l .before .before .args .drift .now) (l .loop .c) (l .loop .s) (c .slower .result) (omega arith) (c .slower .ensures)
           ∙ l .loop .inv .1,
