@@ -15,6 +15,7 @@ use Rattle.kmeans_update.specs.Update.{updateOf}
 use Rattle.kmeans_lloyd.specs.Lloyd.{Run, endsAt, afterPass, afterUpdate, roundsFrom}
 use Rattle.kmeans_layout.specs.Areas.{Labelled}
 use Rattle.kmeans_lloyd.specs.Runs.{RoundBy, RoundDone, RunSoFar}
+use Rattle.kmeans_assign.specs.Turns.{passed}
 use Rattle.kmeans_assign.specs.declared.Passed.{Passed}
 use Rattle.kmeans_lloyd.specs.declared.Round.{Round}
 use Rattle.kmeans_assign.proofs.Passes.{labelled-of-pass}
@@ -30,7 +31,7 @@ module _ (weights coords : List Float) (m k d it : ℕ) (p : Pass) (x : State) (
         ended = sym t;
         counts = refl;
         last = λ e. refl;
-        state = λ e. absurd (true≢false (sym t ∙ e));
+        state = λ e. absurd (true≢false e);
         small = few;
       })
 
@@ -40,7 +41,7 @@ module _ (weights coords : List Float) (m k d it : ℕ) (p : Pass) (x : State) (
       rw (← is) (record {
         ended = sym t;
         counts = refl;
-        last = λ e. absurd (true≢false (sym e ∙ t));
+        last = λ e. absurd (true≢false (sym e));
         state = λ e. g;
         small = few;
       })
@@ -61,18 +62,18 @@ module _ (weights coords : List Float) (m k d : ℕ) where
     unfolding roundsFrom
     run-turn t =
         let e : endsAt it (passOf coords m k d it (r .state)) ≡ false = sym (done .ended) ∙ t in
-        rw (more, e, done .counts, done .state e)
+        rw (more, e, done .counts, done .state t)
 
     run-stop : q .ended ≡ true → counted r s q (r .doubled) ≡ roundsFrom weights coords m k d n it r
     unfolding roundsFrom
     run-stop t =
         let e : endsAt it (passOf coords m k d it (r .state)) ≡ true = sym (done .ended) ∙ t in
-        rw (more, e, done .counts, done .last e)
+        rw (more, e, done .counts, done .last t)
 
   pub labelled-of-round : (it : ℕ) (s s' : State) (q : Round) → RoundDone weights coords m k d it s s' q → q .ended ≡ false → 0 < k
       → Labelled m k s → Labelled m k s'
   labelled-of-round it s s' q done t h l =
-      rw (done .state (sym (done .ended) ∙ t))
+      rw (done .state t)
       (labelled-of-update m k (passOf coords m k d it s .state) weights coords d (labelled-of-pass m k s coords d it h l))
 
   -- no round is left
