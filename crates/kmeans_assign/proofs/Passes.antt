@@ -21,7 +21,8 @@ use Rattle.kmeans_bounds.specs.declared.Bounds.{Bounds}
 use Rattle.kmeans_bounds.specs.declared.Slowest.{Slowest}
 use Rattle.kmeans_nearest.proofs.Nearest.{best-below}
 use Rattle.kmeans_layout.specs.State.{State}
-use Rattle.kmeans_assign.specs.Pass.{Pass, boundsAt, putBounds, putLabel, shiftLeaf, shiftUpTo, shiftedFor, boundsBy, bestOf, putBest, moreMade, moreSaved, passUpTo, passOf}
+use Rattle.kmeans_assign.specs.Pass.{Pass, boundsAt, putBounds, putLabel, shiftLeaf, shiftUpTo, shiftedFor, boundsBy, bestOf, putBest}
+use Rattle.kmeans_assign.specs.Pass.{moreMade, moreSaved, passUpTo, passOf}
 use Rattle.kmeans_layout.specs.Areas.{stateIn, total, driftAt, servedAt, Area, Labelled}
 use Rattle.kmeans_assign.specs.Turns.{LeafPlaced, LeafPassed, tallied, passed}
 use Rattle.kmeans_assign.specs.declared.Passed.{Passed}
@@ -64,7 +65,8 @@ pub area-set : (w : List Float) (j m k d : ℕ) (x : Float) → Area (length w) 
 area-set w j m k d x a = rw (length-set w j x) a
 
 module _ (m k d : ℕ) (w : List Float) (u : List ℕ) (coords : List Float) (i : ℕ) (b : Best) where
-  pub best-is : b ≡ bestTo (take (i * d + d - i * d) (drop (i * d) coords)) (take (k * d) w) d (k - 1) → b ≡ bestOf coords k d (stateIn m k d w u) i
+  pub best-is : b ≡ bestTo (take (i * d + d - i * d) (drop (i * d) coords)) (take (k * d) w) d (k - 1)
+      → b ≡ bestOf coords k d (stateIn m k d w u) i
   best-is e = let f : i * d + d - i * d ≡ d = omega arith in e ∙ rw (f, centers-are m k d w u)
 
   pub leaf-below : 0 < k → b ≡ bestOf coords k d (stateIn m k d w u) i → b .index < k
@@ -111,9 +113,11 @@ module _ (coords : List Float) (k d it : ℕ) (s : State) where
       ap (passed x') f ∙ g ∙ rw (add-one, ← e)
 
   -- a pass over 4,096 leaves and 64 groups at most
-  pub pass-small : (n : ℕ) (x : State) (p : Passed) → passed x p ≡ passUpTo coords k d it s n → n ≤ 4096 → k ≤ 64 → AtMost ofRound (p .counts)
+  pub pass-small : (n : ℕ) (x : State) (p : Passed) → passed x p ≡ passUpTo coords k d it s n → n ≤ 4096 → k ≤ 64
+      → AtMost ofRound (p .counts)
   pass-small n x p e hn hk =
-      let sum : p .counts .made + p .counts .saved ≡ k * n = ap (λ (q : Pass). q .counts .made + q .counts .saved) e ∙ counts-of-pass coords k d it s n in
+      let sum : p .counts .made + p .counts .saved ≡ k * n =
+      ap (λ (q : Pass). q .counts .made + q .counts .saved) e ∙ counts-of-pass coords k d it s n in
       let most : k * n ≤ 64 * n = mul-le-mul-right n hk in
       record { made = omega (arith, sum, most); saved = omega (arith, sum, most) }
 
@@ -129,7 +133,8 @@ either-labelled : (m k : ℕ) (b : Bool) (x y : Pass) → Labelled m k (x .state
 either-labelled m k true x y f g = f
 either-labelled m k false x y f g = g
 
-pub labelled-after-pass : (coords : List Float) (m k d it : ℕ) (s : State) → Labelled m k s → 0 < k → (n : ℕ) → Labelled m k (passUpTo coords k d it s n .state)
+pub labelled-after-pass : (coords : List Float) (m k d it : ℕ) (s : State) → Labelled m k s → 0 < k → (n : ℕ)
+    → Labelled m k (passUpTo coords k d it s n .state)
 unfolding passUpTo putBounds putLabel
 labelled-after-pass coords m k d it s l h zero = l
 labelled-after-pass coords m k d it s l h (suc n) =

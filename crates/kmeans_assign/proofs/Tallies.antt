@@ -10,12 +10,14 @@ use Rattle.kmeans_bounds.specs.Shifts.{skips}
 use Rattle.kmeans_layout.specs.State.{State}
 use Rattle.kmeans_assign.specs.Pass.{Pass, boundsAt, passUpTo}
 
-either-pass : (b : Bool) (x y : Pass) (n : ℕ) → x .counts .made + x .counts .saved ≡ n → y .counts .made + y .counts .saved ≡ n → cond b x y .counts .made + cond b x y .counts .saved ≡ n
+either-pass : (b : Bool) (x y : Pass) (n : ℕ) → x .counts .made + x .counts .saved ≡ n → y .counts .made + y .counts .saved ≡ n
+    → cond b x y .counts .made + cond b x y .counts .saved ≡ n
 either-pass true x y n e f = e
 either-pass false x y n e f = f
 
 -- products made and saved by a pass over the first n leaves
-pub counts-of-pass : (coords : List Float) (k d it : ℕ) (s : State) (n : ℕ) → let c = passUpTo coords k d it s n .counts in c .made + c .saved ≡ k * n
+pub counts-of-pass : (coords : List Float) (k d it : ℕ) (s : State) (n : ℕ)
+    → let c = passUpTo coords k d it s n .counts in c .made + c .saved ≡ k * n
 unfolding passUpTo
 counts-of-pass coords k d it s zero = omega arith
 counts-of-pass coords k d it s (suc n) =

@@ -1,5 +1,5 @@
--- What a leaf's turn in a pass does and how it is counted, as the functions of the pass promise it. No definition of document 01
--- stands on this file.
+-- What a leaf's turn in a pass does and how it is counted, as the functions of the pass promise it. No definition of
+-- document 01 stands on this file.
 use mathlib.Core.Path.{_≡_}
 use mathlib.Core.List.{List}
 use mathlib.Core.Bool.{Bool, true, false, not, _&&_, _||_, cond}

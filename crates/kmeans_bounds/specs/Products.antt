@@ -1,5 +1,5 @@
--- What `may_skip` answers and promises: a test of the cosines and of the squares of the sines, without roots. No definition of
--- document 01 stands on this file.
+-- What `may_skip` answers and promises: a test of the cosines and of the squares of the sines, without roots. No
+-- definition of document 01 stands on this file.
 use mathlib.Core.Path.{_≡_}
 use mathlib.Core.Bool.{Bool, true, false, not, _&&_, _||_, cond}
 use Prim.Native.Nat.{ℕ}

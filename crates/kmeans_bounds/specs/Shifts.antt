@@ -1,5 +1,5 @@
--- Document 01, 'Spherical k-means': the bounds of a leaf, their shifts (Schubert, Lang and Feher), the two smallest drifts and
--- the skip. Definitions only.
+-- Document 01, 'Spherical k-means': the bounds of a leaf, their shifts (Schubert, Lang and Feher), the two smallest
+-- drifts and the skip. Definitions only.
 use mathlib.Core.List.{List, [], _∷_}
 use mathlib.Core.Bool.{Bool, false, _&&_, cond}
 use Prim.Native.Nat.{ℕ, suc}
@@ -17,7 +17,8 @@ cosine x = clampOf x (neg (number 1)) (number 1)
 -- max((1 − a·a)·(1 − p·p), 0), and its root
 abbrev pub squaresOf : Float → Float → Float
 squaresOf a p =
-    maxOf (mul binary64 (sub binary64 (number 1) (mul binary64 a a)) (sub binary64 (number 1) (mul binary64 p p))) plusZero
+    maxOf (mul binary64 (sub binary64 (number 1) (mul binary64 a a)) (sub binary64 (number 1) (mul binary64 p p)))
+    plusZero
 
 abbrev pub sinesOf : Float → Float → Float
 sinesOf a p = rootOf (squaresOf a p)
@@ -37,8 +38,8 @@ shiftLower l p = lowerBy (cosine l) (cosine p)
 unfoldable pub shiftUpper : Float → Float → Float
 shiftUpper u p = upperBy (cosine u) (cosine p)
 
--- The two smallest drifts: the place of the smallest, it, and the next, from +infinity; of equals the first is the smallest.
--- With drift p of centre c:
+-- The two smallest drifts: the place of the smallest, it, and the next, from +infinity; of equals the first is the
+-- smallest. With drift p of centre c:
 abbrev pub slowerOf : Slowest → ℕ → Float → Slowest
 slowerOf s c p =
     cond (lt p (s .least)) (record { at = c; least = p; next = s .least })
@@ -56,11 +57,15 @@ slowestOf drift = slowestFrom (record { at = 0; least = inf false; next = inf fa
 abbrev pub otherThan : Slowest → ℕ → Float
 otherThan s label = cond (eqb (s .at) label) (s .next) (s .least)
 
--- A leaf's bounds after its own centre turned by `own` and the others by `other` at most. With one group there is no other, and
--- the upper bound stays.
+-- A leaf's bounds after its own centre turned by `own` and the others by `other` at most. With one group there is no
+-- other, and the upper bound stays.
 abbrev pub shiftedBounds : Bool → Float → Float → Bounds → Bounds
 shiftedBounds several own other b =
-    record { scale = b .scale; low = shiftLower (b .low) own; high = cond several (shiftUpper (b .high) other) (b .high) }
+    record {
+      scale = b .scale;
+      low = shiftLower (b .low) own;
+      high = cond several (shiftUpper (b .high) other) (b .high);
+    }
 
 -- 1e-12
 abbrev pub slack : Float

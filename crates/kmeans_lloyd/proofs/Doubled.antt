@@ -58,7 +58,8 @@ module _ (weights coords : List Float) (m k d : ℕ) (hw : All (Within 109951162
       (record { centers = seeds-within weights coords m d hd hc generator k; none = refl })
 
   picked-few : (generator it c : ℕ) → c < k → length (pickedBefore weights coords m k d generator it c) ≤ c
-  picked-few generator it c h = round-clean it (runOf weights coords m k d it generator .state) (run-kept it generator .centers) c (omega arith) .few
+  picked-few generator it c h =
+      round-clean it (runOf weights coords m k d it generator .state) (run-kept it generator .centers) c (omega arith) .few
 
   none-doubled : (rounds generator : ℕ) → NoneDoubled weights coords m k d rounds generator
   none-doubled rounds generator =

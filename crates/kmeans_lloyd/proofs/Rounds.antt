@@ -1,5 +1,5 @@
--- The rounds over plain lists: what the calls of a round ensure is its round, a round that is made is one round of the definition's run, and labels stay below k.
--- By the way each test went, and by recursion on the rounds. Assumes nothing.
+-- The rounds over plain lists: what the calls of a round ensure is its round, a round that is made is one round of the
+-- definition's run, and labels stay below k. By the way each test went, and by recursion on the rounds. Assumes nothing.
 use mathlib.Core.Path.{_≡_, refl, ap, sym, _∙_}
 use mathlib.Core.List.{List}
 use mathlib.Core.Bool.{Bool, true, false, cond, true≢false}
@@ -55,7 +55,8 @@ module _ (weights coords : List Float) (m k d : ℕ) where
   abbrev anew : ℕ → State → ℕ
   anew it s = updateOf weights coords m k d (passOf coords m k d it s .state) .doubled
 
-  module _ (n n' it : ℕ) (r : Run) (s : State) (q : Round) (more : n ≡ suc n') (done : RoundDone weights coords m k d it (r .state) s q) where
+  module _ (n n' it : ℕ) (r : Run) (s : State) (q : Round) (more : n ≡ suc n')
+      (done : RoundDone weights coords m k d it (r .state) s q) where
     run-turn : q .ended ≡ false
         → roundsFrom weights coords m k d n' (it + 1) (counted r s q (r .doubled + anew it (r .state)))
         ≡ roundsFrom weights coords m k d n it r
@@ -85,7 +86,8 @@ module _ (weights coords : List Float) (m k d : ℕ) where
   either-labelled true x y f g = f
   either-labelled false x y f g = g
 
-  pub labelled-after-rounds : 0 < k → (n it : ℕ) (r : Run) → Labelled m k (r .state) → Labelled m k (roundsFrom weights coords m k d n it r .state)
+  pub labelled-after-rounds : 0 < k → (n it : ℕ) (r : Run) → Labelled m k (r .state)
+      → Labelled m k (roundsFrom weights coords m k d n it r .state)
   unfolding roundsFrom
   labelled-after-rounds h zero it r l = l
   labelled-after-rounds h (suc n) it r l =

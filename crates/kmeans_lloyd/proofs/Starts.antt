@@ -1,5 +1,5 @@
--- Laws of the start, over plain lists: the scales written place by place, singly and by fours, and the state before the first round from its regions filled one
--- after the other. Assumes nothing.
+-- Laws of the start, over plain lists: the scales written place by place, singly and by fours, and the state before the first
+-- round from its regions filled one after the other. Assumes nothing.
 use mathlib.Core.Path.{_≡_, refl, ap, _∙_}
 use mathlib.Core.List.{List, [], _∷_, _++_}
 use mathlib.Core.Bool.{true, false}
@@ -20,7 +20,8 @@ use Rattle.kmeans_sums.specs.Sums.{normsUpTo}
 use Rattle.kmeans_lloyd.specs.Lloyd.{startedFrom}
 use Rattle.kmeans_layout.specs.Areas.{stateIn, total, scaleAt, lowAt, highAt, servedAt, driftAt}
 use Rattle.kmeans_lloyd.specs.Runs.{putScale, fourNorms}
-use Rattle.kmeans_layout.proofs.Regions.{withScale, withLow, withHigh, withServed, withDrift, withLabels, put-low-all, put-high-all, put-served-all, put-drift-all, put-labels-all, set-scale}
+use Rattle.kmeans_layout.proofs.Regions.{withScale, withLow, withHigh, withServed, withDrift, withLabels, put-low-all, put-high-all}
+use Rattle.kmeans_layout.proofs.Regions.{put-served-all, put-drift-all, put-labels-all, set-scale}
 use Rattle.kmeans_sums.proofs.Sums.{norms-length}
 
 -- the scales of the state, of which the first i are done: one more
@@ -29,7 +30,8 @@ module _ (m k d : ℕ) (w : List Float) (u : List ℕ) (s : State) (p : List Flo
       → stateIn m k d (set w (scaleAt m k d + i) v) u ≡ putScale ((p ++ (v ∷ [])) ++ drop (i + 1) (s .scale)) s
   unfolding putScale
   scale-turn g f =
-      set-scale m k d w u i v h ∙ ap (λ (t : State). withScale (set (t .scale) i v) t) f ∙ ap (λ (x : List Float). putScale x s) (front-turn nan p (s .scale) i e v (omega arith))
+      set-scale m k d w u i v h ∙ ap (λ (t : State). withScale (set (t .scale) i v) t) f
+      ∙ ap (λ (x : List Float). putScale x s) (front-turn nan p (s .scale) i e v (omega arith))
 
 abbrev pub normed : List Float → ℕ → ℕ → State → State
 normed coords d i s = putScale (normsUpTo coords d i ++ drop i (s .scale)) s
@@ -49,7 +51,8 @@ module _ (m k d : ℕ) (coords : List Float) (u : List ℕ) (s : State) (ls : le
   unfolding normsUpTo
   norms-next w i at v h ea g f =
       let more : normsUpTo coords d i ++ (v ∷ []) ≡ normsUpTo coords d (i + 1) = rw (add-one, g) in
-      rw ea (scale-turn m k d w u s (normsUpTo coords d i) i v h (norms-length coords d i) ls f) ∙ ap (λ (x : List Float). putScale (x ++ drop (i + 1) (s .scale)) s) more
+      rw ea (scale-turn m k d w u s (normsUpTo coords d i) i v h (norms-length coords d i) ls f)
+      ∙ ap (λ (x : List Float). putScale (x ++ drop (i + 1) (s .scale)) s) more
 
   -- a leaf, whose row is as the code cuts it, and four leaves
   pub norms-turn : (w : List Float) (scale i : ℕ) (v : Float) → scale ≡ scaleAt m k d → i < m
@@ -70,12 +73,19 @@ module _ (m k d : ℕ) (coords : List Float) (u : List ℕ) (s : State) (ls : le
       let w₂ = set w₁ (at + 1) (f .b) in
       let w₃ = set w₂ (at + 2) (f .c) in
       let t₁ = norms-next w i at (f .a) (omega arith) (omega (arith, es)) (ap (λ (v : Four). v .a) e) g in
-      let t₂ = norms-next w₁ (i + 1) (at + 1) (f .b) (omega arith) (omega (arith, es)) (ap (λ (v : Four). v .b) e) t₁ ∙ ap (λ (n : ℕ). normed coords d n s) p₂ in
-      let t₃ = norms-next w₂ (i + 2) (at + 2) (f .c) (omega arith) (omega (arith, es)) (ap (λ (v : Four). v .c) e) t₂ ∙ ap (λ (n : ℕ). normed coords d n s) p₃ in
-      norms-next w₃ (i + 3) (at + 3) (f .e) (omega arith) (omega (arith, es)) (ap (λ (v : Four). v .e) e) t₃ ∙ ap (λ (n : ℕ). normed coords d n s) p₄
+      let t₂ =
+      norms-next w₁ (i + 1) (at + 1) (f .b) (omega arith) (omega (arith, es)) (ap (λ (v : Four). v .b) e) t₁
+      ∙ ap (λ (n : ℕ). normed coords d n s) p₂ in
+      let t₃ =
+      norms-next w₂ (i + 2) (at + 2) (f .c) (omega arith) (omega (arith, es)) (ap (λ (v : Four). v .c) e) t₂
+      ∙ ap (λ (n : ℕ). normed coords d n s) p₃ in
+      norms-next w₃ (i + 3) (at + 3) (f .e) (omega arith) (omega (arith, es)) (ap (λ (v : Four). v .e) e) t₃
+      ∙ ap (λ (n : ℕ). normed coords d n s) p₄
 
-  pub norms-end : (w : List Float) (i : ℕ) → i ≡ m → stateIn m k d w u ≡ normed coords d i s → stateIn m k d w u ≡ putScale (normsUpTo coords d m) s
-  norms-end w i e f = f ∙ ap (λ (n : ℕ). normed coords d n s) e ∙ ap (λ (x : List Float). putScale x s) (front-end (normsUpTo coords d m) (s .scale) m ls)
+  pub norms-end : (w : List Float) (i : ℕ) → i ≡ m → stateIn m k d w u ≡ normed coords d i s
+      → stateIn m k d w u ≡ putScale (normsUpTo coords d m) s
+  norms-end w i e f =
+      f ∙ ap (λ (n : ℕ). normed coords d n s) e ∙ ap (λ (x : List Float). putScale x s) (front-end (normsUpTo coords d m) (s .scale) m ls)
 
 -- the scales are the norms, then each region from its place on is filled; the lengths stay
 pub start-done : (m k d : ℕ) (w w₁ w₂ w₃ w₄ w₅ coords : List Float) (u u' v : List ℕ) (at₂ at₃ at₄ at₅ : ℕ)
@@ -101,7 +111,9 @@ start-done m k d w w₁ w₂ w₃ w₄ w₅ coords u u' v at₂ at₃ at₄ at�
     let s₄ : stateIn m k d w₄ u' ≡ withServed low (withHigh high (withLow low (putScale n s))) =
     rw (e₄, a₄) (put-served-all m k d w₃ u' low (length-replicate m (inf true)) (omega arith)) ∙ ap (λ (x : State). withServed low x) s₃ in
     let s₅ : stateIn m k d w₅ u' ≡ withDrift drift (withServed low (withHigh high (withLow low (putScale n s)))) =
-    rw (e₅, a₅) (put-drift-all m k d w₄ u' drift (length-replicate k (number 1)) (omega arith)) ∙ ap (λ (x : State). withDrift drift x) s₄ in
+    rw (e₅, a₅) (put-drift-all m k d w₄ u' drift (length-replicate k (number 1)) (omega arith))
+    ∙ ap (λ (x : State). withDrift drift x) s₄ in
     let v' : v ≡ replicate m 0 = rw ev (ap (λ (j : ℕ). replicate j 0) (length-take-le m u (omega arith))) in
-    let su : s ≡ withLabels (replicate m 0) (stateIn m k d w u) = rw (eu, v') (put-labels-all m k d w u (replicate m 0) (length-replicate m 0) tu) in
+    let su : s ≡ withLabels (replicate m 0) (stateIn m k d w u) =
+    rw (eu, v') (put-labels-all m k d w u (replicate m 0) (length-replicate m 0) tu) in
     s₅ ∙ ap (λ (x : State). withDrift drift (withServed low (withHigh high (withLow low (putScale n x))))) su

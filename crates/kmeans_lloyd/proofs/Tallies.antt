@@ -1,5 +1,5 @@
--- What the definition of the rounds counts: a run makes or saves k · m products for each round begun, and begins no more rounds than it may. By recursion on the
--- rounds. Assumes nothing.
+-- What the definition of the rounds counts: a run makes or saves k · m products for each round begun, and begins no more rounds
+-- than it may. By recursion on the rounds. Assumes nothing.
 use mathlib.Core.Path.{_≡_}
 use mathlib.Core.List.{List}
 use mathlib.Core.Bool.{Bool, true, false, cond}
@@ -19,7 +19,8 @@ round-counts km a b x y n e f =
     let g : km * (n + 1) ≡ km * n + km = rw add-one (mul-suc km n) in
     omega (arith, e, f, g)
 
-either-even : (b : Bool) (km : ℕ) (x y : Run) → x .counts .made + x .counts .saved ≡ km * x .begun → y .counts .made + y .counts .saved ≡ km * y .begun
+either-even : (b : Bool) (km : ℕ) (x y : Run) → x .counts .made + x .counts .saved ≡ km * x .begun
+    → y .counts .made + y .counts .saved ≡ km * y .begun
     → cond b x y .counts .made + cond b x y .counts .saved ≡ km * cond b x y .begun
 either-even true km x y e f = e
 either-even false km x y e f = f
@@ -31,7 +32,8 @@ counts-of-rounds weights coords m k d zero it r e = e
 counts-of-rounds weights coords m k d (suc n) it r e =
     let p = passOf coords m k d it (r .state) in
     let f : r .counts .made + p .counts .made + (r .counts .saved + p .counts .saved) ≡ k * m * (r .begun + 1) =
-    round-counts (k * m) (r .counts .made) (r .counts .saved) (p .counts .made) (p .counts .saved) (r .begun) e (counts-of-pass coords k d it (shiftedFor m k it (r .state)) m) in
+    round-counts (k * m) (r .counts .made) (r .counts .saved) (p .counts .made) (p .counts .saved) (r .begun) e
+    (counts-of-pass coords k d it (shiftedFor m k it (r .state)) m) in
     either-even (endsAt it p) (k * m) (afterPass r p) _ f
     (counts-of-rounds weights coords m k d n (it + 1) (afterUpdate (afterPass r p) (updateOf weights coords m k d (p .state))) f)
 
@@ -46,5 +48,7 @@ begun-most weights coords m k d zero it r = omega arith
 begun-most weights coords m k d (suc n) it r =
     let p = passOf coords m k d it (r .state) in
     let next = afterUpdate (afterPass r p) (updateOf weights coords m k d (p .state)) in
-    let most : roundsFrom weights coords m k d n (it + 1) next .begun ≤ r .begun + 1 + n = begun-most weights coords m k d n (it + 1) next in
-    either-begun (endsAt it p) (afterPass r p) (roundsFrom weights coords m k d n (it + 1) next) (r .begun + suc n) (omega arith) (omega (arith, most))
+    let most : roundsFrom weights coords m k d n (it + 1) next .begun ≤ r .begun + 1 + n =
+    begun-most weights coords m k d n (it + 1) next in
+    either-begun (endsAt it p) (afterPass r p) (roundsFrom weights coords m k d n (it + 1) next) (r .begun + suc n) (omega arith)
+    (omega (arith, most))

@@ -1,5 +1,5 @@
--- Document 01, 'Spherical k-means': `spherical_lloyd`, round by round, with its counts, what it doubled and the rounds begun.
--- Definitions only.
+-- Document 01, 'Spherical k-means': `spherical_lloyd`, round by round, with its counts, what it doubled and the
+-- rounds begun. Definitions only.
 use mathlib.Core.List.{List}
 use mathlib.Core.Bool.{Bool, true, false, not, _&&_, cond}
 use Prim.Native.Nat.{ℕ, zero, suc, _+_}

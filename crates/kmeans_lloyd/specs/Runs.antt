@@ -1,5 +1,5 @@
--- What the functions of the start, of a round and of a whole run ask and promise. No definition of document 01 stands on this
--- file.
+-- What the functions of the start, of a round and of a whole run ask and promise. No definition of document 01 stands
+-- on this file.
 use mathlib.Core.Path.{_≡_}
 use mathlib.Core.List.{List}
 use mathlib.Core.Bool.{true, false}

@@ -1,5 +1,5 @@
-// One run of spherical k-means in two lent work areas (vmf.rs; document 01, 'Spherical k-means'): seeding, rounds of pass and
-// update, and cohesion. m leaves of d coordinates, k groups.
+// One run of spherical k-means in two lent work areas (vmf.rs; document 01, 'Spherical k-means'): seeding, rounds of
+// pass and update, and cohesion. m leaves of d coordinates, k groups.
 ghost use mathlib.Core.Path.{_≡_};
 ghost use mathlib.Core.List.{List};
 ghost use Prim.Native.Nat.{ℕ, _+_, _*_, _<_, _≤_};

@@ -1,4 +1,5 @@
--- `kmeans_assign::place_leaf` meets its contract: the best centre is one of the k, and what the calls ensure is the definition's `putBest`. Assumes nothing.
+-- `kmeans_assign::place_leaf` meets its contract: the best centre is one of the k, and what the calls ensure is the definition's
+-- `putBest`. Assumes nothing.
 use mathlib.Core.Path.{_≡_, sym}
 use Prim.Native.Nat.{_*_}
 use native.Mathlib.Omega.{arith}
@@ -30,7 +31,9 @@ best-at c =
     best-is (a .m) (a .k) (a .d) (a .work .now) (a .marks .now) (a .coords .now) (a .i) (c .best-of .result) (c .best-of .ensures)
 
 slice-aggregate-best-of : tie.Need-slice-aggregate-best-of
-slice-aggregate-best-of c = let s = c .before .before .before .before .before .before in sym (length-take-le (s .args .k * s .args .d) (s .args .work .now) (omega (arith, s .pre .0 .work-long)))
+slice-aggregate-best-of c =
+    let s = c .before .before .before .before .before .before in
+    sym (length-take-le (s .args .k * s .args .d) (s .args .work .now) (omega (arith, s .pre .0 .work-long)))
 
 best-of-requires : tie.Need-best-of-requires
 best-of-requires c κs =
@@ -53,7 +56,9 @@ cast-label c =
     let b = best-call (c .before .before .before .before) in
     let s = start-of b in
     let a = s .args in
-    let below = leaf-below (a .m) (a .k) (a .d) (a .work .now) (a .marks .now) (a .coords .now) (a .i) (b .best-of .result) (s .pre .0 .sizes .k-some) (best-at b) in
+    let below =
+    leaf-below (a .m) (a .k) (a .d) (a .work .now) (a .marks .now) (a .coords .now) (a .i) (b .best-of .result) (s .pre .0 .sizes .k-some)
+    (best-at b) in
     omega (arith, below, s .pre .0 .sizes .k-small)
 
 slice-read-changed : tie.Need-slice-read-changed

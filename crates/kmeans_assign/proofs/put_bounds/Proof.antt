@@ -16,7 +16,8 @@ returns : tie.Need-returns
 returns c u =
     let s = c .before .before .before in
     let a = s .args in
-    put-bounds-done (a .m) (a .k) (a .d) (a .work .now) u (a .i) (s .pre .1 .below) _ _ (a .b) (c .before .low-at .ensures) (c .high-at .ensures)
+    put-bounds-done (a .m) (a .k) (a .d) (a .work .now) u (a .i) (s .pre .1 .below) _ _ (a .b) (c .before .low-at .ensures)
+    (c .high-at .ensures)
 
 pub put-bounds-spec : {M : Type 1} → statement M
 put-bounds-spec =

@@ -1,11 +1,12 @@
--- `kmeans_assign::shift_and_assign` meets its contract. The invariant: state and answer are the definition's pass over the leaves before i, of the state with the
--- bounds of just those shifted. The measure is what is left of the leaves. Assumes nothing.
+-- `kmeans_assign::shift_and_assign` meets its contract. The invariant: state and answer are the definition's pass over the leaves
+-- before i, of the state with the bounds of just those shifted. The measure is what is left of the leaves. Assumes nothing.
 use mathlib.Core.Path.{_≡_, refl, ap, _∙_}
 use Prim.Native.Nat.{ℕ, _≤_, _<_, _-_}
 use native.Mathlib.Omega.{arith}
 use lib.ListN.{length}
 use Rattle.kmeans_bounds.specs.Shifts.{slowestOf}
 use Rattle.kmeans_bounds.specs.declared.Slowest.{Slowest}
+use Rattle.counts.specs.Counts.{AtMost, ofRound}
 use Rattle.kmeans_assign.specs.Pass.{shiftUpTo, passUpTo}
 use Rattle.kmeans_assign.specs.Turns.{passed}
 use Rattle.kmeans_layout.specs.Areas.{Sized, stateIn}
@@ -20,7 +21,8 @@ use Rattle.kmeans_assign.proofs.shift_and_assign.Tie as tie
 abbrev Inv-loop : tie.InvT-loop
 Inv-loop work₀ marks₀ coords it m k d drift t p₀ i₀ work marks p i =
     (i ≤ m) × Sized (length work) (length marks) (length coords) m k d
-    × (passed (stateIn m k d work marks) p ≡ passUpTo coords k d it (shiftUpTo k t (stateIn m k d work₀ marks₀) i) i) × (length work ≡ length work₀) × (length marks ≡ length marks₀)
+    × (passed (stateIn m k d work marks) p ≡ passUpTo coords k d it (shiftUpTo k t (stateIn m k d work₀ marks₀) i) i)
+    × (length work ≡ length work₀) × (length marks ≡ length marks₀)
 
 abbrev μ-loop : tie.MeasureT-loop
 μ-loop work₀ marks₀ coords it m k d drift t p₀ i₀ work marks p i = m - i
@@ -45,17 +47,24 @@ turn-leaf-requires c κs =
     let s = start (c .before .before .before) in
     let a = s .args in
     let h : l .i < a .m = c .before .before .loop-test .taken in
-    let labelled = fused-labelled (a .coords .now) (a .k) (a .d) (a .it) _ (stateIn (a .m) (a .k) (a .d) (a .work .now) (a .marks .now)) (a .m) (s .pre .1) (s .pre .0 .sizes .k-some) (l .i)
+    let labelled =
+    fused-labelled (a .coords .now) (a .k) (a .d) (a .it) _ (stateIn (a .m) (a .k) (a .d) (a .work .now) (a .marks .now)) (a .m) (s .pre .1)
+    (s .pre .0 .sizes .k-some) (l .i)
     (stateIn (a .m) (a .k) (a .d) (l .work) (l .marks)) (l .p) (l .inv .2) in
     (l .inv .1, (leaf-of (l .i) (a .m) (a .d) h, rw (get-labels (a .m) (a .k) (a .d) (l .work) (l .marks) (l .i) 0 h) (labelled (l .i) h)))
+
+-- what is counted so far is small
+small-at : (p : tie.At-loop Inv-loop μ-loop) → AtMost ofRound (p .loop .p .counts)
+small-at p =
+    let l = p .loop in
+    let a = start p .args in
+    pass-small (a .coords .now) (a .k) (a .d) (a .it) _ (l .i) _ (l .p) (l .inv .2) (omega (arith, l .inv .0, l .inv .1 .sizes .m-small))
+    (l .inv .1 .sizes .k-small)
 
 tally-requires : tie.Need-tally-requires Inv-loop μ-loop
 tally-requires c κs =
     let loop = loop-at c in
-    let l = loop .loop in
-    let a = start loop .args in
-    let small = pass-small (a .coords .now) (a .k) (a .d) (a .it) _ (l .i) _ (l .p) (l .inv .2) (omega (arith, l .inv .0, l .inv .1 .sizes .m-small)) (l .inv .1 .sizes .k-small) in
-    (small, l .inv .1 .sizes .k-small)
+    (small-at loop, loop .loop .inv .1 .sizes .k-small)
 
 loop-again : tie.Need-loop-again Inv-loop μ-loop
 loop-again c =
@@ -66,7 +75,8 @@ loop-again c =
     let eu = f .turn-leaf .kept .1 .0 in (
       omega (arith, f .before .before .before .loop-test .taken),
       sized-of _ _ _ _ (length (a .coords .now)) (a .m) (a .k) (a .d) ew eu (l .inv .1),
-      fused-turn (a .coords .now) (a .k) (a .d) (a .it) _ _ (l .i) (stateIn (a .m) (a .k) (a .d) (l .work) (l .marks)) _ (l .p) (c .tally .result) (f .turn-leaf .result)
+      fused-turn (a .coords .now) (a .k) (a .d) (a .it) _ _ (l .i) (stateIn (a .m) (a .k) (a .d) (l .work) (l .marks)) _ (l .p)
+          (c .tally .result) (f .turn-leaf .result)
           (l .inv .2) (f .turn-leaf .ensures) (c .tally .ensures),
       ew ∙ l .inv .3,
       eu ∙ l .inv .4,
@@ -92,7 +102,7 @@ returns c =
     (r .drift-at .ensures) (f .two-smallest .ensures) in (
       l .inv .2 ∙ ap (λ (n : ℕ). passUpTo (a .coords .now) (a .k) (a .d) (a .it) (shiftUpTo (a .k) (f .two-smallest .result) s₀ n) n) e
           ∙ ap (λ (x : Slowest). passUpTo (a .coords .now) (a .k) (a .d) (a .it) (shiftUpTo (a .k) x s₀ (a .m)) (a .m)) t,
-      pass-small (a .coords .now) (a .k) (a .d) (a .it) _ (l .i) _ (l .p) (l .inv .2) (omega (arith, l .inv .0, l .inv .1 .sizes .m-small)) (l .inv .1 .sizes .k-small),
+      small-at (c .before),
     )
 
 pub shift-and-assign-spec : {M : Type 1} → statement M

@@ -1,4 +1,5 @@
--- `kmeans_bounds::is_close` meets its contract: the definition's tests, by what its calls ensure, as a law over plain values. Assumes nothing.
+-- `kmeans_bounds::is_close` meets its contract: the definition's tests, by what its calls ensure, as a law over plain values.
+-- Assumes nothing.
 use mathlib.Core.Path.{_≡_, ap}
 use mathlib.Core.Bool.{Bool, _&&_}
 use borrow.Author.Needs.{needs}

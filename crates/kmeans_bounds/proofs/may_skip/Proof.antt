@@ -1,5 +1,6 @@
--- `kmeans_bounds::may_skip` meets its contract: each answer is a case of the definition's tests, with each cosine by what its clamp ensures,
--- as a law over plain values; and where the tests answer false no pass skips the leaf (`no-skip`). Assumes nothing.
+-- `kmeans_bounds::may_skip` meets its contract: each answer is a case of the definition's tests, with each cosine by what its
+-- clamp ensures, as a law over plain values; and where the tests answer false no pass skips the leaf (`no-skip`). Assumes
+-- nothing.
 use mathlib.Core.Path.{_≡_, sym, _∙_}
 use mathlib.Core.Bool.{Bool, true, false, not, _||_}
 use borrow.Author.Needs.{needs}

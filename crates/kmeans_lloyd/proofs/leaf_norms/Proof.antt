@@ -1,5 +1,5 @@
--- `kmeans_lloyd::leaf_norms` meets its contract. The invariant of both loops: where the scales of the leaves before the loop's first are their norms, those of the leaves before i are,
--- the others as they were. Assumes nothing.
+-- `kmeans_lloyd::leaf_norms` meets its contract. The invariant of both loops: where the scales of the leaves before the loop's
+-- first are their norms, those of the leaves before i are, the others as they were. Assumes nothing.
 use mathlib.Core.Path.{_≡_, refl}
 use Prim.Native.Nat.{_+_, _*_, _≤_, _-_}
 use native.Mathlib.Nat.{mul-le-mul-right}
@@ -62,7 +62,8 @@ loop-again c =
     let h : l .i + 4 ≤ a .m = omega (arith, c .before .loop-test .taken, l .inv .0) in (
       h,
       simp length-set (l .inv .1),
-      λ u s g e. norms-four (a .m) (a .k) (a .d) (a .coords .now) u s g (l .work) _ (l .i) (c .four-norms .result) (p .before .scale-at .ensures)
+      λ u s g e. norms-four (a .m) (a .k) (a .d) (a .coords .now) u s g (l .work) _ (l .i) (c .four-norms .result)
+          (p .before .scale-at .ensures)
           h (c .four-norms .ensures) (l .inv .2 u s g e),
     )
 

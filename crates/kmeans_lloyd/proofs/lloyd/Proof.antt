@@ -1,6 +1,6 @@
--- `kmeans_lloyd::lloyd` meets its contract. The loop's invariant: the definition's run from the state and counts as they are, with the rounds that
--- are left, ends as the whole run does (`GoesOn`); labels are below k, and the counts are small. The measure is what is left of the rounds.
--- Assumes nothing.
+-- `kmeans_lloyd::lloyd` meets its contract. The loop's invariant: the definition's run from the state and counts as they are,
+-- with the rounds that are left, ends as the whole run does (`GoesOn`); labels are below k, and the counts are small. The measure
+-- is what is left of the rounds. Assumes nothing.
 use mathlib.Core.Path.{_≡_, refl, _∙_}
 use Prim.Native.Nat.{_≤_, _+_, _-_}
 use native.Mathlib.Nat.{sub-zero}

@@ -1,4 +1,5 @@
--- `kmeans_lloyd::run` meets its contract: seeds, start, rounds and cohesion, each by what it ensures, over arrays whose lengths stay. Assumes nothing.
+-- `kmeans_lloyd::run` meets its contract: seeds, start, rounds and cohesion, each by what it ensures, over arrays whose lengths
+-- stay. Assumes nothing.
 use mathlib.Core.Path.{_∙_}
 use lib.ListN.{length}
 use borrow.Author.Needs.{needs}
@@ -13,8 +14,13 @@ lloyd-requires c κs =
     let f = g .before .before .before .before .before in
     let s = f .before .before .before .before .before .before in
     let a = s .args in (
-      sized-of _ _ _ _ (length (a .coords .now)) (a .m) (a .k) (a .d) (g .start .kept .0 ∙ f .seed .kept .0) (g .start .kept .1 .0) (s .pre .sized),
-      (s .pre .weights-long, s .pre .rounds-small, started-labelled (a .coords .now) (a .m) (a .k) (a .d) _ _ (s .pre .sized .sizes .k-some) (g .start .ensures)),
+      sized-of _ _ _ _ (length (a .coords .now)) (a .m) (a .k) (a .d) (g .start .kept .0 ∙ f .seed .kept .0) (g .start .kept .1 .0)
+          (s .pre .sized),
+      (
+        s .pre .weights-long,
+        s .pre .rounds-small,
+        started-labelled (a .coords .now) (a .m) (a .k) (a .d) _ _ (s .pre .sized .sizes .k-some) (g .start .ensures),
+      ),
     )
 
 cohesion-of-requires : tie.Need-cohesion-of-requires
@@ -24,10 +30,12 @@ cohesion-of-requires c κs =
     let f = g .before .before .before .before .before in
     let s = f .before .before .before .before .before .before in
     let a = s .args in (
-      sized-of _ _ _ _ (length (a .coords .now)) (a .m) (a .k) (a .d) (l .lloyd .kept .0 ∙ g .start .kept .0 ∙ f .seed .kept .0) (l .lloyd .kept .1 .0 ∙ g .start .kept .1 .0) (s .pre .sized),
+      sized-of _ _ _ _ (length (a .coords .now)) (a .m) (a .k) (a .d) (l .lloyd .kept .0 ∙ g .start .kept .0 ∙ f .seed .kept .0)
+          (l .lloyd .kept .1 .0 ∙ g .start .kept .1 .0) (s .pre .sized),
       (
         s .pre .weights-long,
-        rounds-labelled (a .weights .now) (a .coords .now) (a .m) (a .k) (a .d) (a .rounds) _ _ _ _ (s .pre .sized .sizes .k-some) (g .start .ensures) (l .lloyd .ensures),
+        rounds-labelled (a .weights .now) (a .coords .now) (a .m) (a .k) (a .d) (a .rounds) _ _ _ _ (s .pre .sized .sizes .k-some)
+            (g .start .ensures) (l .lloyd .ensures),
       ),
     )
 
@@ -39,10 +47,13 @@ returns c =
     let f = g .before .before .before .before .before in
     let s = f .before .before .before .before .before .before in
     let a = s .args in (
-      run-done (a .weights .now) (a .coords .now) (a .m) (a .k) (a .d) (a .rounds) (a .generator) _ _ _ _ (f .seed .result) (l .lloyd .result) (h .cohesion-of .result)
-          (f .seed .ensures (a .marks .now) .0) (f .seed .ensures (a .marks .now) .1) (g .start .ensures) (l .lloyd .ensures) (h .cohesion-of .ensures .0) (h .cohesion-of .ensures .1),
+      run-done (a .weights .now) (a .coords .now) (a .m) (a .k) (a .d) (a .rounds) (a .generator) _ _ _ _ (f .seed .result)
+          (l .lloyd .result) (h .cohesion-of .result)
+          (f .seed .ensures (a .marks .now) .0) (f .seed .ensures (a .marks .now) .1) (g .start .ensures) (l .lloyd .ensures)
+          (h .cohesion-of .ensures .0) (h .cohesion-of .ensures .1),
       run-left (a .weights .now) (a .coords .now) (a .m) (a .k) (a .d) _ _ _
-          (rounds-labelled (a .weights .now) (a .coords .now) (a .m) (a .k) (a .d) (a .rounds) _ _ _ _ (s .pre .sized .sizes .k-some) (g .start .ensures) (l .lloyd .ensures)) (h .cohesion-of .ensures .1) (h .cohesion-of .ensures .2),
+          (rounds-labelled (a .weights .now) (a .coords .now) (a .m) (a .k) (a .d) (a .rounds) _ _ _ _ (s .pre .sized .sizes .k-some)
+          (g .start .ensures) (l .lloyd .ensures)) (h .cohesion-of .ensures .1) (h .cohesion-of .ensures .2),
     )
 
 pub run-spec : {M : Type 1} → statement M

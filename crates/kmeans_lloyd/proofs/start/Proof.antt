@@ -1,4 +1,5 @@
--- `kmeans_lloyd::start` meets its contract: each region but the centres is written as a whole, and the literals compute to the infinities. Assumes nothing.
+-- `kmeans_lloyd::start` meets its contract: each region but the centres is written as a whole, and the literals compute to the
+-- infinities. Assumes nothing.
 use mathlib.Core.Path.{refl, sym, _∙_}
 use native.Mathlib.Omega.{arith}
 use lib.Seq.{length-take-le}
@@ -44,7 +45,8 @@ returns c =
     let l₁ = n .leaf-norms .kept .0 in
     let l₂ = v .fill-at .kept .0 ∙ l₁ in
     let l₃ = w .fill-at2 .kept .0 ∙ l₂ in
-    start-done (a .m) (a .k) (a .d) (a .work .now) (n .leaf-norms .last .0) (v .fill-at .last .0) (w .fill-at2 .last .0) (x .fill-at3 .last .0)
+    start-done (a .m) (a .k) (a .d) (a .work .now) (n .leaf-norms .last .0) (v .fill-at .last .0) (w .fill-at2 .last .0)
+    (x .fill-at3 .last .0)
     (y .fill-at4 .last .0) (a .coords .now) (a .marks .now) u (z .fill-u32 .last .0) _ _ _ _
     (p .before .before .before .low-at .ensures)
     (p .before .before .high-at .ensures)
