@@ -28,6 +28,7 @@ use Rattle.kmeans_assign.specs.Turns.{LeafPlaced, LeafPassed, tallied, p
 use Rattle.kmeans_assign.specs.declared.Passed.{Passed}
 use Rattle.kmeans_assign.specs.declared.Turn.{Turn}
 use Rattle.kmeans_layout.proofs.Regions.{get-drift, get-labels, drift-are, centers-are}
+use Rattle.kmeans_assign.proofs.Cases.{either}
 use Rattle.kmeans_assign.proofs.Leaves.{put-label-done}
 use Rattle.kmeans_assign.proofs.Tallies.{counts-of-pass}
 use Rattle.kmeans_layout.proofs.Sizes.{labelled-of}
@@ -129,10 +130,6 @@ set-below (x ∷ l) zero (suc j) v k h g = g
 set-below (x ∷ l) (suc i) zero v k h g = g
 set-below (x ∷ l) (suc i) (suc j) v k h g = set-below l i j v k h g
 
-either-labelled : (m k : ℕ) (b : Bool) (x y : Pass) → Labelled m k (x .state) → Labelled m k (y .state) → Labelled m k (cond b x y .state)
-either-labelled m k true x y f g = f
-either-labelled m k false x y f g = g
-
 pub labelled-after-pass : (coords : List Float) (m k d it : ℕ) (s : State) → Labelled m k s → 0 < k → (n : ℕ)
     → Labelled m k (passUpTo coords k d it s n .state)
 unfolding passUpTo putBounds putLabel
@@ -142,17 +139,15 @@ labelled-after-pass coords m k d it s l h (suc n) =
     let before : Labelled m k x = labelled-after-pass coords m k d it s l h n in
     let v = bestOf coords k d x n .index in
     let below : v < k = best-below (rowOf coords d n) (x .centers) d (k - 1) k (omega arith) in
-    either-labelled m k (skips it (boundsAt x n)) _ _ before (λ (i : ℕ) (hi : i < m). set-below (x .labels) n i v k below (before i hi))
+    either (λ (p : Pass). Labelled m k (p .state)) (skips it (boundsAt x n)) _ _ before
+    (λ (i : ℕ) (hi : i < m). set-below (x .labels) n i v k below (before i hi))
 
 -- the pass keeps labels below k
 module _ (m k : ℕ) (s : State) where
-  shifted-labels : (b : Bool) → cond b (shiftUpTo k (slowestOf (s .drift)) s m) s .labels ≡ s .labels
-  shifted-labels true = shift-labels k (slowestOf (s .drift)) s m
-  shifted-labels false = refl
-
   pub labelled-of-pass : (coords : List Float) (d it : ℕ) → 0 < k → Labelled m k s → Labelled m k (passOf coords m k d it s .state)
   labelled-of-pass coords d it h l =
-      labelled-after-pass coords m k d it (shiftedFor m k it s) (labelled-of m k s (shiftedFor m k it s) (shifted-labels (ltb 0 it)) l) h m
+      let e = either (λ (x : State). x .labels ≡ s .labels) (ltb 0 it) _ s (shift-labels k (slowestOf (s .drift)) s m) refl in
+      labelled-after-pass coords m k d it (shiftedFor m k it s) (labelled-of m k s (shiftedFor m k it s) e l) h m
 
 -- ---- neither the shift nor the pass moves a centre
 shift-centers : (k : ℕ) (t : Slowest) (s : State) (n : ℕ) → shiftUpTo k t s n .centers ≡ s .centers
@@ -161,22 +156,15 @@ shift-centers k t s zero = refl
 shift-centers k t s (suc n) = shift-centers k t s n
 
 shifted-centers : (m k it : ℕ) (s : State) → shiftedFor m k it s .centers ≡ s .centers
-shifted-centers m k it s = go (ltb 0 it)
-  where
-    go : (b : Bool) → cond b (shiftUpTo k (slowestOf (s .drift)) s m) s .centers ≡ s .centers
-    go true = shift-centers k (slowestOf (s .drift)) s m
-    go false = refl
-
-either-centers : (b : Bool) (x y : Pass) (l : List Float) → x .state .centers ≡ l → y .state .centers ≡ l → cond b x y .state .centers ≡ l
-either-centers true x y l e f = e
-either-centers false x y l e f = f
+shifted-centers m k it s =
+    either (λ (x : State). x .centers ≡ s .centers) (ltb 0 it) _ s (shift-centers k (slowestOf (s .drift)) s m) refl
 
 centers-to : (coords : List Float) (k d it : ℕ) (s : State) (n : ℕ) → passUpTo coords k d it s n .state .centers ≡ s .centers
 unfolding passUpTo putBounds putLabel
 centers-to coords k d it s zero = refl
 centers-to coords k d it s (suc n) =
     let e = centers-to coords k d it s n in
-    either-centers (skips it (boundsAt (passUpTo coords k d it s n .state) n)) _ _ (s .centers) e e
+    either (λ (p : Pass). p .state .centers ≡ s .centers) (skips it (boundsAt (passUpTo coords k d it s n .state) n)) _ _ e e
 
 pub pass-centers : (coords : List Float) (m k d it : ℕ) (s : State) → passOf coords m k d it s .state .centers ≡ s .centers
 pass-centers coords m k d it s = centers-to coords k d it (shiftedFor m k it s) m ∙ shifted-centers m k it s

@@ -2,7 +2,7 @@
 -- definition's run, and labels stay below k. By the way each test went, and by recursion on the rounds. Assumes nothing.
 use mathlib.Core.Path.{_≡_, refl, ap, sym, _∙_}
 use mathlib.Core.List.{List}
-use mathlib.Core.Bool.{Bool, true, false, cond, true≢false}
+use mathlib.Core.Bool.{true, false, true≢false}
 use Prim.Native.Nat.{ℕ, zero, suc, _+_, _*_, _≤_, _<_}
 use native.Mathlib.Omega.{arith}
 use lib.Ieee.{Float}
@@ -18,6 +18,7 @@ use Rattle.kmeans_lloyd.specs.Runs.{RoundBy, RoundDone, RunSoFar}
 use Rattle.kmeans_assign.specs.Turns.{passed}
 use Rattle.kmeans_assign.specs.declared.Passed.{Passed}
 use Rattle.kmeans_lloyd.specs.declared.Round.{Round}
+use Rattle.kmeans_assign.proofs.Cases.{either}
 use Rattle.kmeans_assign.proofs.Passes.{labelled-of-pass}
 use Rattle.kmeans_update.proofs.Settles.{labelled-of-update}
 
@@ -82,10 +83,6 @@ module _ (weights coords : List Float) (m k d : ℕ) where
   unfolding roundsFrom
   run-end n it r run e f = rw e at f
 
-  either-labelled : (b : Bool) (x y : Run) → Labelled m k (x .state) → Labelled m k (y .state) → Labelled m k (cond b x y .state)
-  either-labelled true x y f g = f
-  either-labelled false x y f g = g
-
   pub labelled-after-rounds : 0 < k → (n it : ℕ) (r : Run) → Labelled m k (r .state)
       → Labelled m k (roundsFrom weights coords m k d n it r .state)
   unfolding roundsFrom
@@ -94,7 +91,7 @@ module _ (weights coords : List Float) (m k d : ℕ) where
       let p = passOf coords m k d it (r .state) in
       let f : Labelled m k (p .state) = labelled-of-pass m k (r .state) coords d it h l in
       let next = afterUpdate (afterPass r p) (updateOf weights coords m k d (p .state)) in
-      either-labelled (endsAt it p) (afterPass r p) (roundsFrom weights coords m k d n (it + 1) next) f
+      either (λ (x : Run). Labelled m k (x .state)) (endsAt it p) (afterPass r p) (roundsFrom weights coords m k d n (it + 1) next) f
       (labelled-after-rounds h n (it + 1) next (labelled-of-update m k (p .state) weights coords d f))
 
 -- the definition's run where the code's state and counts are those after `it` rounds; the code does not count what it doubled

@@ -20,10 +20,10 @@ abbrev μ-loop : tie.MeasureT-loop
 μ-loop work₀ coords m k d scale i₀ work i = m - i
 
 abbrev Inv-loop2 : tie.InvT-loop2
-Inv-loop2 work₀ coords m k d scale i₀ work i = (i ≤ m) × (length work ≡ length work₀) × NormedFrom m k d coords work₀ i₀ work i
+Inv-loop2 = Inv-loop
 
 abbrev μ-loop2 : tie.MeasureT-loop2
-μ-loop2 work₀ coords m k d scale i₀ work i = m - i
+μ-loop2 = μ-loop
 
 -- places, each from a later one
 abbrev start : tie.At-loop Inv-loop μ-loop Inv-loop2 μ-loop2 → tie.Start Inv-loop μ-loop Inv-loop2 μ-loop2
