@@ -19,11 +19,11 @@ use Rattle.kmeans_bounds.specs.declared.Slowest.{Slowest}
 use Rattle.kmeans_layout.specs.State.{State}
 use Rattle.kmeans_assign.specs.Pass.{Pass, boundsAt, putBounds, putLabel, shiftLeaf, shiftUpTo, boundsBy, bestOf, putBest, moreMade}
 use Rattle.kmeans_assign.specs.Pass.{passLeaf, passUpTo}
-use Rattle.kmeans_layout.specs.Areas.{stateIn, total, driftAt, Labelled}
+use Rattle.kmeans_layout.specs.Areas.{stateIn, total, Labelled}
 use Rattle.kmeans_assign.specs.Turns.{Spent, LeafPlaced, LeafPassed, tallied, passed}
 use Rattle.kmeans_assign.specs.declared.Passed.{Passed}
 use Rattle.kmeans_assign.specs.declared.Turn.{Turn}
-use Rattle.kmeans_layout.proofs.Regions.{get-drift, get-labels, length-low, length-high}
+use Rattle.kmeans_layout.proofs.Regions.{get-labels, length-low, length-high}
 use Rattle.kmeans_assign.proofs.Passes.{shift-labels, pass-turn, leaf-placed, labelled-after-pass}
 
 -- ---- two leaves

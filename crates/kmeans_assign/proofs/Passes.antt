@@ -23,11 +23,11 @@ use Rattle.kmeans_nearest.proofs.Nearest.{best-below}
 use Rattle.kmeans_layout.specs.State.{State}
 use Rattle.kmeans_assign.specs.Pass.{Pass, boundsAt, putBounds, putLabel, shiftLeaf, shiftUpTo, shiftedFor, boundsBy, bestOf, putBest}
 use Rattle.kmeans_assign.specs.Pass.{moreMade, moreSaved, passUpTo, passOf}
-use Rattle.kmeans_layout.specs.Areas.{stateIn, total, driftAt, servedAt, Area, Labelled}
+use Rattle.kmeans_layout.specs.Areas.{stateIn, driftAt, servedAt, Area, Labelled}
 use Rattle.kmeans_assign.specs.Turns.{LeafPlaced, LeafPassed, tallied, passed}
 use Rattle.kmeans_assign.specs.declared.Passed.{Passed}
 use Rattle.kmeans_assign.specs.declared.Turn.{Turn}
-use Rattle.kmeans_layout.proofs.Regions.{get-drift, get-labels, drift-are, centers-are}
+use Rattle.kmeans_layout.proofs.Regions.{get-labels, drift-are, centers-are}
 use Rattle.kmeans_assign.proofs.Cases.{either}
 use Rattle.kmeans_assign.proofs.Leaves.{put-label-done}
 use Rattle.kmeans_assign.proofs.Tallies.{counts-of-pass}

@@ -2,7 +2,7 @@
 // pass and update, and cohesion. m leaves of d coordinates, k groups.
 ghost use mathlib.Core.Path.{_≡_};
 ghost use mathlib.Core.List.{List};
-ghost use Prim.Native.Nat.{ℕ, _+_, _*_, _<_, _≤_};
+ghost use Prim.Native.Nat.{ℕ, _+_, _*_, _≤_};
 ghost use lib.ListN.{length};
 ghost use Rattle.kmeans_sums.specs.Sums.{normsUpTo};
 ghost use Rattle.kmeans_lloyd.specs.Lloyd.{startedFrom, freshRun, roundsFrom};

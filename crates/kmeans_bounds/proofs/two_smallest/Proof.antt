@@ -1,6 +1,6 @@
 -- `kmeans_bounds::two_smallest` meets its contract. The loop's invariant: from `s` on, the drifts from c on make the two smallest of all.
 -- The measure is what is left of the length. Assumes nothing.
-use mathlib.Core.Path.{_≡_, refl, sym, _∙_}
+use mathlib.Core.Path.{_≡_, refl, _∙_}
 use mathlib.Core.List.{List}
 use Prim.Native.Nat.{ℕ, _≤_, _-_}
 use native.Mathlib.Omega.{arith}

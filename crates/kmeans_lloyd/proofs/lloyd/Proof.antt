@@ -6,7 +6,6 @@ use Prim.Native.Nat.{_≤_, _+_, _-_}
 use native.Mathlib.Nat.{sub-zero}
 use native.Mathlib.Omega.{arith}
 use lib.ListN.{length}
-use Rattle.counts.specs.Counts.{plusOf}
 use Rattle.counts.proofs.Sums.{at-most-none, at-most-more}
 use Rattle.kmeans_lloyd.specs.Lloyd.{Run, freshRun, roundsFrom}
 use Rattle.kmeans_layout.specs.Areas.{stateIn, Sized, Labelled}
