@@ -5,7 +5,7 @@ use Prim.Native.Nat.{ℕ, zero, suc, _+_, _*_, _≤_, _<_}
 use native.Mathlib.Nat.{mul-add}
 use native.Mathlib.Omega.{arith}
 use Rattle.counts.specs.declared.Counts.{Counts}
-use Rattle.counts.specs.Counts.{noCounts, plusOf, sumOver, countsOver, AtMost}
+use Rattle.counts.specs.Counts.{noCounts, plusOf, sumOver, AtMost}
 
 -- ---- at most so much
 pub at-most-none : (most : ℕ) → AtMost most noCounts

@@ -1,3 +1,4 @@
+pub mod Cases
 pub mod Leaves
 pub mod Passes
 pub mod Tallies

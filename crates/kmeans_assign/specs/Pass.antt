@@ -1,4 +1,5 @@
--- Document 01, 'Spherical k-means': the bounds' shift and the assignment pass of a round of `spherical_lloyd`, with the products that it makes and saves. Definitions only.
+-- Document 01, 'Spherical k-means': the bounds' shift and the assignment pass of a round of `spherical_lloyd`, with the
+-- products that it makes and saves. Definitions only.
 use mathlib.Core.List.{List}
 use mathlib.Core.Bool.{Bool, true, false, not, _||_, cond}
 use Prim.Native.Nat.{ℕ, zero, suc, _+_, _-_}
@@ -9,7 +10,7 @@ use Rattle.float.specs.Arithmetic.{plusZero}
 use Rattle.rows.specs.Rows.{rowOf}
 use Rattle.counts.specs.declared.Counts.{Counts}
 use Rattle.counts.specs.Counts.{noCounts}
-use Rattle.kmeans_bounds.specs.Shifts.{shiftedBounds, skips, slowestUpTo, otherThan}
+use Rattle.kmeans_bounds.specs.Shifts.{shiftedBounds, skips, slowestOf, otherThan}
 use Rattle.kmeans_nearest.specs.Nearest.{bestTo}
 use Rattle.kmeans_bounds.specs.declared.Bounds.{Bounds}
 use Rattle.kmeans_bounds.specs.declared.Slowest.{Slowest}
@@ -60,17 +61,19 @@ abbrev pub moreSaved : ℕ → Counts → Counts
 moreSaved n c = record { made = c .made; saved = c .saved + n }
 
 -- ---- the shift: the bounds of the first n leaves, by how far the centres turned
-abbrev pub shiftLeaf : ℕ → Slowest → ℕ → State → State
-shiftLeaf k t i s =
-    putBounds i (shiftedBounds (ltb 1 k) (getD (s .drift) (getD (s .labels) i 0) nan) (otherThan t (getD (s .labels) i 0)) (boundsAt s i)) s
+module _ (k : ℕ) (t : Slowest) where
+  abbrev pub shiftLeaf : ℕ → State → State
+  shiftLeaf i s =
+      let label = getD (s .labels) i 0 in
+      putBounds i (shiftedBounds (ltb 1 k) (getD (s .drift) label nan) (otherThan t label) (boundsAt s i)) s
 
-unfoldable pub shiftUpTo : ℕ → Slowest → State → ℕ → State
-shiftUpTo k t s zero = s
-shiftUpTo k t s (suc i) = shiftLeaf k t i (shiftUpTo k t s i)
+  unfoldable pub shiftUpTo : State → ℕ → State
+  shiftUpTo s zero = s
+  shiftUpTo s (suc i) = shiftLeaf i (shiftUpTo s i)
 
 -- after the first round
-abbrev pub shiftedFor : ℕ → ℕ → ℕ → State → State
-shiftedFor m k it s = cond (ltb 0 it) (shiftUpTo k (slowestUpTo (s .drift) k) s m) s
+abbrev pub shiftedFor : (m k it : ℕ) → State → State
+shiftedFor m k it s = cond (ltb 0 it) (shiftUpTo k (slowestOf (s .drift)) s m) s
 
 -- ---- the assignment pass
 
@@ -78,30 +81,37 @@ shiftedFor m k it s = cond (ltb 0 it) (shiftUpTo k (slowestUpTo (s .drift) k) s 
 abbrev pub boundsBy : ℕ → Best → Bounds → Bounds
 boundsBy k b o =
     cond (lt plusZero (o .scale))
-    (record { scale = o .scale; low = div binary64 (b .dot) (o .scale); high = cond (ltb 1 k) (div binary64 (b .second) (o .scale)) (inf true) })
+    (record {
+      scale = o .scale;
+      low = div binary64 (b .dot) (o .scale);
+      high = cond (ltb 1 k) (div binary64 (b .second) (o .scale)) (inf true);
+    })
     o
 
-abbrev pub bestOf : List Float → ℕ → ℕ → State → ℕ → Best
+abbrev pub bestOf : (coords : List Float) (k d : ℕ) → State → ℕ → Best
 bestOf coords k d s i = bestTo (rowOf coords d i) (s .centers) d (k - 1)
 
-abbrev pub putBest : ℕ → ℕ → Best → State → State
+abbrev pub putBest : (k i : ℕ) → Best → State → State
 putBest k i b s = putBounds i (boundsBy k b (boundsAt s i)) (putLabel i (b .dot) (b .index) s)
 
--- leaf i in a pass of round `it`: skipped, or given its best centre
-abbrev pub passLeaf : List Float → ℕ → ℕ → ℕ → ℕ → Pass → Pass
-passLeaf coords k d it i p =
-    cond (skips it (boundsAt (p .state) i))
-    (record { state = p .state; changed = p .changed; counts = moreSaved k (p .counts) })
-    (record {
-      state = putBest k i (bestOf coords k d (p .state) i) (p .state);
-      changed = p .changed || not (eqb (getD (p .state .labels) i 0) (bestOf coords k d (p .state) i .index));
-      counts = moreMade k (p .counts);
-    })
+module _ (coords : List Float) (k d it : ℕ) where
+  -- leaf i in a pass of round `it`: skipped, or given its best centre
+  abbrev pub passLeaf : ℕ → Pass → Pass
+  passLeaf i p =
+      let s = p .state in
+      let best = bestOf coords k d s i in
+      cond (skips it (boundsAt s i))
+      (record { state = s; changed = p .changed; counts = moreSaved k (p .counts) })
+      (record {
+        state = putBest k i best s;
+        changed = p .changed || not (eqb (getD (s .labels) i 0) (best .index));
+        counts = moreMade k (p .counts);
+      })
 
-unfoldable pub passUpTo : List Float → ℕ → ℕ → ℕ → State → ℕ → Pass
-passUpTo coords k d it s zero = record { state = s; changed = false; counts = noCounts }
-passUpTo coords k d it s (suc i) = passLeaf coords k d it i (passUpTo coords k d it s i)
+  unfoldable pub passUpTo : State → ℕ → Pass
+  passUpTo s zero = record { state = s; changed = false; counts = noCounts }
+  passUpTo s (suc i) = passLeaf i (passUpTo s i)
 
 -- the whole pass of round `it`, after the shift
-abbrev pub passOf : List Float → ℕ → ℕ → ℕ → ℕ → State → Pass
+abbrev pub passOf : (coords : List Float) (m k d it : ℕ) → State → Pass
 passOf coords m k d it s = passUpTo coords k d it (shiftedFor m k it s) m

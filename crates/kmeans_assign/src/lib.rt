@@ -1,16 +1,15 @@
-// The assignment pass of a round of spherical k-means with its bounds, their shift and the skip (vmf.rs; document 01, 'Spherical k-means'), in the work areas of a run:
-// m leaves of d coordinates, k groups.
+// The assignment pass of a round of spherical k-means with its bounds, their shift and the skip (vmf.rs; document 01,
+// 'Spherical k-means'), in the work areas of a run: m leaves of d coordinates, k groups.
 ghost use mathlib.Core.Path.{_≡_};
-ghost use mathlib.Core.Bool.{true, not};
+ghost use mathlib.Core.Bool.{true};
 ghost use mathlib.Core.List.{List};
-ghost use Prim.Native.Nat.{ℕ, _+_, _*_, _<_, _≤_};
-ghost use lib.Dec.{eqb};
+ghost use Prim.Native.Nat.{ℕ, _<_, _≤_};
 ghost use lib.ListN.{length, getD};
 ghost use Rattle.counts.specs.Counts.{AtMost, ofRound};
-ghost use Rattle.kmeans_bounds.specs.Shifts.{slowestUpTo, otherThan};
-ghost use Rattle.kmeans_assign.specs.Pass.{Pass, boundsAt, putBounds, shiftLeaf, shiftUpTo, boundsBy, bestOf, putBest, passUpTo, passOf};
+ghost use Rattle.kmeans_bounds.specs.Shifts.{slowestOf, otherThan};
+ghost use Rattle.kmeans_assign.specs.Pass.{boundsAt, putBounds, shiftLeaf, shiftUpTo, boundsBy, passUpTo, passOf};
 ghost use Rattle.kmeans_layout.specs.Areas.{stateIn, Sized, LeafOf, Labelled, Area};
-ghost use Rattle.kmeans_assign.specs.Turns.{Spent, LeafPassed, tallied};
+ghost use Rattle.kmeans_assign.specs.Turns.{Spent, LeafPlaced, LeafPassed, tallied, passed};
 
 // ---- the bounds of a leaf
 
@@ -20,10 +19,9 @@ fn bounds_at(work: &[f64], i: usize, m: usize, k: usize, d: usize) -> kmeans_bou
     requires { ⌜ LeafOf i m d ⌝ }
     ensures { λ r. ⌜ ((u : List ℕ) → r ≡ boundsAt (stateIn m k d (now (work .entry)) u) i) ⌝ }
 {
-    let kd = k * d;
-    let scale = kd + kd;
-    let low = scale + m;
-    let high = low + m;
+    let scale = kmeans_layout::scale_at(m, k, d);
+    let low = kmeans_layout::low_at(m, k, d);
+    let high = kmeans_layout::high_at(m, k, d);
     kmeans_bounds::Bounds {
         scale: work[scale + i],
         low: work[low + i],
@@ -35,11 +33,11 @@ fn bounds_at(work: &[f64], i: usize, m: usize, k: usize, d: usize) -> kmeans_bou
 fn put_bounds(work: &mut [f64], i: usize, b: kmeans_bounds::Bounds, m: usize, k: usize, d: usize)
     requires { ⌜ Area (length (now work)) m k d ⌝ }
     requires { ⌜ LeafOf i m d ⌝ }
-    ensures { λ _. ⌜ ((u : List ℕ) → stateIn m k d (now (work .exit)) u ≡ putBounds i b (stateIn m k d (now (work .entry)) u)) ⌝ }
+    ensures { λ _. ⌜ ((u : List ℕ) →
+        stateIn m k d (now (work .exit)) u ≡ putBounds i b (stateIn m k d (now (work .entry)) u)) ⌝ }
 {
-    let kd = k * d;
-    let low = kd + kd + m;
-    let high = low + m;
+    let low = kmeans_layout::low_at(m, k, d);
+    let high = kmeans_layout::high_at(m, k, d);
     work[low + i] = b.low;
     work[high + i] = b.high;
 }
@@ -98,16 +96,15 @@ fn place_leaf(
 ) -> bool
     requires { ⌜ Sized (length (now work)) (length (now marks)) (length (now coords)) m k d ⌝ }
     requires { ⌜ LeafOf i m d ⌝ }
-    ensures { λ r. ⌜ (r ≡ not (eqb (getD (stateIn m k d (now (work .entry)) (now (marks .entry)) .labels) i 0) (bestOf (now (coords .entry)) k d (stateIn m k d (now (work .entry)) (now (marks .entry))) i .index)))
-        × (stateIn m k d (now (work .exit)) (now (marks .exit))
-        ≡ putBest k i (bestOf (now (coords .entry)) k d (stateIn m k d (now (work .entry)) (now (marks .entry))) i) (stateIn m k d (now (work .entry)) (now (marks .entry)))) ⌝ }
+    ensures { λ r. ⌜ LeafPlaced (now (coords .entry)) k d i (stateIn m k d (now (work .entry)) (now (marks .entry)))
+        (stateIn m k d (now (work .exit)) (now (marks .exit))) r ⌝ }
 {
     let kd = k * d;
     let at = i * d;
     let s = &work[..];
     let b = kmeans_nearest::best_of(&coords[at..at + d], &s[..kd], k, d);
     let o = bounds_at(s, i, m, k, d);
-    let served = kd + kd + m + m + m;
+    let served = kmeans_layout::served_at(m, k, d);
     work[served + i] = b.dot;
     put_bounds(work, i, bounds_by(b, o, k), m, k, d);
     let label = b.index as u32;
@@ -135,7 +132,8 @@ fn assign_leaf(
 ) -> Turn
     requires { ⌜ Sized (length (now work)) (length (now marks)) (length (now coords)) m k d ⌝ }
     requires { ⌜ LeafOf i m d ⌝ }
-    ensures { λ r. ⌜ LeafPassed (now (coords .entry)) k d it i (stateIn m k d (now (work .entry)) (now (marks .entry))) (stateIn m k d (now (work .exit)) (now (marks .exit))) (r .skipped) (r .changed) ⌝ }
+    ensures { λ r. ⌜ LeafPassed (now (coords .entry)) k d it i (stateIn m k d (now (work .entry)) (now (marks .entry)))
+        (stateIn m k d (now (work .exit)) (now (marks .exit))) r ⌝ }
 {
     let b = bounds_at(work, i, m, k, d);
     if kmeans_bounds::is_skipped(b, it) {
@@ -150,7 +148,8 @@ fn assign_leaf(
     }
 }
 
-// Leaf i in a pass after the first round: its bounds are shifted by how far the centres turned, unless it gets new ones anyway.
+// Leaf i in a pass after the first round: its bounds are shifted by how far the centres turned, unless it gets new ones
+// anyway.
 fn turn_leaf(
     work: &mut [f64],
     marks: &mut [u32],
@@ -164,11 +163,12 @@ fn turn_leaf(
 ) -> Turn
     requires { ⌜ Sized (length (now work)) (length (now marks)) (length (now coords)) m k d ⌝ }
     requires { ⌜ (LeafOf i m d) × (getD (now marks) i 0 < k) ⌝ }
-    ensures { λ r. ⌜ LeafPassed (now (coords .entry)) k d it i (shiftLeaf k t i (stateIn m k d (now (work .entry)) (now (marks .entry)))) (stateIn m k d (now (work .exit)) (now (marks .exit))) (r .skipped) (r .changed) ⌝ }
+    ensures { λ r. ⌜ LeafPassed (now (coords .entry)) k d it i
+        (shiftLeaf k t i (stateIn m k d (now (work .entry)) (now (marks .entry))))
+        (stateIn m k d (now (work .exit)) (now (marks .exit))) r ⌝ }
 {
     let label = marks[i] as usize;
-    let kd = k * d;
-    let drift = kd + kd + m + m + m + m;
+    let drift = kmeans_layout::drift_at(m, k, d);
     let own = work[drift + label];
     let other = other_drift(t, label);
     let b = bounds_at(work, i, m, k, d);
@@ -225,8 +225,8 @@ fn assign(
     d: usize,
 ) -> Passed
     requires { ⌜ Sized (length (now work)) (length (now marks)) (length (now coords)) m k d ⌝ }
-    ensures { λ r. ⌜ _≡_ {A = Pass} (record { state = stateIn m k d (now (work .exit)) (now (marks .exit)); changed = r .changed; counts = r .counts })
-        (passUpTo (now (coords .entry)) k d it (stateIn m k d (now (work .entry)) (now (marks .entry))) m) ⌝ }
+    ensures { λ r. ⌜ passed (stateIn m k d (now (work .exit)) (now (marks .exit))) r
+        ≡ passUpTo (now (coords .entry)) k d it (stateIn m k d (now (work .entry)) (now (marks .entry))) m ⌝ }
     ensures { λ r. ⌜ AtMost ofRound (r .counts) ⌝ }
 {
     let mut p = Passed {
@@ -254,12 +254,12 @@ fn shift_and_assign(
 ) -> Passed
     requires { ⌜ Sized (length (now work)) (length (now marks)) (length (now coords)) m k d ⌝ }
     requires { ⌜ Labelled m k (stateIn m k d (now work) (now marks)) ⌝ }
-    ensures { λ r. ⌜ _≡_ {A = Pass} (record { state = stateIn m k d (now (work .exit)) (now (marks .exit)); changed = r .changed; counts = r .counts })
-        (passUpTo (now (coords .entry)) k d it (shiftUpTo k (slowestUpTo (stateIn m k d (now (work .entry)) (now (marks .entry)) .drift) k) (stateIn m k d (now (work .entry)) (now (marks .entry))) m) m) ⌝ }
+    ensures { λ r. ⌜ passed (stateIn m k d (now (work .exit)) (now (marks .exit))) r
+        ≡ (let s = stateIn m k d (now (work .entry)) (now (marks .entry)) in
+        passUpTo (now (coords .entry)) k d it (shiftUpTo k (slowestOf (s .drift)) s m) m) ⌝ }
     ensures { λ r. ⌜ AtMost ofRound (r .counts) ⌝ }
 {
-    let kd = k * d;
-    let drift = kd + kd + m + m + m + m;
+    let drift = kmeans_layout::drift_at(m, k, d);
     let s = &work[..];
     let t = kmeans_bounds::two_smallest(&s[drift..drift + k]);
     let mut p = Passed {
@@ -287,8 +287,8 @@ pub fn pass(
 ) -> Passed
     requires { ⌜ Sized (length (now work)) (length (now marks)) (length (now coords)) m k d ⌝ }
     requires { ⌜ Labelled m k (stateIn m k d (now work) (now marks)) ⌝ }
-    ensures { λ r. ⌜ _≡_ {A = Pass} (record { state = stateIn m k d (now (work .exit)) (now (marks .exit)); changed = r .changed; counts = r .counts })
-        (passOf (now (coords .entry)) m k d it (stateIn m k d (now (work .entry)) (now (marks .entry)))) ⌝ }
+    ensures { λ r. ⌜ passed (stateIn m k d (now (work .exit)) (now (marks .exit))) r
+        ≡ passOf (now (coords .entry)) m k d it (stateIn m k d (now (work .entry)) (now (marks .entry))) ⌝ }
     ensures { λ r. ⌜ AtMost ofRound (r .counts) ⌝ }
 {
     if it > 0 {

@@ -1,10 +1,10 @@
--- Document 01, 'Spherical k-means': the bounds of a leaf, their shifts (Schubert, Lang and Feher), the two smallest drifts and the skip. Definitions only.
-use mathlib.Core.List.{List}
+-- Document 01, 'Spherical k-means': the bounds of a leaf, their shifts (Schubert, Lang and Feher), the two smallest
+-- drifts and the skip. Definitions only.
+use mathlib.Core.List.{List, [], _∷_}
 use mathlib.Core.Bool.{Bool, false, _&&_, cond}
-use Prim.Native.Nat.{ℕ, zero, suc}
+use Prim.Native.Nat.{ℕ, suc}
 use lib.Dec.{eqb, ltb}
-use lib.ListN.{getD}
-use lib.Ieee.{Float, nan, inf, binary64, add, sub, mul, neg, lt, le}
+use lib.Ieee.{Float, inf, binary64, add, sub, mul, neg, lt, le}
 use Rattle.float.specs.Arithmetic.{f64, number, plusZero, maxOf, clampOf}
 use Rattle.root.specs.Root.{rootOf}
 use Rattle.kmeans_bounds.specs.declared.Bounds.{Bounds}
@@ -14,9 +14,14 @@ use Rattle.kmeans_bounds.specs.declared.Slowest.{Slowest}
 abbrev pub cosine : Float → Float
 cosine x = clampOf x (neg (number 1)) (number 1)
 
--- √max((1 − a·a)·(1 − p·p), 0)
+-- max((1 − a·a)·(1 − p·p), 0), and its root
+abbrev pub squaresOf : Float → Float → Float
+squaresOf a p =
+    maxOf (mul binary64 (sub binary64 (number 1) (mul binary64 a a)) (sub binary64 (number 1) (mul binary64 p p)))
+    plusZero
+
 abbrev pub sinesOf : Float → Float → Float
-sinesOf a p = rootOf (maxOf (mul binary64 (sub binary64 (number 1) (mul binary64 a a)) (sub binary64 (number 1) (mul binary64 p p))) plusZero)
+sinesOf a p = rootOf (squaresOf a p)
 
 -- the two shifts of a bound and a drift that are cosines already
 abbrev pub lowerBy : Float → Float → Float
@@ -33,25 +38,39 @@ shiftLower l p = lowerBy (cosine l) (cosine p)
 unfoldable pub shiftUpper : Float → Float → Float
 shiftUpper u p = upperBy (cosine u) (cosine p)
 
--- The two smallest of the first n drifts: the place of the smallest, it, and the next, from +infinity; of equals the first is the smallest.
+-- The two smallest drifts: the place of the smallest, it, and the next, from +infinity; of equals the first is the
+-- smallest. With drift p of centre c:
 abbrev pub slowerOf : Slowest → ℕ → Float → Slowest
 slowerOf s c p =
     cond (lt p (s .least)) (record { at = c; least = p; next = s .least })
     (cond (lt p (s .next)) (record { at = s .at; least = s .least; next = p }) s)
 
-unfoldable pub slowestUpTo : List Float → ℕ → Slowest
-slowestUpTo drift zero = record { at = 0; least = inf false; next = inf false }
-slowestUpTo drift (suc c) = slowerOf (slowestUpTo drift c) c (getD drift c nan)
+-- s, then the drifts of the centres from c on
+unfoldable pub slowestFrom : Slowest → ℕ → List Float → Slowest
+slowestFrom s c [] = s
+slowestFrom s c (p ∷ ps) = slowestFrom (slowerOf s c p) (suc c) ps
+
+abbrev pub slowestOf : List Float → Slowest
+slowestOf drift = slowestFrom (record { at = 0; least = inf false; next = inf false }) 0 drift
 
 -- the smallest drift of the centres other than this one
 abbrev pub otherThan : Slowest → ℕ → Float
 otherThan s label = cond (eqb (s .at) label) (s .next) (s .least)
 
--- A leaf's bounds after its own centre turned by `own` and the others by `other` at most. With one group there is no other, and the upper bound stays.
+-- A leaf's bounds after its own centre turned by `own` and the others by `other` at most. With one group there is no
+-- other, and the upper bound stays.
 abbrev pub shiftedBounds : Bool → Float → Float → Bounds → Bounds
 shiftedBounds several own other b =
-    record { scale = b .scale; low = shiftLower (b .low) own; high = cond several (shiftUpper (b .high) other) (b .high) }
+    record {
+      scale = b .scale;
+      low = shiftLower (b .low) own;
+      high = cond several (shiftUpper (b .high) other) (b .high);
+    }
 
--- a leaf is skipped after the first round if scale > 0 and low − high ≥ 1e-12
+-- 1e-12
+abbrev pub slack : Float
+slack = f64 0x3D719799812DEA11
+
+-- a leaf is skipped after the first round if scale > 0 and low − high ≥ the slack
 abbrev pub skips : ℕ → Bounds → Bool
-skips it b = ltb 0 it && (lt plusZero (b .scale) && le (f64 0x3D719799812DEA11) (sub binary64 (b .low) (b .high)))
+skips it b = ltb 0 it && (lt plusZero (b .scale) && le slack (sub binary64 (b .low) (b .high)))

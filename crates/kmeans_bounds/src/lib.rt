@@ -1,10 +1,10 @@
-// A leaf's bounds (vmf.rs; document 01, 'Spherical k-means'): their shifts after the centres turned, the two smallest drifts, and the skip.
+// A leaf's bounds (vmf.rs; document 01, 'Spherical k-means'): their shifts after the centres turned, the two smallest
+// drifts, and the skip.
 ghost use mathlib.Core.Path.{_≡_};
 ghost use mathlib.Core.Bool.{true, false};
-ghost use Prim.Native.Nat.{_+_, _*_, _-_, _<_};
-ghost use lib.ListN.{length};
-ghost use Rattle.kmeans_bounds.specs.Shifts.{sinesOf, shiftLower, shiftUpper, slowerOf, slowestUpTo, shiftedBounds, skips};
-ghost use Rattle.kmeans_bounds.specs.Products.{squaresOf, reachesOf, footOf, closeOf, maySkip};
+ghost use Rattle.kmeans_bounds.specs.Shifts.{squaresOf, sinesOf, shiftLower, shiftUpper, slowerOf, slowestOf};
+ghost use Rattle.kmeans_bounds.specs.Shifts.{shiftedBounds, skips};
+ghost use Rattle.kmeans_bounds.specs.Products.{reachesOf, footOf, closeOf, maySkip, NeverSkipped};
 
 // The squares of the sines of two angles multiplied, from their cosines.
 fn squares(a: f64, p: f64) -> f64
@@ -74,7 +74,7 @@ fn slower(s: Slowest, c: usize, p: f64) -> Slowest
 
 // The two smallest entries.
 pub fn two_smallest(drift: &[f64]) -> Slowest
-    ensures { λ r. ⌜ r ≡ slowestUpTo (now (drift .entry)) (length (now (drift .entry))) ⌝ }
+    ensures { λ r. ⌜ r ≡ slowestOf (now (drift .entry)) ⌝ }
 {
     let most = 1.0 / 0.0;
     let mut s = Slowest {
@@ -90,7 +90,8 @@ pub fn two_smallest(drift: &[f64]) -> Slowest
     s
 }
 
-// A leaf's bounds: the norm of its mean, a lower bound on the cosine to its own centre, an upper one on that to any other.
+// A leaf's bounds: the norm of its mean, a lower bound on the cosine to its own centre, an upper one on that to any
+// other.
 pub struct Bounds {
     pub scale: f64,
     pub low: f64,
@@ -141,15 +142,16 @@ fn reaches(c: f64, a: f64) -> bool
     (c <= 0.0) | (c * c < a)
 }
 
-// Where a base of length d is met by the height of the triangle whose other sides have the squares a and e, held to the base.
+// Where a base of length d is met by the height of the triangle whose other sides have the squares a and e, held to
+// the base.
 fn foot(d: f64, a: f64, e: f64) -> f64
     ensures { λ r. ⌜ r ≡ footOf d a e ⌝ }
 {
     float::clamp(0.5 * (d + (a - e) / d), 0.0, d)
 }
 
-// Whether x less the root of a and y with the root of e are less than the slack apart, without the roots: parts of x - y that the
-// roots reach say so; false also where it is too close to tell.
+// Whether x less the root of a and y with the root of e are less than the slack apart, without the roots: parts of
+// x - y that the roots reach say so; false also where it is too close to tell.
 fn is_close(x: f64, y: f64, a: f64, e: f64) -> bool
     ensures { λ r. ⌜ r ≡ closeOf x y a e ⌝ }
 {
@@ -159,9 +161,11 @@ fn is_close(x: f64, y: f64, a: f64, e: f64) -> bool
     reaches(c, a) & reaches(f, e) & (x - c - (y + f) < 1e-12)
 }
 
-// Whether the shifted bounds of a leaf could still let it be skipped, without their roots; false only where they cannot.
+// Whether the shifted bounds of a leaf could still let it be skipped, without their roots; false only where they
+// cannot.
 pub fn may_skip(b: Bounds, own: f64, other: f64) -> bool
     ensures { λ r. ⌜ r ≡ maySkip own other b ⌝ }
+    ensures { λ r. ⌜ (r ≡ false → NeverSkipped own other b) ⌝ }
 {
     let l = float::clamp(b.low, -1.0, 1.0);
     let p = float::clamp(own, -1.0, 1.0);

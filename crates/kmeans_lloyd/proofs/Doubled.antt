@@ -3,7 +3,6 @@
 -- Assumes nothing.
 use mathlib.Core.Path.{_≡_, refl, sym, subst}
 use mathlib.Core.List.{List}
-use mathlib.Core.Bool.{Bool, true, false, cond}
 use Prim.Native.Nat.{ℕ, zero, suc, _+_, _≤_, _<_}
 use native.Mathlib.Omega.{arith}
 use lib.ListN.{length}
@@ -16,6 +15,7 @@ use Rattle.float.proofs.Bound.{Within}
 use Rattle.float.proofs.Ranges.{All}
 use Rattle.limits.proofs.Limits.{sizes-met}
 use Rattle.limits.proofs.Bounds.{weights-within, coordinates-within, within-coordinates}
+use Rattle.kmeans_assign.proofs.Cases.{either}
 use Rattle.kmeans_assign.proofs.Passes.{pass-centers}
 use Rattle.kmeans_seeding.proofs.Within.{seeds-within}
 use Rattle.kmeans_update.proofs.Reseeds.{Clean, update-clean}
@@ -35,10 +35,6 @@ module _ (weights coords : List Float) (m k d : ℕ) (hw : All (Within 109951162
       update-clean m d coords hc hd weights k (passOf coords m k d it s .state) hw lw lm lk
       (subst (All (Within 2 1)) (sym (pass-centers coords m k d it s)) h)
 
-  either-kept : (b : Bool) (x y : Run) → Kept x → Kept y → Kept (cond b x y)
-  either-kept true x y f g = f
-  either-kept false x y f g = g
-
   rounds-kept : (n it : ℕ) (r : Run) → Kept r → Kept (roundsFrom weights coords m k d n it r)
   unfolding roundsFrom
   rounds-kept zero it r h = h
@@ -47,7 +43,7 @@ module _ (weights coords : List Float) (m k d : ℕ) (hw : All (Within 109951162
       let u = updateOf weights coords m k d (p .state) in
       let q = round-clean it (r .state) (h .centers) k (omega arith) in
       let next = afterUpdate (afterPass r p) u in
-      either-kept (endsAt it p) (afterPass r p) (roundsFrom weights coords m k d n (it + 1) next)
+      either Kept (endsAt it p) (afterPass r p) (roundsFrom weights coords m k d n (it + 1) next)
       (record { centers = subst (All (Within 2 1)) (sym (pass-centers coords m k d it (r .state))) (h .centers); none = h .none })
       (rounds-kept n (it + 1) next (record { centers = q .centers; none = omega (arith, h .none, q .none) }))
 
@@ -58,7 +54,8 @@ module _ (weights coords : List Float) (m k d : ℕ) (hw : All (Within 109951162
       (record { centers = seeds-within weights coords m d hd hc generator k; none = refl })
 
   picked-few : (generator it c : ℕ) → c < k → length (pickedBefore weights coords m k d generator it c) ≤ c
-  picked-few generator it c h = round-clean it (runOf weights coords m k d it generator .state) (run-kept it generator .centers) c (omega arith) .few
+  picked-few generator it c h =
+      round-clean it (runOf weights coords m k d it generator .state) (run-kept it generator .centers) c (omega arith) .few
 
   none-doubled : (rounds generator : ℕ) → NoneDoubled weights coords m k d rounds generator
   none-doubled rounds generator =

@@ -1,8 +1,8 @@
--- The rounds over plain lists: what the calls of a round ensure is its round, a round that is made is one round of the definition's run, and labels stay below k.
--- By the way each test went, and by recursion on the rounds. Assumes nothing.
+-- The rounds over plain lists: what the calls of a round ensure is its round, a round that is made is one round of the
+-- definition's run, and labels stay below k. By the way each test went, and by recursion on the rounds. Assumes nothing.
 use mathlib.Core.Path.{_≡_, refl, ap, sym, _∙_}
 use mathlib.Core.List.{List}
-use mathlib.Core.Bool.{Bool, true, false, cond, true≢false}
+use mathlib.Core.Bool.{true, false, true≢false}
 use Prim.Native.Nat.{ℕ, zero, suc, _+_, _*_, _≤_, _<_}
 use native.Mathlib.Omega.{arith}
 use lib.Ieee.{Float}
@@ -15,9 +15,11 @@ use Rattle.kmeans_update.specs.Update.{updateOf}
 use Rattle.kmeans_lloyd.specs.Lloyd.{Run, endsAt, afterPass, afterUpdate, roundsFrom}
 use Rattle.kmeans_layout.specs.Areas.{Labelled}
 use Rattle.kmeans_lloyd.specs.Runs.{RoundBy, RoundDone, RunSoFar}
+use Rattle.kmeans_assign.specs.Turns.{passed}
 use Rattle.kmeans_assign.specs.declared.Passed.{Passed}
 use Rattle.kmeans_lloyd.specs.declared.Round.{Round}
-use Rattle.kmeans_assign.proofs.Passes.{passed, labelled-of-pass}
+use Rattle.kmeans_assign.proofs.Cases.{either}
+use Rattle.kmeans_assign.proofs.Passes.{labelled-of-pass}
 use Rattle.kmeans_update.proofs.Settles.{labelled-of-update}
 
 -- ---- a round, by its pass p
@@ -30,7 +32,7 @@ module _ (weights coords : List Float) (m k d it : ℕ) (p : Pass) (x : State) (
         ended = sym t;
         counts = refl;
         last = λ e. refl;
-        state = λ e. absurd (true≢false (sym t ∙ e));
+        state = λ e. absurd (true≢false e);
         small = few;
       })
 
@@ -40,7 +42,7 @@ module _ (weights coords : List Float) (m k d it : ℕ) (p : Pass) (x : State) (
       rw (← is) (record {
         ended = sym t;
         counts = refl;
-        last = λ e. absurd (true≢false (sym e ∙ t));
+        last = λ e. absurd (true≢false (sym e));
         state = λ e. g;
         small = few;
       })
@@ -54,25 +56,26 @@ module _ (weights coords : List Float) (m k d : ℕ) where
   abbrev anew : ℕ → State → ℕ
   anew it s = updateOf weights coords m k d (passOf coords m k d it s .state) .doubled
 
-  module _ (n n' it : ℕ) (r : Run) (s : State) (q : Round) (more : n ≡ suc n') (done : RoundDone weights coords m k d it (r .state) s q) where
+  module _ (n n' it : ℕ) (r : Run) (s : State) (q : Round) (more : n ≡ suc n')
+      (done : RoundDone weights coords m k d it (r .state) s q) where
     run-turn : q .ended ≡ false
         → roundsFrom weights coords m k d n' (it + 1) (counted r s q (r .doubled + anew it (r .state)))
         ≡ roundsFrom weights coords m k d n it r
     unfolding roundsFrom
     run-turn t =
         let e : endsAt it (passOf coords m k d it (r .state)) ≡ false = sym (done .ended) ∙ t in
-        rw (more, e, done .counts, done .state e)
+        rw (more, e, done .counts, done .state t)
 
     run-stop : q .ended ≡ true → counted r s q (r .doubled) ≡ roundsFrom weights coords m k d n it r
     unfolding roundsFrom
     run-stop t =
         let e : endsAt it (passOf coords m k d it (r .state)) ≡ true = sym (done .ended) ∙ t in
-        rw (more, e, done .counts, done .last e)
+        rw (more, e, done .counts, done .last t)
 
   pub labelled-of-round : (it : ℕ) (s s' : State) (q : Round) → RoundDone weights coords m k d it s s' q → q .ended ≡ false → 0 < k
       → Labelled m k s → Labelled m k s'
   labelled-of-round it s s' q done t h l =
-      rw (done .state (sym (done .ended) ∙ t))
+      rw (done .state t)
       (labelled-of-update m k (passOf coords m k d it s .state) weights coords d (labelled-of-pass m k s coords d it h l))
 
   -- no round is left
@@ -80,18 +83,15 @@ module _ (weights coords : List Float) (m k d : ℕ) where
   unfolding roundsFrom
   run-end n it r run e f = rw e at f
 
-  either-labelled : (b : Bool) (x y : Run) → Labelled m k (x .state) → Labelled m k (y .state) → Labelled m k (cond b x y .state)
-  either-labelled true x y f g = f
-  either-labelled false x y f g = g
-
-  pub labelled-after-rounds : 0 < k → (n it : ℕ) (r : Run) → Labelled m k (r .state) → Labelled m k (roundsFrom weights coords m k d n it r .state)
+  pub labelled-after-rounds : 0 < k → (n it : ℕ) (r : Run) → Labelled m k (r .state)
+      → Labelled m k (roundsFrom weights coords m k d n it r .state)
   unfolding roundsFrom
   labelled-after-rounds h zero it r l = l
   labelled-after-rounds h (suc n) it r l =
       let p = passOf coords m k d it (r .state) in
       let f : Labelled m k (p .state) = labelled-of-pass m k (r .state) coords d it h l in
       let next = afterUpdate (afterPass r p) (updateOf weights coords m k d (p .state)) in
-      either-labelled (endsAt it p) (afterPass r p) (roundsFrom weights coords m k d n (it + 1) next) f
+      either (λ (x : Run). Labelled m k (x .state)) (endsAt it p) (afterPass r p) (roundsFrom weights coords m k d n (it + 1) next) f
       (labelled-after-rounds h n (it + 1) next (labelled-of-update m k (p .state) weights coords d f))
 
 -- the definition's run where the code's state and counts are those after `it` rounds; the code does not count what it doubled

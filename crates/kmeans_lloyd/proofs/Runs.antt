@@ -1,5 +1,5 @@
--- A whole run from its parts: seeds, start, rounds and cohesion, each by what its function promises; and its counts, made + saved = k·m·rounds begun.
--- Assumes nothing.
+-- A whole run from its parts: seeds, start, rounds and cohesion, each by what its function promises; and its counts, made + saved
+-- = k·m·rounds begun. Assumes nothing.
 use mathlib.Core.Path.{_≡_, refl, ap, sym, _∙_}
 use mathlib.Core.List.{List}
 use Prim.Native.Nat.{ℕ, zero, suc, _+_, _*_, _≤_, _<_}
@@ -25,12 +25,14 @@ zero-at zero i = refl
 zero-at (suc m) zero = refl
 zero-at (suc m) (suc i) = zero-at m i
 
-pub started-labelled : (coords : List Float) (m k d : ℕ) (s : State) (seeds : List Float) → 0 < k → s ≡ startedFrom coords m k d seeds → Labelled m k s
+pub started-labelled : (coords : List Float) (m k d : ℕ) (s : State) (seeds : List Float) → 0 < k → s ≡ startedFrom coords m k d seeds
+    → Labelled m k s
 unfolding startedFrom
 started-labelled coords m k d s seeds h e i l = rw (e, zero-at m i) h
 
 -- ---- the run
-pub run-done : (weights coords : List Float) (m k d rounds generator : ℕ) (cs : List Float) (s₂ s₃ s₄ : State) (next : ℕ) (c : Counts) (v : Float)
+pub run-done : (weights coords : List Float) (m k d rounds generator : ℕ) (cs : List Float) (s₂ s₃ s₄ : State) (next : ℕ) (c : Counts)
+    (v : Float)
     → cs ≡ seedsOf weights coords m k d generator .centers
     → next ≡ seedsOf weights coords m k d generator .state
     → s₂ ≡ startedFrom coords m k d cs
@@ -59,13 +61,15 @@ pub run-counts : (weights coords : List Float) (m k d rounds generator : ℕ)
     → let r = resultOf weights coords m k d rounds generator in r .counts .made + r .counts .saved ≡ k * m * r .begun
 unfolding resultOf
 run-counts weights coords m k d rounds generator =
-    counts-of-rounds weights coords m k d rounds 0 (freshRun (startedFrom coords m k d (seedsOf weights coords m k d generator .centers))) (omega arith)
+    counts-of-rounds weights coords m k d rounds 0 (freshRun (startedFrom coords m k d (seedsOf weights coords m k d generator .centers)))
+    (omega arith)
 
 -- ---- a run begins no more rounds than it may
 pub run-most : (weights coords : List Float) (m k d rounds generator : ℕ) → resultOf weights coords m k d rounds generator .begun ≤ rounds
 unfolding resultOf
 run-most weights coords m k d rounds generator =
-    let most = begun-most weights coords m k d rounds 0 (freshRun (startedFrom coords m k d (seedsOf weights coords m k d generator .centers))) in
+    let most =
+    begun-most weights coords m k d rounds 0 (freshRun (startedFrom coords m k d (seedsOf weights coords m k d generator .centers))) in
     omega (arith, most)
 
 -- ---- the labels after the rounds are below k

@@ -1,4 +1,5 @@
--- Document 01, 'Spherical k-means': `spherical_lloyd`, round by round, with its counts, what it doubled and the rounds begun. Definitions only.
+-- Document 01, 'Spherical k-means': `spherical_lloyd`, round by round, with its counts, what it doubled and the
+-- rounds begun. Definitions only.
 use mathlib.Core.List.{List}
 use mathlib.Core.Bool.{Bool, true, false, not, _&&_, cond}
 use Prim.Native.Nat.{ℕ, zero, suc, _+_}
@@ -21,7 +22,7 @@ pub record Run : Type 0 where
   pub begun : ℕ
 
 -- ---- before the first round
-unfoldable pub startedFrom : List Float → ℕ → ℕ → ℕ → List Float → State
+unfoldable pub startedFrom : (coords : List Float) (m k d : ℕ) → List Float → State
 startedFrom coords m k d seeds =
     record {
       centers = seeds;
@@ -40,24 +41,26 @@ freshRun s = record { state = s; counts = noCounts; doubled = 0; begun = 0 }
 
 -- the round's pass counted, and the round begun; then its update
 abbrev pub afterPass : Run → Pass → Run
-afterPass r p = record { state = p .state; counts = plusOf (r .counts) (p .counts); doubled = r .doubled; begun = r .begun + 1 }
+afterPass r p =
+    record { state = p .state; counts = plusOf (r .counts) (p .counts); doubled = r .doubled; begun = r .begun + 1 }
 
 abbrev pub afterUpdate : Run → Update → Run
-afterUpdate r u = record { state = u .state; counts = r .counts; doubled = r .doubled + u .doubled; begun = r .begun }
+afterUpdate r u =
+    record { state = u .state; counts = r .counts; doubled = r .doubled + u .doubled; begun = r .begun }
 
 -- the end, if no label changed after the first round
 abbrev pub endsAt : ℕ → Pass → Bool
 endsAt it p = not (p .changed) && ltb 0 it
 
--- n rounds more at most, from round `it` on
-unfoldable pub roundsFrom : List Float → List Float → ℕ → ℕ → ℕ → ℕ → ℕ → Run → Run
-roundsFrom weights coords m k d zero it r = r
-roundsFrom weights coords m k d (suc n) it r =
-    cond (endsAt it (passOf coords m k d it (r .state)))
-    (afterPass r (passOf coords m k d it (r .state)))
-    (roundsFrom weights coords m k d n (it + 1)
-    (afterUpdate (afterPass r (passOf coords m k d it (r .state))) (updateOf weights coords m k d (passOf coords m k d it (r .state) .state))))
+module _ (weights coords : List Float) (m k d : ℕ) where
+  -- n rounds more at most, from round `it` on
+  unfoldable pub roundsFrom : (n it : ℕ) → Run → Run
+  roundsFrom zero it r = r
+  roundsFrom (suc n) it r =
+      let p = passOf coords m k d it (r .state) in
+      let counted = afterPass r p in
+      cond (endsAt it p) counted
+      (roundsFrom n (it + 1) (afterUpdate counted (updateOf weights coords m k d (p .state))))
 
-abbrev pub lloydOf : List Float → List Float → ℕ → ℕ → ℕ → ℕ → List Float → Run
-lloydOf weights coords m k d rounds seeds =
-    roundsFrom weights coords m k d rounds 0 (freshRun (startedFrom coords m k d seeds))
+  abbrev pub lloydOf : (rounds : ℕ) → List Float → Run
+  lloydOf rounds seeds = roundsFrom rounds 0 (freshRun (startedFrom coords m k d seeds))

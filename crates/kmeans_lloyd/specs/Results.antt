@@ -16,19 +16,20 @@ pub record Result : Type 0 where
   pub begun : ℕ
   pub generator : ℕ
 
-abbrev pub resultBy : List Float → List Float → ℕ → ℕ → ℕ → Run → ℕ → Result
-resultBy weights coords m k d r generator =
-    record {
-      labels = r .state .labels;
-      centers = r .state .centers;
-      cohesion = cohesionOf weights coords (r .state .labels) m k d;
-      counts = r .counts;
-      begun = r .begun;
-      generator = generator;
-    }
+module _ (weights coords : List Float) (m k d : ℕ) where
+  abbrev pub resultBy : Run → ℕ → Result
+  resultBy r generator =
+      record {
+        labels = r .state .labels;
+        centers = r .state .centers;
+        cohesion = cohesionOf weights coords (r .state .labels) m k d;
+        counts = r .counts;
+        begun = r .begun;
+        generator = generator;
+      }
 
-abbrev pub resultFrom : List Float → List Float → ℕ → ℕ → ℕ → ℕ → Seeds → Result
-resultFrom weights coords m k d rounds s = resultBy weights coords m k d (lloydOf weights coords m k d rounds (s .centers)) (s .state)
+  abbrev pub resultFrom : (rounds : ℕ) → Seeds → Result
+  resultFrom rounds s = resultBy (lloydOf weights coords m k d rounds (s .centers)) (s .state)
 
-unfoldable pub resultOf : List Float → List Float → ℕ → ℕ → ℕ → ℕ → ℕ → Result
-resultOf weights coords m k d rounds generator = resultFrom weights coords m k d rounds (seedsOf weights coords m k d generator)
+  unfoldable pub resultOf : (rounds generator : ℕ) → Result
+  resultOf rounds generator = resultFrom rounds (seedsOf weights coords m k d generator)

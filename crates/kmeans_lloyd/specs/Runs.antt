@@ -1,4 +1,5 @@
--- What the functions of the start, of a round and of a whole run ask and promise. No definition of document 01 stands on this file.
+-- What the functions of the start, of a round and of a whole run ask and promise. No definition of document 01 stands
+-- on this file.
 use mathlib.Core.Path.{_≡_}
 use mathlib.Core.List.{List}
 use mathlib.Core.Bool.{true, false}
@@ -20,7 +21,7 @@ use Rattle.kmeans_lloyd.specs.declared.RunEnd.{RunEnd}
 use Rattle.kmeans_layout.specs.Areas.{stateIn, sumsIn, Sized, Labelled}
 
 -- the norms of leaves i to i + 3
-abbrev pub fourNorms : List Float → ℕ → ℕ → Four
+abbrev pub fourNorms : (coords : List Float) (d i : ℕ) → Four
 fourNorms coords d i =
     record {
       a = normOf (rowOf coords d i);
@@ -31,16 +32,17 @@ fourNorms coords d i =
 
 -- ---- the rounds
 
--- a round by its pass p: the end, or the update
-pub record RoundBy (weights coords : List Float) (m k d it : ℕ) (p : Pass) (s' : State) (r : Round) : Type 0 where
-  pub ended : r .ended ≡ endsAt it p
-  pub counts : r .counts ≡ p .counts
-  pub last : endsAt it p ≡ true → s' ≡ p .state
-  pub state : endsAt it p ≡ false → s' ≡ updateOf weights coords m k d (p .state) .state
-  pub small : AtMost ofRound (r .counts)
+module _ (weights coords : List Float) (m k d it : ℕ) where
+  -- a round by its pass p: the end, or the update
+  pub record RoundBy (p : Pass) (s' : State) (r : Round) : Type 0 where
+    pub ended : r .ended ≡ endsAt it p
+    pub counts : r .counts ≡ p .counts
+    pub last : r .ended ≡ true → s' ≡ p .state
+    pub state : r .ended ≡ false → s' ≡ updateOf weights coords m k d (p .state) .state
+    pub small : AtMost ofRound (r .counts)
 
-abbrev pub RoundDone : List Float → List Float → ℕ → ℕ → ℕ → ℕ → State → State → Round → Type 0
-RoundDone weights coords m k d it s s' r = RoundBy weights coords m k d it (passOf coords m k d it s) s' r
+  abbrev pub RoundDone : (s s' : State) → Round → Type 0
+  RoundDone s s' r = RoundBy (passOf coords m k d it s) s' r
 
 -- the code's state and counts are those of a run of the definition so far
 pub record RunSoFar (run : Run) (s : State) (c : Counts) : Type 0 where
@@ -50,7 +52,16 @@ pub record RunSoFar (run : Run) (s : State) (c : Counts) : Type 0 where
 
 -- ---- the start
 unfoldable pub putScale : List Float → State → State
-putScale v s = record { centers = s .centers; scale = v; low = s .low; high = s .high; served = s .served; drift = s .drift; labels = s .labels }
+putScale v s =
+    record {
+      centers = s .centers;
+      scale = v;
+      low = s .low;
+      high = s .high;
+      served = s .served;
+      drift = s .drift;
+      labels = s .labels;
+    }
 
 -- ---- a whole run
 pub record Runnable (work marks weights coords m k d rounds : ℕ) : Type 0 where

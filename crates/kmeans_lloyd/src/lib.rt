@@ -1,8 +1,8 @@
-// One run of spherical k-means in two lent work areas (vmf.rs; document 01, 'Spherical k-means'): seeding, rounds of pass and update, and cohesion. m leaves of d
-// coordinates, k groups.
+// One run of spherical k-means in two lent work areas (vmf.rs; document 01, 'Spherical k-means'): seeding, rounds of
+// pass and update, and cohesion. m leaves of d coordinates, k groups.
 ghost use mathlib.Core.Path.{_≡_};
 ghost use mathlib.Core.List.{List};
-ghost use Prim.Native.Nat.{ℕ, _+_, _*_, _<_, _≤_};
+ghost use Prim.Native.Nat.{ℕ, _+_, _*_, _≤_};
 ghost use lib.ListN.{length};
 ghost use Rattle.kmeans_sums.specs.Sums.{normsUpTo};
 ghost use Rattle.kmeans_lloyd.specs.Lloyd.{startedFrom, freshRun, roundsFrom};
@@ -31,7 +31,9 @@ fn one_round(
 ) -> Round
     requires { ⌜ Sized (length (now work)) (length (now marks)) (length (now coords)) m k d ⌝ }
     requires { ⌜ (length (now weights) ≡ m) × Labelled m k (stateIn m k d (now work) (now marks)) ⌝ }
-    ensures { λ r. ⌜ RoundDone (now (weights .entry)) (now (coords .entry)) m k d it (stateIn m k d (now (work .entry)) (now (marks .entry))) (stateIn m k d (now (work .exit)) (now (marks .exit))) r ⌝ }
+    ensures { λ r. ⌜ RoundDone (now (weights .entry)) (now (coords .entry)) m k d it
+        (stateIn m k d (now (work .entry)) (now (marks .entry)))
+        (stateIn m k d (now (work .exit)) (now (marks .exit))) r ⌝ }
 {
     let p = kmeans_assign::pass(work, marks, coords, it, m, k, d);
     let c = p.counts;
@@ -61,7 +63,9 @@ fn lloyd(
 ) -> counts::Counts
     requires { ⌜ Sized (length (now work)) (length (now marks)) (length (now coords)) m k d ⌝ }
     requires { ⌜ (length (now weights) ≡ m) × (rounds ≤ 10000) × Labelled m k (stateIn m k d (now work) (now marks)) ⌝ }
-    ensures { λ r. ⌜ RunSoFar (roundsFrom (now (weights .entry)) (now (coords .entry)) m k d rounds 0 (freshRun (stateIn m k d (now (work .entry)) (now (marks .entry))))) (stateIn m k d (now (work .exit)) (now (marks .exit))) r ⌝ }
+    ensures { λ r. ⌜ RunSoFar (roundsFrom (now (weights .entry)) (now (coords .entry)) m k d rounds 0
+        (freshRun (stateIn m k d (now (work .entry)) (now (marks .entry)))))
+        (stateIn m k d (now (work .exit)) (now (marks .exit))) r ⌝ }
 {
     let mut c = counts::none();
     let mut it = 0;
@@ -102,10 +106,10 @@ fn four_norms(coords: &[f64], i: usize, d: usize) -> float::Four
 // The norm of each leaf becomes its scale: by fours, then singly.
 fn leaf_norms(work: &mut [f64], coords: &[f64], m: usize, k: usize, d: usize)
     requires { ⌜ (Area (length (now work)) m k d) × (length (now coords) ≡ m * d) × (m * d ≤ 1048576) ⌝ }
-    ensures { λ _. ⌜ ((u : List ℕ) → stateIn m k d (now (work .exit)) u ≡ putScale (normsUpTo (now (coords .entry)) d m) (stateIn m k d (now (work .entry)) u)) ⌝ }
+    ensures { λ _. ⌜ ((u : List ℕ) → stateIn m k d (now (work .exit)) u
+        ≡ putScale (normsUpTo (now (coords .entry)) d m) (stateIn m k d (now (work .entry)) u)) ⌝ }
 {
-    let kd = k * d;
-    let scale = kd + kd;
+    let scale = kmeans_layout::scale_at(m, k, d);
     let mut i = 0;
     while 4 <= m - i {
         let n = four_norms(coords, i, d);
@@ -126,13 +130,13 @@ fn leaf_norms(work: &mut [f64], coords: &[f64], m: usize, k: usize, d: usize)
 // Everything but the centres as before the first round.
 fn start(work: &mut [f64], marks: &mut [u32], coords: &[f64], m: usize, k: usize, d: usize)
     requires { ⌜ Sized (length (now work)) (length (now marks)) (length (now coords)) m k d ⌝ }
-    ensures { λ _. ⌜ stateIn m k d (now (work .exit)) (now (marks .exit)) ≡ startedFrom (now (coords .entry)) m k d (stateIn m k d (now (work .entry)) (now (marks .entry)) .centers) ⌝ }
+    ensures { λ _. ⌜ stateIn m k d (now (work .exit)) (now (marks .exit))
+        ≡ startedFrom (now (coords .entry)) m k d (stateIn m k d (now (work .entry)) (now (marks .entry)) .centers) ⌝ }
 {
-    let kd = k * d;
-    let low = kd + kd + m;
-    let high = low + m;
-    let served = high + m;
-    let drift = served + m;
+    let low = kmeans_layout::low_at(m, k, d);
+    let high = kmeans_layout::high_at(m, k, d);
+    let served = kmeans_layout::served_at(m, k, d);
+    let drift = kmeans_layout::drift_at(m, k, d);
     leaf_norms(work, coords, m, k, d);
     kmeans_layout::fill_at(work, low, m, -1.0 / 0.0);
     kmeans_layout::fill_at(work, high, m, 1.0 / 0.0);
@@ -150,7 +154,8 @@ pub struct RunEnd {
     pub generator: u64,
 }
 
-// One run of spherical k-means: seeding, rounds and cohesion. Labels, centres and the sums of the groups stay in the areas.
+// One run of spherical k-means: seeding, rounds and cohesion. Labels, centres and the sums of the groups stay in the
+// areas.
 pub fn run(
     work: &mut [f64],
     marks: &mut [u32],
@@ -162,9 +167,12 @@ pub fn run(
     d: usize,
     rounds: usize,
 ) -> RunEnd
-    requires { ⌜ Runnable (length (now work)) (length (now marks)) (length (now weights)) (length (now coords)) m k d rounds ⌝ }
-    ensures { λ r. ⌜ RunDone (resultOf (now (weights .entry)) (now (coords .entry)) m k d rounds generator) (stateIn m k d (now (work .exit)) (now (marks .exit))) r ⌝ }
-    ensures { λ _. ⌜ RunLeft (now (weights .entry)) (now (coords .entry)) m k d (now (work .exit)) (now (marks .exit)) ⌝ }
+    requires { ⌜ Runnable (length (now work)) (length (now marks)) (length (now weights)) (length (now coords))
+        m k d rounds ⌝ }
+    ensures { λ r. ⌜ RunDone (resultOf (now (weights .entry)) (now (coords .entry)) m k d rounds generator)
+        (stateIn m k d (now (work .exit)) (now (marks .exit))) r ⌝ }
+    ensures { λ _. ⌜ RunLeft (now (weights .entry)) (now (coords .entry)) m k d
+        (now (work .exit)) (now (marks .exit)) ⌝ }
 {
     let next = kmeans_seeding::seed(work, weights, coords, generator, m, k, d);
     start(work, marks, coords, m, k, d);

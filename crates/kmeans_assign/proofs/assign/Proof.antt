@@ -1,13 +1,15 @@
--- `kmeans_assign::assign` meets its contract. The invariant: state and answer are the definition's pass over the leaves before i. The measure is what is left of the
--- leaves. Assumes nothing.
+-- `kmeans_assign::assign` meets its contract. The invariant: state and answer are the definition's pass over the leaves before i.
+-- The measure is what is left of the leaves. Assumes nothing.
 use mathlib.Core.Path.{_≡_, refl, ap, _∙_}
 use Prim.Native.Nat.{ℕ, _≤_, _-_}
 use native.Mathlib.Omega.{arith}
 use lib.ListN.{length}
+use Rattle.counts.specs.Counts.{AtMost, ofRound}
 use Rattle.kmeans_assign.specs.Pass.{passUpTo}
+use Rattle.kmeans_assign.specs.Turns.{passed}
 use Rattle.kmeans_layout.specs.Areas.{Sized, stateIn}
 use Rattle.kmeans_layout.proofs.Sizes.{sized-of, leaf-of}
-use Rattle.kmeans_assign.proofs.Passes.{passed, pass-turn, pass-small}
+use Rattle.kmeans_assign.proofs.Passes.{pass-turn, pass-small}
 use borrow.Author.Needs.{needs}
 use Rattle.kmeans_assign.proofs.assign.Statement.{statement}
 use Rattle.kmeans_assign.proofs.assign.Tie as tie
@@ -15,7 +17,8 @@ use Rattle.kmeans_assign.proofs.assign.Tie as tie
 abbrev Inv-loop : tie.InvT-loop
 Inv-loop work₀ marks₀ coords it m k d p₀ i₀ work marks p i =
     (i ≤ m) × Sized (length work) (length marks) (length coords) m k d
-    × (passed (stateIn m k d work marks) p ≡ passUpTo coords k d it (stateIn m k d work₀ marks₀) i) × (length work ≡ length work₀) × (length marks ≡ length marks₀)
+    × (passed (stateIn m k d work marks) p ≡ passUpTo coords k d it (stateIn m k d work₀ marks₀) i) × (length work ≡ length work₀)
+    × (length marks ≡ length marks₀)
 
 abbrev μ-loop : tie.MeasureT-loop
 μ-loop work₀ marks₀ coords it m k d p₀ i₀ work marks p i = m - i
@@ -37,13 +40,18 @@ assign-leaf-requires c κs =
     let a = start (c .before .before .before) .args in
     (l .inv .1, leaf-of (l .i) (a .m) (a .d) (c .before .before .loop-test .taken))
 
+-- what is counted so far is small
+small-at : (p : tie.At-loop Inv-loop μ-loop) → AtMost ofRound (p .loop .p .counts)
+small-at p =
+    let l = p .loop in
+    let a = start p .args in
+    pass-small (a .coords .now) (a .k) (a .d) (a .it) _ (l .i) _ (l .p) (l .inv .2) (omega (arith, l .inv .0, l .inv .1 .sizes .m-small))
+    (l .inv .1 .sizes .k-small)
+
 tally-requires : tie.Need-tally-requires Inv-loop μ-loop
 tally-requires c κs =
     let loop = loop-at c in
-    let l = loop .loop in
-    let a = start loop .args in
-    let small = pass-small (a .coords .now) (a .k) (a .d) (a .it) _ (l .i) _ (l .p) (l .inv .2) (omega (arith, l .inv .0, l .inv .1 .sizes .m-small)) (l .inv .1 .sizes .k-small) in
-    (small, l .inv .1 .sizes .k-small)
+    (small-at loop, loop .loop .inv .1 .sizes .k-small)
 
 loop-again : tie.Need-loop-again Inv-loop μ-loop
 loop-again c =
@@ -54,7 +62,8 @@ loop-again c =
     let eu = f .assign-leaf .kept .1 .0 in (
       omega (arith, f .before .before .before .loop-test .taken),
       sized-of _ _ _ _ (length (a .coords .now)) (a .m) (a .k) (a .d) ew eu (l .inv .1),
-      pass-turn (a .coords .now) (a .k) (a .d) (a .it) _ (l .i) (stateIn (a .m) (a .k) (a .d) (l .work) (l .marks)) _ (l .p) (c .tally .result) (f .assign-leaf .result)
+      pass-turn (a .coords .now) (a .k) (a .d) (a .it) _ (l .i) (stateIn (a .m) (a .k) (a .d) (l .work) (l .marks)) _ (l .p)
+          (c .tally .result) (f .assign-leaf .result)
           (l .inv .2) (f .assign-leaf .ensures) (c .tally .ensures),
       ew ∙ l .inv .3,
       eu ∙ l .inv .4,
@@ -73,7 +82,7 @@ returns c =
     let s₀ = stateIn (a .m) (a .k) (a .d) (a .work .now) (a .marks .now) in
     let e : l .i ≡ a .m = omega (arith, l .inv .0, c .loop-test .left) in (
       l .inv .2 ∙ ap (λ (n : ℕ). passUpTo (a .coords .now) (a .k) (a .d) (a .it) s₀ n) e,
-      pass-small (a .coords .now) (a .k) (a .d) (a .it) s₀ (l .i) _ (l .p) (l .inv .2) (omega (arith, l .inv .0, l .inv .1 .sizes .m-small)) (l .inv .1 .sizes .k-small),
+      small-at (c .before),
     )
 
 pub assign-spec : {M : Type 1} → statement M

@@ -20,8 +20,10 @@ returns-2 c =
     let s = b .before .before .before .before .before in
     let a = s .args in
     let x = stateIn (a .m) (a .k) (a .d) (a .work .now) (a .marks .now) in
-    leaf-placed (a .coords .now) (a .k) (a .d) (a .it) (a .i) x _ (b .bounds-at .result) (f .before .before .before .before .is-skipped .result)
-    (b .bounds-at .ensures (a .marks .now)) (f .before .before .before .before .is-skipped .ensures) (f .before .before .before .if1 .left) (f .place-leaf .result) (f .place-leaf .ensures .0) (f .place-leaf .ensures .1)
+    leaf-placed (a .coords .now) (a .k) (a .d) (a .it) (a .i) x _ (b .bounds-at .result)
+    (f .before .before .before .before .is-skipped .result)
+    (b .bounds-at .ensures (a .marks .now)) (f .before .before .before .before .is-skipped .ensures) (f .before .before .before .if1 .left)
+    (f .place-leaf .result) (f .place-leaf .ensures)
 
 pub assign-leaf-spec : {M : Type 1} → statement M
 assign-leaf-spec =

@@ -1,10 +1,9 @@
 -- `kmeans_assign::is_spent` meets its contract: the three tests of the one answer that may be true. Assumes nothing.
-use mathlib.Core.Path.{sym, _∙_}
+use mathlib.Core.Path.{sym}
 use mathlib.Core.Bool.{true≢false}
 use borrow.Author.Tests.{lt-ltb, not-true}
 use lib.Ieee.{ofBits}
 use borrow.Author.Needs.{needs}
-use Rattle.kmeans_bounds.proofs.Skips.{no-skip}
 use Rattle.kmeans_assign.proofs.is_spent.Statement.{statement}
 use Rattle.kmeans_assign.proofs.is_spent.Tie as tie
 
@@ -14,7 +13,7 @@ returns c e =
     record {
       several = lt-ltb 1 _ (c .before .before .before .if1 .taken);
       scaled = c .before .if2 .taken;
-      stays = no-skip _ _ _ (sym (c .may-skip .ensures) ∙ not-true _ e);
+      stays = c .may-skip .ensures .1 (not-true _ e);
     }
 
 returns-2 : tie.Need-returns-2

@@ -14,7 +14,8 @@ returns c =
     let a = f .before .before .before .before .before .before .before .args in
     let s = stateIn (a .m) (a .k) (a .d) (a .work .now) (a .marks .now) in (
       f .shift-and-assign .ensures .0
-          ∙ ap (λ (x : State). passUpTo (a .coords .now) (a .k) (a .d) (a .it) x (a .m)) (shift-made (a .m) (a .k) (a .it) s (f .before .before .before .if1 .taken)),
+          ∙ ap (λ (x : State). passUpTo (a .coords .now) (a .k) (a .d) (a .it) x (a .m))
+          (shift-made (a .m) (a .k) (a .it) s (f .before .before .before .if1 .taken)),
       f .shift-and-assign .ensures .1,
     )
 
@@ -24,7 +25,8 @@ returns-2 c =
     let a = f .before .before .before .before .before .before .before .args in
     let s = stateIn (a .m) (a .k) (a .d) (a .work .now) (a .marks .now) in (
       f .assign .ensures .0
-          ∙ ap (λ (x : State). passUpTo (a .coords .now) (a .k) (a .d) (a .it) x (a .m)) (shift-left (a .m) (a .k) (a .it) s (f .before .before .before .if1 .left)),
+          ∙ ap (λ (x : State). passUpTo (a .coords .now) (a .k) (a .d) (a .it) x (a .m))
+          (shift-left (a .m) (a .k) (a .it) s (f .before .before .before .if1 .left)),
       f .assign .ensures .1,
     )
 

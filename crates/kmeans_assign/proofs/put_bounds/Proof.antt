@@ -14,17 +14,17 @@ same-length c = simp length-set
 
 returns : tie.Need-returns
 returns c u =
-    let a = c .args in
-    put-bounds-done (a .m) (a .k) (a .d) (a .work .now) u (a .i) (c .pre .1 .below) (a .b)
+    let s = c .before .before .before in
+    let a = s .args in
+    put-bounds-done (a .m) (a .k) (a .d) (a .work .now) u (a .i) (s .pre .1 .below) _ _ (a .b) (c .before .low-at .ensures)
+    (c .high-at .ensures)
 
 pub put-bounds-spec : {M : Type 1} → statement M
 put-bounds-spec =
     tie.close
     (tie.spec
-    (λ c. search needs)
-    (λ c. search needs)
-    (λ c. search needs)
-    (λ c. search needs)
+    (λ c κs. search needs)
+    (λ c κs. search needs)
     (λ c. search needs)
     (λ c. search needs)
     (λ c. search needs)

@@ -20,7 +20,8 @@ returns-2 c =
     let x = s .before .before .before .before .args in
     let t = neither _ _ (if .if1 .left) in
     let low =
-    lower-within (x .b .low) (x .own) (s .before .before .before .clamp .result) (s .before .before .clamp2 .result) (s .before .before .before .clamp .ensures) (s .before .before .clamp2 .ensures)
+    lower-within (x .b .low) (x .own) (s .before .before .before .clamp .result) (s .before .before .clamp2 .result)
+    (s .before .before .before .clamp .ensures) (s .before .before .clamp2 .ensures)
     (r .result .a) (r .ensures .0 ∙ ap rootOf (two .before .squares .ensures)) (t .0) in
     let high =
     upper-within (x .b .high) (x .other) (s .before .clamp3 .result) (s .clamp4 .result) (s .before .clamp3 .ensures) (s .clamp4 .ensures)

@@ -17,7 +17,8 @@ unfolding ofBits ofInt
 returns-2 c =
     let m = c .before .before in
     let x = m .before .before .args in
-    lower-within (x .l) (x .p) (m .before .clamp .result) (m .clamp2 .result) (m .before .clamp .ensures) (m .clamp2 .ensures) (c .sines .result)
+    lower-within (x .l) (x .p) (m .before .clamp .result) (m .clamp2 .result) (m .before .clamp .ensures) (m .clamp2 .ensures)
+    (c .sines .result)
     (c .sines .ensures)
     (c .before .if1 .left)
 

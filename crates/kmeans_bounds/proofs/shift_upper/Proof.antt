@@ -17,7 +17,8 @@ unfolding ofBits ofInt
 returns-2 c =
     let m = c .before .before in
     let x = m .before .before .args in
-    upper-within (x .u) (x .p) (m .before .clamp .result) (m .clamp2 .result) (m .before .clamp .ensures) (m .clamp2 .ensures) (c .sines .result)
+    upper-within (x .u) (x .p) (m .before .clamp .result) (m .clamp2 .result) (m .before .clamp .ensures) (m .clamp2 .ensures)
+    (c .sines .result)
     (c .sines .ensures)
     (c .before .if1 .left)
 

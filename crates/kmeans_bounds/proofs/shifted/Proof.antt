@@ -1,4 +1,5 @@
--- `kmeans_bounds::shifted` meets its contract, by what `both_shifted` and `shift_lower` ensure, for several groups and for one. Assumes nothing.
+-- `kmeans_bounds::shifted` meets its contract, by what `both_shifted` and `shift_lower` ensure, for several groups and for one.
+-- Assumes nothing.
 use borrow.Author.Needs.{needs}
 use Rattle.kmeans_bounds.proofs.shifted.Statement.{statement}
 use Rattle.kmeans_bounds.proofs.shifted.Tie as tie

@@ -15,10 +15,12 @@ use Rattle.kmeans_lloyd.proofs.four_norms.Statement.{statement}
 use Rattle.kmeans_lloyd.proofs.four_norms.Tie as tie
 
 -- the dot of a part with itself is that of the row that the part is
-own-dot : (l : List Float) (at n i d : ℕ) {p : Float} → at ≡ i * d → n ≡ d → p ≡ dotOf (part l at n) (part l at n) → p ≡ dotOf (rowOf l d i) (rowOf l d i)
+own-dot : (l : List Float) (at n i d : ℕ) {p : Float} → at ≡ i * d → n ≡ d → p ≡ dotOf (part l at n) (part l at n)
+    → p ≡ dotOf (rowOf l d i) (rowOf l d i)
 own-dot l at n i d ea en e = e ∙ rw (ea, en)
 
-norms-done : (l : List Float) (d i : ℕ) (p q r s : Float) → p ≡ dotOf (rowOf l d i) (rowOf l d i) → q ≡ dotOf (rowOf l d (i + 1)) (rowOf l d (i + 1))
+norms-done : (l : List Float) (d i : ℕ) (p q r s : Float) → p ≡ dotOf (rowOf l d i) (rowOf l d i)
+    → q ≡ dotOf (rowOf l d (i + 1)) (rowOf l d (i + 1))
     → r ≡ dotOf (rowOf l d (i + 2)) (rowOf l d (i + 2)) → s ≡ dotOf (rowOf l d (i + 3)) (rowOf l d (i + 3))
     → _≡_ {A = Four} (rootsOf (record { a = p; b = q; c = r; e = s })) (fourNorms l d i)
 norms-done l d i p q r s ep eq er es = rw (ep, eq, er, es)
@@ -37,7 +39,8 @@ returns c =
     let e₃ : r ≡ (a .i + 2) * d = simp add-mul (omega arith) in
     let e₄ : s ≡ (a .i + 3) * d = simp add-mul (omega arith) in
     c .root4 .ensures
-    ∙ norms-done l d (a .i) (d₁ .dot .result) (c .before .before .before .dot2 .result) (c .before .before .dot3 .result) (c .before .dot4 .result)
+    ∙ norms-done l d (a .i) (d₁ .dot .result) (c .before .before .before .dot2 .result) (c .before .before .dot3 .result)
+    (c .before .dot4 .result)
     (own-dot l p (q - p) (a .i) d refl (omega arith) (d₁ .dot .ensures))
     (own-dot l q (r - q) (a .i + 1) d e₂ (omega arith) (c .before .before .before .dot2 .ensures))
     (own-dot l r (s - r) (a .i + 2) d e₃ (omega arith) (c .before .before .dot3 .ensures))

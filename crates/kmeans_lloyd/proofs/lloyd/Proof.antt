@@ -1,12 +1,11 @@
--- `kmeans_lloyd::lloyd` meets its contract. The loop's invariant: the definition's run from the state and counts as they are, with the rounds that
--- are left, ends as the whole run does (`GoesOn`); labels are below k, and the counts are small. The measure is what is left of the rounds.
--- Assumes nothing.
+-- `kmeans_lloyd::lloyd` meets its contract. The loop's invariant: the definition's run from the state and counts as they are,
+-- with the rounds that are left, ends as the whole run does (`GoesOn`); labels are below k, and the counts are small. The measure
+-- is what is left of the rounds. Assumes nothing.
 use mathlib.Core.Path.{_≡_, refl, _∙_}
 use Prim.Native.Nat.{_≤_, _+_, _-_}
 use native.Mathlib.Nat.{sub-zero}
 use native.Mathlib.Omega.{arith}
 use lib.ListN.{length}
-use Rattle.counts.specs.Counts.{plusOf}
 use Rattle.counts.proofs.Sums.{at-most-none, at-most-more}
 use Rattle.kmeans_lloyd.specs.Lloyd.{Run, freshRun, roundsFrom}
 use Rattle.kmeans_layout.specs.Areas.{stateIn, Sized, Labelled}

@@ -1,5 +1,5 @@
--- `kmeans_lloyd::one_round` meets its contract: the pass is the definition's, the test is whether it ends the run, and settle makes the update where it does not.
--- Assumes nothing.
+-- `kmeans_lloyd::one_round` meets its contract: the pass is the definition's, the test is whether it ends the run, and settle
+-- makes the update where it does not. Assumes nothing.
 use mathlib.Core.Path.{ap}
 use lib.ListN.{length}
 use Rattle.kmeans_assign.specs.Pass.{Pass, passOf}
@@ -39,7 +39,8 @@ settle-requires c κs =
       sized-of _ _ _ _ (length (a .coords .now)) (a .m) (a .k) (a .d) (p .pass .kept .0) (p .pass .kept .1 .0) (b .pre .0),
       (
         b .pre .1 .0,
-        labelled-of (a .m) (a .k) (y .state) x (ap (λ (q : Pass). q .state .labels) (p .pass .ensures .0)) (labelled-of-pass (a .m) (a .k) s (a .coords .now) (a .d) (a .it) (b .pre .0 .sizes .k-some) (b .pre .1 .1)),
+        labelled-of (a .m) (a .k) (y .state) x (ap (λ (q : Pass). q .state .labels) (p .pass .ensures .0))
+            (labelled-of-pass (a .m) (a .k) s (a .coords .now) (a .d) (a .it) (b .pre .0 .sizes .k-some) (b .pre .1 .1)),
       ),
     )
 
