@@ -60,22 +60,20 @@ pub record Gathered (weights coords : List Float) (m k d : ℕ) (s : State) (i :
   pub counts : countsIn m k u ≡ countsUpTo (s .labels) k i
 
 -- none, where both are cleared
-pub cleared : (weights coords : List Float) (m k d lc : ℕ) (w r : List Float) (u q : List ℕ) → Sized (length w) (length u) lc m k d
-    → r ≡ replicate (length (part w (k * d) (k * d + k * d - k * d))) plusZero → q ≡ replicate (length (part u m (m + k - m))) 0
-    → Gathered weights coords m k d (stateIn m k d w u) 0 (putPart w (k * d) (k * d + k * d - k * d) r) (putPart u m (m + k - m) q)
+pub cleared : (weights coords : List Float) (m k d lc : ℕ) (w w' : List Float) (u q : List ℕ) → Sized (length w) (length u) lc m k d
+    → w' ≡ putPart w (k * d) (k * d) (replicate (k * d) plusZero) → q ≡ replicate (length (part u m (m + k - m))) 0
+    → Gathered weights coords m k d (stateIn m k d w u) 0 w' (putPart u m (m + k - m) q)
 unfolding sumsUpTo countsUpTo
-cleared weights coords m k d lc w r u q z e f =
-    let n : k * d + k * d - k * d ≡ k * d = omega arith in
+cleared weights coords m k d lc w w' u q z e f =
     let p : m + k - m ≡ k = omega arith in
     let t = z .work-long in
     let h = z .marks-long in
-    let e₁ : r ≡ replicate (k * d) plusZero = e ∙ rw (n, length-part w (k * d) (k * d) (omega arith)) in
     let f₁ : q ≡ replicate k 0 = f ∙ rw (p, length-part u m k (omega arith)) in
     let zs = replicate (k * d) plusZero in
     let os : List ℕ = replicate k 0 in
     let ls : length zs ≡ k * d = length-replicate (k * d) plusZero in
     let lo : length os ≡ k = length-replicate k 0 in
-    rw (n, p, e₁, f₁) (record {
+    rw (p, e, f₁) (record {
       state = put-counts-all-state m k d (putPart w (k * d) (k * d) zs) u os lo h ∙ put-sums-all-state m k d w u zs ls t;
       sums = put-sums-all m k d w zs ls t;
       counts = put-counts-all m k u os lo h;

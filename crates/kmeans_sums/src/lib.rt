@@ -47,7 +47,7 @@ pub fn accumulate(
     ensures { λ _. ⌜ Accumulated (now (weights .entry)) (now (coords .entry)) m k d (now (work .entry)) (now (work .exit)) (now (marks .entry)) (now (marks .exit)) ⌝ }
 {
     let kd = k * d;
-    rows::fill(&mut work[kd..kd + kd], 0.0);
+    kmeans_layout::fill_at(work, kd, kd, 0.0);
     rows::fill_u32(&mut marks[m..m + k], 0);
     let mut i = 0;
     while i < m {

@@ -22,8 +22,11 @@ abbrev μ-loop : tie.MeasureT-loop
 μ-loop work₀ marks₀ weights coords m k d kd i₀ work marks i = m - i
 
 -- places, each from a later one
+abbrev fill-at-of : tie.After-fill-u32 Inv-loop μ-loop → tie.After-fill-at Inv-loop μ-loop
+fill-at-of p = p .before .before .before .before
+
 abbrev start : tie.After-fill-u32 Inv-loop μ-loop → tie.Start Inv-loop μ-loop
-start p = let q = p .before .before .before .before .before in q .before .before .before .before .before
+start p = fill-at-of p .before .before .before .before .before .before
 
 abbrev fill-u32-at : tie.At-loop Inv-loop μ-loop → tie.After-fill-u32 Inv-loop μ-loop
 fill-u32-at p = p .before .before .before
@@ -34,14 +37,14 @@ loop-at p = let q = p .before .before .before .before in q .before .before .befo
 -- where the loop begins the sums and counts are cleared
 cleared-at : (f : tie.After-fill-u32 Inv-loop μ-loop) → let a = start f .args in
     Gathered (a .weights .now) (a .coords .now) (a .m) (a .k) (a .d) (stateIn (a .m) (a .k) (a .d) (a .work .now) (a .marks .now)) 0
-    (putPart (a .work .now) (a .k * a .d) (a .k * a .d + a .k * a .d - a .k * a .d) (f .before .before .before .before .fill .last .0)) (putPart (a .marks .now) (a .m) (a .m + a .k - a .m) (f .fill-u32 .last .0))
+    (fill-at-of f .fill-at .last .0) (putPart (a .marks .now) (a .m) (a .m + a .k - a .m) (f .fill-u32 .last .0))
 unfolding ofBits
 cleared-at f =
-    let g = f .before .before .before .before in
+    let g = fill-at-of f in
     let s = start f in
     let a = s .args in
-    cleared (a .weights .now) (a .coords .now) (a .m) (a .k) (a .d) (length (a .coords .now)) (a .work .now) (g .fill .last .0) (a .marks .now) (f .fill-u32 .last .0) (s .pre .0)
-    (g .fill .ensures) (f .fill-u32 .ensures)
+    cleared (a .weights .now) (a .coords .now) (a .m) (a .k) (a .d) (length (a .coords .now)) (a .work .now) (g .fill-at .last .0)
+    (a .marks .now) (f .fill-u32 .last .0) (s .pre .0) (g .fill-at .ensures) (f .fill-u32 .ensures)
 
 loop-holds : tie.Need-loop-holds Inv-loop μ-loop
 loop-holds c =
@@ -92,11 +95,6 @@ accumulate-spec =
     (tie.spec
     Inv-loop
     μ-loop
-    (λ c. search needs)
-    (λ c. search needs)
-    (λ c. search needs)
-    (λ c. search needs)
-    (λ c. search needs)
     (λ c. search needs)
     (λ c κs. search needs)
     (λ c. search needs)
