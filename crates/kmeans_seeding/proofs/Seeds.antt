@@ -114,17 +114,19 @@ module _ (m k d : ℕ) (coords : List Float) (u : List ℕ) (c : ℕ) (s : State
       rw ea (low-turn m k d w u s (take i new) i x h lp ls f) ∙ ap (λ (r : List Float). putLow (r ++ drop (i + 1) (s .low)) s) more
 
   -- a leaf, and four leaves, whose angles are taken from the area as it is
-  pub lowering-turn : (w : List Float) (i : ℕ) (v : Float) → i < m → v ≡ angleOf (rowOf coords d i) (rowOf (stateIn m k d w u .centers) d c)
-      → stateIn m k d w u ≡ lowering coords d c i s → stateIn m k d (lowerAt w (lowAt m k d + i) v) u ≡ lowering coords d c (i + 1) s
+  pub lowering-turn : (w : List Float) (low i : ℕ) (v : Float) → low ≡ lowAt m k d → i < m
+      → v ≡ angleOf (rowOf coords d i) (rowOf (stateIn m k d w u .centers) d c)
+      → stateIn m k d w u ≡ lowering coords d c i s → stateIn m k d (lowerAt w (low + i) v) u ≡ lowering coords d c (i + 1) s
   unfolding putLow
-  lowering-turn w i v h e f =
-      lowering-next w i (lowAt m k d + i) v h refl (e ∙ ap (λ (t : State). angleOf (rowOf coords d i) (rowOf (t .centers) d c)) f) f
+  lowering-turn w low i v el h e f =
+      lowering-next w i (low + i) v h (omega arith) (e ∙ ap (λ (t : State). angleOf (rowOf coords d i) (rowOf (t .centers) d c)) f) f
 
-  pub lowering-four : (w : List Float) (i : ℕ) (f : Four) → i + 4 ≤ m → f ≡ fourAngles coords d (rowOf (stateIn m k d w u .centers) d c) i
-      → stateIn m k d w u ≡ lowering coords d c i s → stateIn m k d (lowerFour w (lowAt m k d + i) f) u ≡ lowering coords d c (i + 4) s
+  pub lowering-four : (w : List Float) (low i : ℕ) (f : Four) → low ≡ lowAt m k d → i + 4 ≤ m
+      → f ≡ fourAngles coords d (rowOf (stateIn m k d w u .centers) d c) i
+      → stateIn m k d w u ≡ lowering coords d c i s → stateIn m k d (lowerFour w (low + i) f) u ≡ lowering coords d c (i + 4) s
   unfolding putLow
-  lowering-four w i f h e g =
-      let at = lowAt m k d + i in
+  lowering-four w low i f el h e g =
+      let at = low + i in
       let e' : f ≡ fourAngles coords d (rowOf (s .centers) d c) i = e ∙ ap (λ (t : State). fourAngles coords d (rowOf (t .centers) d c) i) g in
       let p₂ : i + 1 + 1 ≡ i + 2 = omega arith in
       let p₃ : i + 2 + 1 ≡ i + 3 = omega arith in
@@ -132,7 +134,7 @@ module _ (m k d : ℕ) (coords : List Float) (u : List ℕ) (c : ℕ) (s : State
       let w₁ = lowerAt w at (f .a) in
       let w₂ = lowerAt w₁ (at + 1) (f .b) in
       let w₃ = lowerAt w₂ (at + 2) (f .c) in
-      let t₁ = lowering-next w i at (f .a) (omega arith) refl (ap (λ (v : Four). v .a) e') g in
+      let t₁ = lowering-next w i at (f .a) (omega arith) (omega arith) (ap (λ (v : Four). v .a) e') g in
       let t₂ = lowering-next w₁ (i + 1) (at + 1) (f .b) (omega arith) (omega arith) (ap (λ (v : Four). v .b) e') t₁ ∙ ap (λ (n : ℕ). lowering coords d c n s) p₂ in
       let t₃ = lowering-next w₂ (i + 2) (at + 2) (f .c) (omega arith) (omega arith) (ap (λ (v : Four). v .c) e') t₂ ∙ ap (λ (n : ℕ). lowering coords d c n s) p₃ in
       lowering-next w₃ (i + 3) (at + 3) (f .e) (omega arith) (omega arith) (ap (λ (v : Four). v .e) e') t₃ ∙ ap (λ (n : ℕ). lowering coords d c n s) p₄
@@ -166,15 +168,16 @@ lowered-inf coords d row i (suc n) =
     rw (nearer-inf (sub binary64 (number 1) (dotOf (rowOf coords d i) row)))
     (sym (append-assoc (anglesUpTo coords d row i) (a ∷ []) (lowered coords d row (suc i) (replicate n (inf false)))) ∙ lowered-inf coords d row (suc i) n ∙ ap (anglesUpTo coords d row) p)
 
-pub first-done : (m k d : ℕ) (w w₁ w₂ coords : List Float) (u : List ℕ) → total m k d ≤ length w → w₁ ≡ putPart w (lowAt m k d) m (replicate m (inf false))
+pub first-done : (m k d low : ℕ) (w w₁ w₂ coords : List Float) (u : List ℕ) → low ≡ lowAt m k d → total m k d ≤ length w
+    → w₁ ≡ putPart w low m (replicate m (inf false))
     → stateIn m k d w₂ u ≡ putLow (lowered coords d (rowOf (stateIn m k d w₁ u .centers) d 0) 0 (stateIn m k d w₁ u .low)) (stateIn m k d w₁ u)
     → stateIn m k d w₂ u ≡ putLow (anglesUpTo coords d (rowOf (stateIn m k d w u .centers) d 0) m) (stateIn m k d w u)
 unfolding putLow anglesUpTo
-first-done m k d w w₁ w₂ coords u t e f =
+first-done m k d low w w₁ w₂ coords u el t e f =
     let s = stateIn m k d w u in
     let far = replicate m (inf false) in
     let p : 0 + m ≡ m = omega arith in
-    let s₁ : stateIn m k d w₁ u ≡ withLow far s = rw e (put-low-all m k d w u far (length-replicate m (inf false)) t) in
+    let s₁ : stateIn m k d w₁ u ≡ withLow far s = rw (e, el) (put-low-all m k d w u far (length-replicate m (inf false)) t) in
     f ∙ ap (λ (x : State). putLow (lowered coords d (rowOf (x .centers) d 0) 0 (x .low)) x) s₁
     ∙ ap (λ (x : List Float). putLow x s) (lowered-inf coords d (rowOf (s .centers) d 0) 0 m ∙ ap (anglesUpTo coords d (rowOf (s .centers) d 0)) p)
 
@@ -201,19 +204,20 @@ unfolding putHigh
 chancing-start weights s = refl
 
 module _ (m k d : ℕ) (w₀ weights : List Float) (u : List ℕ) (long : total m k d ≤ length w₀) (lw : length weights ≡ m) where
-  pub chancing-turn : (w : List Float) (i : ℕ) (x : Float) → i < m → x ≡ mul binary64 (getD weights i nan) (getD w (lowAt m k d + i) nan)
-      → stateIn m k d w u ≡ chancing weights i (stateIn m k d w₀ u) → stateIn m k d (set w (highAt m k d + i) x) u ≡ chancing weights (i + 1) (stateIn m k d w₀ u)
+  pub chancing-turn : (w : List Float) (low high i : ℕ) (x : Float) → low ≡ lowAt m k d → high ≡ highAt m k d → i < m
+      → x ≡ mul binary64 (getD weights i nan) (getD w (low + i) nan) → stateIn m k d w u ≡ chancing weights i (stateIn m k d w₀ u)
+      → stateIn m k d (set w (high + i) x) u ≡ chancing weights (i + 1) (stateIn m k d w₀ u)
   unfolding putHigh
-  chancing-turn w i x h ex f =
+  chancing-turn w low high i x el eh h ex f =
       let s = stateIn m k d w₀ u in
       let new = chances weights (s .low) in
       let ls : length (s .low) ≡ m = length-low m k d w₀ u long in
       let ln : length new ≡ m = chances-length weights (s .low) (omega arith) ∙ ls in
       let lp : length (take i new) ≡ i = length-take-le i new (omega arith) in
-      let y : getD w (lowAt m k d + i) nan ≡ getD (s .low) i nan = get-low m k d w u i nan h ∙ ap (λ (t : State). getD (t .low) i nan) f in
+      let y : getD w (low + i) nan ≡ getD (s .low) i nan = rw el (get-low m k d w u i nan h ∙ ap (λ (t : State). getD (t .low) i nan) f) in
       let at : x ≡ getD new i nan = ex ∙ rw y (sym (chances-at weights (s .low) i (omega arith) (omega arith))) in
       let more : take i new ++ (x ∷ []) ≡ take (i + 1) new = rw (add-one, at) (sym (take-suc new i nan (omega arith))) in
-      high-turn m k d w u s (take i new) i x h lp (length-high m k d w₀ u long) f ∙ ap (λ (r : List Float). putHigh (r ++ drop (i + 1) (s .high)) s) more
+      rw eh (high-turn m k d w u s (take i new) i x h lp (length-high m k d w₀ u long) f) ∙ ap (λ (r : List Float). putHigh (r ++ drop (i + 1) (s .high)) s) more
 
   pub chancing-end : (w : List Float) (i : ℕ) → i ≡ m → stateIn m k d w u ≡ chancing weights i (stateIn m k d w₀ u)
       → stateIn m k d w u ≡ putHigh (chances weights (stateIn m k d w₀ u .low)) (stateIn m k d w₀ u)
@@ -247,13 +251,13 @@ index-below weights state s m h lw ls =
 
 module _ (m k d : ℕ) (w w₁ weights : List Float) (u : List ℕ) (state : ℕ) (p : Picked) (t : total m k d ≤ length w)
     (lw : length weights ≡ m) (e₁ : stateIn m k d w₁ u ≡ putHigh (chances weights (stateIn m k d w u .low)) (stateIn m k d w u))
-    (ep : p ≡ pickOf (take (highAt m k d + m - highAt m k d) (drop (highAt m k d) w₁)) state) where
+    (high : ℕ) (eh : high ≡ highAt m k d) (ep : p ≡ pickOf (take (high + m - high) (drop high w₁)) state) where
   next-is : p ≡ nextPick weights state (stateIn m k d w u)
   unfolding putHigh
   next-is =
-      let f : highAt m k d + m - highAt m k d ≡ m = omega arith in
-      let g : take (highAt m k d + m - highAt m k d) (drop (highAt m k d) w₁) ≡ chances weights (stateIn m k d w u .low) =
-      rw f (high-are m k d w₁ u ∙ ap (λ (x : State). x .high) e₁) in
+      let f : high + m - high ≡ m = omega arith in
+      let g : take (high + m - high) (drop high w₁) ≡ chances weights (stateIn m k d w u .low) =
+      rw (f, eh) (high-are m k d w₁ u ∙ ap (λ (x : State). x .high) e₁) in
       ep ∙ ap (λ (x : List Float). pickOf x state) g
 
   pub next-below : 0 < m → p .index < m

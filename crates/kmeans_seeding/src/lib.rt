@@ -83,8 +83,7 @@ fn lower_distances(work: &mut [f64], coords: &[f64], c: usize, m: usize, k: usiz
     ensures { λ _. ⌜ ((u : List ℕ) → stateIn m k d (now (work .exit)) u
         ≡ putLow (lowered (now (coords .entry)) d (rowOf (stateIn m k d (now (work .entry)) u .centers) d c) 0 (stateIn m k d (now (work .entry)) u .low)) (stateIn m k d (now (work .entry)) u)) ⌝ }
 {
-    let kd = k * d;
-    let low = kd + kd + m;
+    let low = kmeans_layout::low_at(m, k, d);
     let mut i = 0;
     while 4 <= m - i {
         let f = four_angles(work, coords, c, i, m, k, d);
@@ -104,8 +103,8 @@ fn first_distances(work: &mut [f64], coords: &[f64], m: usize, k: usize, d: usiz
     ensures { λ _. ⌜ ((u : List ℕ) → stateIn m k d (now (work .exit)) u
         ≡ putLow (anglesUpTo (now (coords .entry)) d (rowOf (stateIn m k d (now (work .entry)) u .centers) d 0) m) (stateIn m k d (now (work .entry)) u)) ⌝ }
 {
-    let kd = k * d;
-    kmeans_layout::fill_at(work, kd + kd + m, m, 1.0 / 0.0);
+    let low = kmeans_layout::low_at(m, k, d);
+    kmeans_layout::fill_at(work, low, m, 1.0 / 0.0);
     lower_distances(work, coords, 0, m, k, d);
 }
 
@@ -115,9 +114,8 @@ fn put_chances(work: &mut [f64], weights: &[f64], m: usize, k: usize, d: usize)
     ensures { λ _. ⌜ ((u : List ℕ) → stateIn m k d (now (work .exit)) u
         ≡ putHigh (chances (now (weights .entry)) (stateIn m k d (now (work .entry)) u .low)) (stateIn m k d (now (work .entry)) u)) ⌝ }
 {
-    let kd = k * d;
-    let low = kd + kd + m;
-    let high = low + m;
+    let low = kmeans_layout::low_at(m, k, d);
+    let high = kmeans_layout::high_at(m, k, d);
     let mut i = 0;
     while i < m {
         work[high + i] = weights[i] * work[low + i];
@@ -153,8 +151,7 @@ fn seed_next(
     ensures { λ r. ⌜ ((u : List ℕ) → SeededNext (now (weights .entry)) (now (coords .entry)) d c state (stateIn m k d (now (work .entry)) u) (stateIn m k d (now (work .exit)) u) r) ⌝ }
 {
     put_chances(work, weights, m, k, d);
-    let kd = k * d;
-    let high = kd + kd + m + m;
+    let high = kmeans_layout::high_at(m, k, d);
     let s = &work[..];
     let p = pick::weighted_pick(&s[high..high + m], state);
     let i = p.index;
