@@ -24,18 +24,19 @@ unfolding emptyUpTo
 empty-turn m k u c b h e = rw (add-one, e, get-counts m k u c 0 h)
 
 -- a leaf served by the centre of its label
-pub serve-done : (coords : List Float) (i m k d : ℕ) (w : List Float) (u : List ℕ) (v : Float) → i < m → getD u i 0 < k
+pub serve-done : (coords : List Float) (i m k d : ℕ) (w : List Float) (u : List ℕ) (served : ℕ) (v : Float) → served ≡ servedAt m k d
+    → i < m → getD u i 0 < k
     → v ≡ dotOf (part coords (i * d) (i * d + d - i * d)) (part w (getD u i 0 * d) (getD u i 0 * d + d - getD u i 0 * d))
-    → stateIn m k d (set w (servedAt m k d + i) v) u ≡ serveLeaf coords d i (stateIn m k d w u)
+    → stateIn m k d (set w (served + i) v) u ≡ serveLeaf coords d i (stateIn m k d w u)
 unfolding putServed
-serve-done coords i m k d w u v h b e =
+serve-done coords i m k d w u served v place h b e =
     let c = getD u i 0 in
     let f : i * d + d - i * d ≡ d = omega arith in
     let g : c * d + d - c * d ≡ d = omega arith in
     let s = stateIn m k d w u in
     let e₁ : v ≡ dotOf (rowOf coords d i) (rowOf (s .centers) d (getD (s .labels) i 0)) =
     e ∙ rw (f, g, row-centers m k d w u c b) (ap (λ (x : ℕ). dotOf (rowOf coords d i) (rowOf (s .centers) d x)) (get-labels m k d w u i 0 h)) in
-    rw e₁ (set-served m k d w u i _ h)
+    rw (place, e₁) (set-served m k d w u i _ h)
 
 module _ (coords : List Float) (d : ℕ) (s : State) where
   length-served-up : (i : ℕ) → length (servedUpTo coords d s i) ≡ i

@@ -24,7 +24,7 @@ use Rattle.kmeans_update.specs.Update.{updateGroup, updateUpTo}
 use Rattle.kmeans_sums.specs.Sums.{centerBy}
 use Rattle.kmeans_layout.specs.Areas.{stateIn, sumsIn, countsIn, total, sumsAt, servedAt, driftAt, LeafOf, GroupOf}
 use Rattle.kmeans_update.specs.Groups.{LaterRows}
-use Rattle.kmeans_layout.proofs.Regions.{withCenters, set-drift, set-drift-sums, row-centers, row-sums, put-row-centers, put-row-centers-sums}
+use Rattle.kmeans_layout.proofs.Regions.{withCenters, withDrift, set-drift, set-drift-sums, row-centers, row-sums, put-row-centers, put-row-centers-sums}
 use Rattle.kmeans_layout.proofs.Regions.{put-row-sums, put-row-sums-state, length-sums, served-are, set-served, set-served-sums, get-counts}
 use Rattle.kmeans_layout.proofs.Sizes.{leaf-of}
 
@@ -33,15 +33,22 @@ put-before : (l : List Float) (at n p : ℕ) (v : List Float) → length v ≡ n
 put-before l at n p v e h g = rw (← e) (drop-put l at p v (omega arith) g)
 
 -- centre c moved to the row in its place among the sums, and centre c kept
-module _ (m k d : ℕ) (w : List Float) (c : ℕ) (v : Float) (group : GroupOf c k d) (long : total m k d ≤ length w) where
+module _ (m k d : ℕ) (w : List Float) (c : ℕ) (v : Float) (group : GroupOf c k d) (long : total m k d ≤ length w)
+    (drift : ℕ) (place : drift ≡ driftAt m k d) where
   abbrev drifted : List Float
-  drifted = set w (driftAt m k d + c) v
+  drifted = set w (drift + c) v
+
+  drift-state : (u : List ℕ) → stateIn m k d drifted u ≡ withDrift (set (stateIn m k d w u .drift) c v) (stateIn m k d w u)
+  drift-state u = rw place (set-drift m k d w u c v (group .below))
+
+  pub drift-sums : sumsIn k d drifted ≡ sumsIn k d w
+  drift-sums = rw place (set-drift-sums m k d w c v (group .below))
 
   length-row : length (rowOf (sumsIn k d w) d c) ≡ d
   length-row = length-part (sumsIn k d w) (c * d) d (omega (arith, length-sums m k d w long, group .row))
 
   row-kept : part drifted (sumsAt m k d + c * d) d ≡ rowOf (sumsIn k d w) d c
-  row-kept = row-sums m k d drifted c (group .below) ∙ ap (λ (l : List Float). rowOf l d c) (set-drift-sums m k d w c v (group .below))
+  row-kept = row-sums m k d drifted c (group .below) ∙ ap (λ (l : List Float). rowOf l d c) drift-sums
 
   module _ (w' : List Float) (put : w' ≡ putPart drifted (c * d) d (part drifted (sumsAt m k d + c * d) d)) where
     put-row : w' ≡ putPart drifted (c * d) d (rowOf (sumsIn k d w) d c)
@@ -51,7 +58,7 @@ module _ (m k d : ℕ) (w : List Float) (c : ℕ) (v : Float) (group : GroupOf c
     move-sums =
         ap (λ (l : List Float). sumsIn k d l) put-row
         ∙ put-row-centers-sums m k d drifted c (rowOf (sumsIn k d w) d c) length-row (group .below) (rw length-set long)
-        ∙ set-drift-sums m k d w c v (group .below)
+        ∙ drift-sums
 
     pub move-done : v ≡ cosine (dotOf (part w (c * d) d) (part w (k * d + c * d) d))
         → (u : List ℕ) → stateIn m k d w' u ≡ moveCenter d c (rowOf (sumsIn k d w) d c) (stateIn m k d w u)
@@ -62,10 +69,7 @@ module _ (m k d : ℕ) (w : List Float) (c : ℕ) (v : Float) (group : GroupOf c
         let ev : v ≡ cosine (dotOf (rowOf (s .centers) d c) r) = e ∙ rw (row-centers m k d w u c (group .below), row-sums m k d w c (group .below)) in
         let e₁ : stateIn m k d w' u ≡ withCenters (putPart (stateIn m k d drifted u .centers) (c * d) d r) (stateIn m k d drifted u) =
         rw put-row (put-row-centers m k d drifted u c r length-row (group .below) (rw length-set long)) in
-        e₁ ∙ rw (set-drift m k d w u c v (group .below), ← ev)
-
-  pub keep-sums : sumsIn k d drifted ≡ sumsIn k d w
-  keep-sums = set-drift-sums m k d w c v (group .below)
+        e₁ ∙ rw (drift-state u, ← ev)
 
   pub keep-done : v ≡ cosine (dotOf (part w (c * d) d) (part w (c * d) d))
       → (u : List ℕ) → stateIn m k d drifted u ≡ moveCenter d c (rowOf (stateIn m k d w u .centers) d c) (stateIn m k d w u)
@@ -73,7 +77,7 @@ module _ (m k d : ℕ) (w : List Float) (c : ℕ) (v : Float) (group : GroupOf c
   keep-done e u =
       let s = stateIn m k d w u in
       let ev : v ≡ cosine (dotOf (rowOf (s .centers) d c) (rowOf (s .centers) d c)) = e ∙ rw (row-centers m k d w u c (group .below)) in
-      set-drift m k d w u c v (group .below) ∙ rw (put-same (s .centers) (c * d) d, ← ev)
+      drift-state u ∙ rw (put-same (s .centers) (c * d) d, ← ev)
 
 -- a row r written in the place of row c of the sums
 module _ (m k d : ℕ) (w : List Float) (c : ℕ) (r : List Float) (group : GroupOf c k d) (long : total m k d ≤ length w) (full : length r ≡ d) where
@@ -136,9 +140,10 @@ module _ (m k d : ℕ) (w : List Float) (c : ℕ) (group : GroupOf c k d) (long 
         f ∙ rw (← q, t)
 
 -- the worst-served leaf
-module _ (m k d : ℕ) (w : List Float) (worst : ℕ) (is : worst ≡ argminOf (take (servedAt m k d + m - servedAt m k d) (drop (servedAt m k d) w))) where
+module _ (m k d : ℕ) (w : List Float) (worst served : ℕ) (place : served ≡ servedAt m k d)
+    (is : worst ≡ argminOf (take (served + m - served) (drop served w))) where
   worst-part : worst ≡ argminOf (part w (servedAt m k d) m)
-  worst-part = let f : servedAt m k d + m - servedAt m k d ≡ m = omega arith in rw f at is
+  worst-part = let f : served + m - served ≡ m = omega arith in rw (f, place) at is
 
   worst-is : (u : List ℕ) → worst ≡ argminOf (stateIn m k d w u .served)
   worst-is u = worst-part ∙ ap argminOf (served-are m k d w u)
@@ -150,21 +155,22 @@ module _ (m k d : ℕ) (w : List Float) (worst : ℕ) (is : worst ≡ argminOf (
 
 -- group c reseeded from the worst-served leaf
 module _ (m k d : ℕ) (coords w : List Float) (c worst : ℕ) (r w' : List Float) (group : GroupOf c k d) (some : 0 < m)
-    (long : total m k d ≤ length w) (full : length r ≡ d)
-    (is : worst ≡ argminOf (take (servedAt m k d + m - servedAt m k d) (drop (servedAt m k d) w))) where
+    (long : total m k d ≤ length w) (full : length r ≡ d) (served : ℕ) (place : served ≡ servedAt m k d)
+    (is : worst ≡ argminOf (take (served + m - served) (drop served w))) where
   abbrev marked : List Float
-  marked = set (written m k d w c r group long full) (servedAt m k d + worst) bestServed
+  marked = set (written m k d w c r group long full) (served + worst) bestServed
 
   below : worst < m
-  below = worst-leaf m k d w worst is some long .below
+  below = worst-leaf m k d w worst served place is some long .below
 
   marked-sums : sumsIn k d marked ≡ sumsIn k d (written m k d w c r group long full)
-  marked-sums = set-served-sums m k d (written m k d w c r group long full) worst bestServed below
+  marked-sums = rw place (set-served-sums m k d (written m k d w c r group long full) worst bestServed below)
 
   marked-state : (u : List ℕ) → stateIn m k d marked u ≡ putServed (set (stateIn m k d w u .served) worst bestServed) (stateIn m k d w u)
   unfolding putServed
   marked-state u =
-      set-served m k d (written m k d w c r group long full) u worst bestServed below ∙ rw (written-state m k d w c r group long full u)
+      rw place
+      (set-served m k d (written m k d w c r group long full) u worst bestServed below ∙ rw (written-state m k d w c r group long full u))
 
   pub reseed-done : r ≡ unitVector (take (worst * d + d - worst * d) (drop (worst * d) coords))
       → ((u : List ℕ) → stateIn m k d w' u ≡ moveCenter d c (rowOf (sumsIn k d marked) d c) (stateIn m k d marked u))
@@ -174,7 +180,7 @@ module _ (m k d : ℕ) (coords w : List Float) (c worst : ℕ) (r w' : List Floa
       let unit' : r ≡ unitVector (rowOf coords d worst) = unit ∙ rw f in
       let here : stateIn m k d w' u ≡ reseeded coords d c worst (stateIn m k d w u) =
       move u ∙ rw (marked-sums, written-row m k d w c r group long full, marked-state u, unit') in
-      here ∙ ap (λ (i : ℕ). reseeded coords d c i (stateIn m k d w u)) (worst-is m k d w worst is u)
+      here ∙ ap (λ (i : ℕ). reseeded coords d c i (stateIn m k d w u)) (worst-is m k d w worst served place is u)
 
   pub reseed-later : sumsIn k d w' ≡ sumsIn k d marked → LaterRows c k d w w'
   reseed-later e = later-of m k d w c r group long full w' (e ∙ marked-sums)

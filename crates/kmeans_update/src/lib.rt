@@ -44,13 +44,12 @@ fn refresh_leaf(
     ensures { λ _. ⌜ stateIn m k d (now (work .exit)) (now (marks .entry)) ≡ serveLeaf (now (coords .entry)) d i (stateIn m k d (now (work .entry)) (now (marks .entry))) ⌝ }
     ensures { λ _. ⌜ sumsIn k d (now (work .exit)) ≡ sumsIn k d (now (work .entry)) ⌝ }
 {
-    let kd = k * d;
+    let served = kmeans_layout::served_at(m, k, d);
     let c = marks[i] as usize;
     let at = i * d;
     let row = c * d;
     let s = &work[..];
     let v = vector::dot(&coords[at..at + d], &s[row..row + d]);
-    let served = kd + kd + m + m + m;
     work[served + i] = v;
 }
 
@@ -89,8 +88,8 @@ fn move_center(work: &mut [f64], c: usize, m: usize, k: usize, d: usize)
     let kd = k * d;
     let to = c * d;
     let from = kd + to;
+    let drift = kmeans_layout::drift_at(m, k, d);
     let v = turned(work, to, from, d);
-    let drift = kd + kd + m + m + m + m;
     work[drift + c] = v;
     rows::copy_within(work, from, to, d);
 }
@@ -102,10 +101,9 @@ fn keep_center(work: &mut [f64], c: usize, m: usize, k: usize, d: usize)
     ensures { λ _. ⌜ ((u : List ℕ) → stateIn m k d (now (work .exit)) u ≡ moveCenter d c (rowOf (stateIn m k d (now (work .entry)) u .centers) d c) (stateIn m k d (now (work .entry)) u)) ⌝ }
     ensures { λ _. ⌜ sumsIn k d (now (work .exit)) ≡ sumsIn k d (now (work .entry)) ⌝ }
 {
-    let kd = k * d;
     let at = c * d;
+    let drift = kmeans_layout::drift_at(m, k, d);
     let v = turned(work, at, at, d);
-    let drift = kd + kd + m + m + m + m;
     work[drift + c] = v;
 }
 
@@ -138,11 +136,11 @@ fn reseed(work: &mut [f64], coords: &[f64], c: usize, m: usize, k: usize, d: usi
         (stateIn m k d (now (work .entry)) u)) ⌝ }
     ensures { λ _. ⌜ LaterRows c k d (now (work .entry)) (now (work .exit)) ⌝ }
 {
-    let kd = k * d;
-    let served = kd + kd + m + m + m;
+    let served = kmeans_layout::served_at(m, k, d);
     let s = &work[..];
     let worst = pick::argmin(&s[served..served + m]);
     let row = worst * d;
+    let kd = k * d;
     let from = kd + c * d;
     vector::unit(&mut work[from..from + d], &coords[row..row + d]);
     work[served + worst] = 1.0 / 0.0;
