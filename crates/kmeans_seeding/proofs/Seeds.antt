@@ -21,7 +21,7 @@ use Rattle.pick.specs.Pick.{pickOf}
 use Rattle.pick.specs.declared.Picked.{Picked}
 use Rattle.vector.proofs.Vectors.{dot-comm, unit-length}
 use Rattle.pick.proofs.Places.{pick-below}
-use Rattle.kmeans_nearest.specs.Nearest.{rowDots}
+use Rattle.kmeans_nearest.specs.Fours.{rowDots}
 use Rattle.kmeans_layout.specs.State.{State}
 use Rattle.kmeans_seeding.specs.Seeding.{angleOf, anglesUpTo, lowered, chances, seedsUpTo, seedsOf}
 use Rattle.kmeans_layout.specs.Areas.{Area, stateIn, total, lowAt, highAt}
