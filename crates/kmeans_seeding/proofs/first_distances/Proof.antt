@@ -1,4 +1,5 @@
--- `kmeans_seeding::first_distances` meets its contract: infinite distances, lowered where the first centre is nearer, are the distances from it. Assumes nothing.
+-- `kmeans_seeding::first_distances` meets its contract: infinite distances, lowered where the first centre is nearer, are the distances
+-- from it. Assumes nothing.
 use lib.ListN.{length}
 use lib.Ieee.{div, ofBits}
 use Rattle.kmeans_layout.proofs.Sizes.{group-of}
@@ -13,7 +14,8 @@ lower-distances-requires c κs =
     let f = c .before .before .before in
     let b = f .before .before .before .before .before in
     let a = b .args in (
-      (area-kept (length (a .work .now)) (length (f .fill-at .last .0)) (a .m) (a .k) (a .d) (f .fill-at .kept .0) (b .pre .0), b .pre .1, b .pre .2),
+      (area-kept (length (a .work .now)) (length (f .fill-at .last .0)) (a .m) (a .k) (a .d) (f .fill-at .kept .0) (b .pre .0), b .pre .1,
+          b .pre .2),
       group-of 0 (a .k) (a .d) (b .pre .3),
     )
 

@@ -1,5 +1,5 @@
--- `kmeans_seeding::lower_distances` meets its contract. The invariant of both loops: where the leaves before the loop's first are lowered, those before i are, the others as they
--- were. Assumes nothing.
+-- `kmeans_seeding::lower_distances` meets its contract. The invariant of both loops: where the leaves before the loop's first are lowered,
+-- those before i are, the others as they were. Assumes nothing.
 use mathlib.Core.Path.{_≡_, refl, _∙_}
 use Prim.Native.Nat.{_+_, _≤_, _-_}
 use native.Mathlib.Nat.{mul-le-mul-right}
@@ -39,8 +39,8 @@ loop-of p = p .before .before
 loop-holds : tie.Need-loop-holds Inv-loop μ-loop Inv-loop2 μ-loop2
 loop-holds c = (search needs, refl, λ u s h e. e)
 
-four-angles-requires : tie.Need-four-angles-requires Inv-loop μ-loop Inv-loop2 μ-loop2
-four-angles-requires c κs =
+four-cosine-distances-requires : tie.Need-four-cosine-distances-requires Inv-loop μ-loop Inv-loop2 μ-loop2
+four-cosine-distances-requires c κs =
     let q = c .before .before in
     let l = q .loop in
     let b = start (low-of q) in
@@ -61,15 +61,16 @@ loop-again c =
       h,
       c .before .before .lower-four .kept .0 ∙ l .inv .1,
       λ u s g e. rw (c .before .before .lower-four .ensures)
-          (lowering-four (a .m) (a .k) (a .d) (a .coords .now) u (a .c) s g (l .work) (p .result) (l .i) (f .four-angles .result) (p .ensures) h
-          (f .four-angles .ensures u) (l .inv .2 u s g e)),
+          (lowering-four (a .m) (a .k) (a .d) (a .coords .now) u (a .c) s g (l .work) (p .result) (l .i) (f .four-cosine-distances .result)
+          (p .ensures) h
+          (f .four-cosine-distances .ensures u) (l .inv .2 u s g e)),
     )
 
 loop2-holds : tie.Need-loop2-holds Inv-loop μ-loop Inv-loop2 μ-loop2
 loop2-holds c = (c .before .loop .inv .0, refl, λ u s h e. e)
 
-angle-requires : tie.Need-angle-requires Inv-loop μ-loop Inv-loop2 μ-loop2
-angle-requires c κs =
+cosine-distance-requires : tie.Need-cosine-distance-requires Inv-loop μ-loop Inv-loop2 μ-loop2
+cosine-distance-requires c κs =
     let q = c .before .before in
     let l = q .loop2 in
     let b = start (low-of (loop-of q)) in
@@ -89,8 +90,9 @@ loop2-again c =
       omega arith,
       c .before .before .lower-at .kept .0 ∙ l .inv .1,
       λ u s g e. rw (c .before .before .lower-at .ensures)
-          (lowering-turn (a .m) (a .k) (a .d) (a .coords .now) u (a .c) s g (l .work) (p .result) (l .i) (f .angle .result) (p .ensures) (omega arith)
-          (f .angle .ensures u) (l .inv .2 u s g e)),
+          (lowering-turn (a .m) (a .k) (a .d) (a .coords .now) u (a .c) s g (l .work) (p .result) (l .i) (f .cosine-distance .result)
+          (p .ensures) (omega arith)
+          (f .cosine-distance .ensures u) (l .inv .2 u s g e)),
     )
 
 returns : tie.Need-returns Inv-loop μ-loop Inv-loop2 μ-loop2
@@ -115,14 +117,14 @@ lower-distances-spec =
     (λ c κs. search needs)
     loop-holds
     (λ c. search needs)
-    four-angles-requires
+    four-cosine-distances-requires
     (λ c. search needs)
     (λ c κs. search needs)
     (λ c. search needs)
     (λ c. search needs)
     loop-again
     loop2-holds
-    angle-requires
+    cosine-distance-requires
     (λ c. search needs)
     (λ c κs. search needs)
     (λ c. search needs)

@@ -1,4 +1,5 @@
--- `kmeans_seeding::put_chances` meets its contract. The loop's invariant: the upper bounds are the chances of the first i leaves, then what they were. Assumes nothing.
+-- `kmeans_seeding::put_chances` meets its contract. The loop's invariant: the upper bounds are the chances of the first i leaves, then what
+-- they were. Assumes nothing.
 use mathlib.Core.Path.{_≡_, refl}
 use mathlib.Core.List.{List}
 use Prim.Native.Nat.{ℕ, _≤_, _-_}
@@ -11,7 +12,8 @@ use Rattle.kmeans_seeding.proofs.put_chances.Statement.{statement}
 use Rattle.kmeans_seeding.proofs.put_chances.Tie as tie
 
 abbrev Inv-loop : tie.InvT-loop
-Inv-loop work₀ weights m k d low high i₀ work i = (i ≤ m) × (length work ≡ length work₀) × ((u : List ℕ) → stateIn m k d work u ≡ chancing weights i (stateIn m k d work₀ u))
+Inv-loop work₀ weights m k d low high i₀ work i =
+    (i ≤ m) × (length work ≡ length work₀) × ((u : List ℕ) → stateIn m k d work u ≡ chancing weights i (stateIn m k d work₀ u))
 
 abbrev μ-loop : tie.MeasureT-loop
 μ-loop work₀ weights m k d low high i₀ work i = m - i

@@ -1,5 +1,5 @@
--- `kmeans_seeding::seed_next` meets its contract: the chances are written, picked from, and the leaf picked becomes the centre, which lowers the distances. The place
--- picked is one of the m leaves. Assumes nothing.
+-- `kmeans_seeding::seed_next` meets its contract: the chances are written, picked from, and the leaf picked becomes the centre, which
+-- lowers the distances. The place picked is one of the m leaves. Assumes nothing.
 use mathlib.Core.List.{[]}
 use lib.ListN.{length}
 use Rattle.kmeans_layout.proofs.Sizes.{leaf-of}
@@ -16,13 +16,15 @@ seed-center-requires c κs =
     let b = h .before .before .before .before .before in
     let a = b .args in
     let s = b .pre .0 in
-    let below = next-below (a .m) (a .k) (a .d) (a .work .now) (h .put-chances .last .0) (a .weights .now) [] (a .state) (q .weighted-pick .result) (s .work-long) (s .weights-long)
+    let below = next-below (a .m) (a .k) (a .d) (a .work .now) (h .put-chances .last .0) (a .weights .now) [] (a .generator)
+    (q .weighted-pick .result) (s .work-long) (s .weights-long)
     (h .put-chances .ensures [])
     (p .result)
     (p .ensures)
     (q .weighted-pick .ensures)
     (s .sizes .m-some) in (
-      (seeding-area (length (a .work .now)) _ (length (a .weights .now)) (length (a .coords .now)) (a .m) (a .k) (a .d) (h .put-chances .kept .0) s, s .coords-long, s .sizes .md-small),
+      (seeding-area (length (a .work .now)) _ (length (a .weights .now)) (length (a .coords .now)) (a .m) (a .k) (a .d)
+          (h .put-chances .kept .0) s, s .coords-long, s .sizes .md-small),
       (leaf-of (q .weighted-pick .result .index) (a .m) (a .d) below, b .pre .1),
     )
 
@@ -36,7 +38,8 @@ returns c =
     let b = h .before .before .before .before .before in
     let a = b .args in
     let s = b .pre .0 in
-    λ u. next-done (a .m) (a .k) (a .d) (a .work .now) (h .put-chances .last .0) (a .weights .now) u (a .state) (q .weighted-pick .result) (s .work-long) (s .weights-long)
+    λ u. next-done (a .m) (a .k) (a .d) (a .work .now) (h .put-chances .last .0) (a .weights .now) u (a .generator)
+    (q .weighted-pick .result) (s .work-long) (s .weights-long)
     (h .put-chances .ensures u)
     (p .result)
     (p .ensures)
