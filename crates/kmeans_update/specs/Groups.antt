@@ -1,7 +1,7 @@
 -- What the functions of the update ask and promise one another, group by group. No definition of document 01 stands on this file.
 use mathlib.Core.Path.{_≡_}
 use mathlib.Core.List.{List}
-use Prim.Native.Nat.{ℕ, _*_, _≤_, _<_}
+use Prim.Native.Nat.{ℕ, _*_, _<_}
 use lib.ListN.{getD, set}
 use lib.Ieee.{Float}
 use Rattle.rows.specs.Rows.{rowOf}

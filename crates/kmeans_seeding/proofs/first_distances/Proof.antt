@@ -14,8 +14,11 @@ lower-distances-requires c κs =
     let f = c .before .before .before in
     let b = f .before .before .before .before .before in
     let a = b .args in (
-      (area-kept (length (a .work .now)) (length (f .fill-at .last .0)) (a .m) (a .k) (a .d) (f .fill-at .kept .0) (b .pre .0), b .pre .1,
-          b .pre .2),
+      (
+        area-kept (length (a .work .now)) (length (f .fill-at .last .0)) (a .m) (a .k) (a .d) (f .fill-at .kept .0) (b .pre .0),
+        b .pre .1,
+        b .pre .2,
+      ),
       group-of 0 (a .k) (a .d) (b .pre .3),
     )
 

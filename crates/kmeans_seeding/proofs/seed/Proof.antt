@@ -28,8 +28,11 @@ seed-center-requires c κs =
     let s = b .pre in
     let below = first-below (a .weights .now) (a .m) (a .generator) (q .weighted-pick .result) (s .sizes .m-some) (s .weights-long)
     (q .weighted-pick .ensures) in (
-      (seeding-area (length (a .work .now)) _ (length (a .weights .now)) (length (a .coords .now)) (a .m) (a .k) (a .d) refl s,
-          s .coords-long, s .sizes .md-small),
+      (
+        seeding-area (length (a .work .now)) _ (length (a .weights .now)) (length (a .coords .now)) (a .m) (a .k) (a .d) refl s,
+        s .coords-long,
+        s .sizes .md-small,
+      ),
       (leaf-of (q .weighted-pick .result .index) (a .m) (a .d) below, group-of 0 (a .k) (a .d) (s .sizes .k-some)),
     )
 
@@ -38,9 +41,13 @@ first-distances-requires c κs =
     let r = c .before .before .before in
     let b = r .before .before .before .before .before .before in
     let a = b .args in
-    let s = b .pre in
-    (seeding-area (length (a .work .now)) _ (length (a .weights .now)) (length (a .coords .now)) (a .m) (a .k) (a .d)
-    (r .seed-center .kept .0) s, s .coords-long, s .sizes .md-small, s .sizes .k-some)
+    let s = b .pre in (
+      seeding-area (length (a .work .now)) _ (length (a .weights .now)) (length (a .coords .now)) (a .m) (a .k) (a .d)
+          (r .seed-center .kept .0) s,
+      s .coords-long,
+      s .sizes .md-small,
+      s .sizes .k-some,
+    )
 
 loop-holds : tie.Need-loop-holds Inv-loop μ-loop
 loop-holds c =

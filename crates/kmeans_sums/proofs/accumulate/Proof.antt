@@ -1,7 +1,7 @@
--- accumulate makes the sums and counts of the groups: both are cleared, and after i turns they are those of the first i leaves, beside the state of the start.
--- Assumes nothing.
+-- accumulate makes the sums and counts of the groups: both are cleared, and after i turns they are those of the first i leaves, beside the
+-- state of the start. Assumes nothing.
 use mathlib.Core.Path.{_≡_, refl, _∙_}
-use Prim.Native.Nat.{_+_, _*_, _-_, _≤_}
+use Prim.Native.Nat.{_+_, _-_, _≤_}
 use native.Mathlib.Omega.{arith}
 use lib.ListN.{length}
 use lib.Ieee.{ofBits}
@@ -15,7 +15,8 @@ use Rattle.kmeans_sums.proofs.accumulate.Tie as tie
 
 abbrev Inv-loop : tie.InvT-loop
 Inv-loop work₀ marks₀ weights coords m k d kd i₀ work marks i =
-    (i ≤ m) × Sized (length work) (length marks) (length coords) m k d × Gathered weights coords m k d (stateIn m k d work₀ marks₀) i work marks
+    (i ≤ m) × Sized (length work) (length marks) (length coords) m k d
+    × Gathered weights coords m k d (stateIn m k d work₀ marks₀) i work marks
     × (length work ≡ length work₀) × (length marks ≡ length marks₀)
 
 abbrev μ-loop : tie.MeasureT-loop
@@ -60,10 +61,12 @@ loop-holds c =
 gain-requires : tie.Need-gain-requires Inv-loop μ-loop
 gain-requires c κs =
     let l = c .before .before .before .loop in
-    let s = start (fill-u32-at (c .before .before .before)) in
+    let f = fill-u32-at (c .before .before .before) in
+    let s = start f in
     let a = s .args in (
       l .inv .1,
-      gains-of (a .weights .now) (a .coords .now) (a .m) (a .k) (a .d) _ (l .i) (l .work) (l .marks) (l .inv .2) (stateIn (a .m) (a .k) (a .d) (a .work .now) (a .marks .now)) (cleared-at (c .before .before .before .before .before .before) .state) (s .pre .1 .1)
+      gains-of (a .weights .now) (a .coords .now) (a .m) (a .k) (a .d) _ (l .i) (l .work) (l .marks) (l .inv .2)
+          (stateIn (a .m) (a .k) (a .d) (a .work .now) (a .marks .now)) (cleared-at f .state) (s .pre .1 .1)
           (c .before .before .loop-test .taken) (s .pre .0 .sizes .m-small) (s .pre .1 .0),
     )
 
@@ -86,7 +89,8 @@ returns : tie.Need-returns Inv-loop μ-loop
 returns c =
     let l = c .before .loop in
     let a = start (fill-u32-at (c .before)) .args in
-    gather-end (a .weights .now) (a .coords .now) (a .m) (a .k) (a .d) _ (l .i) (l .work) (l .marks) (l .inv .2) (a .work .now) (a .marks .now) (cleared-at (c .before .before .before .before) .state)
+    gather-end (a .weights .now) (a .coords .now) (a .m) (a .k) (a .d) _ (l .i) (l .work) (l .marks) (l .inv .2) (a .work .now)
+    (a .marks .now) (cleared-at (c .before .before .before .before) .state)
     (omega (arith, c .loop-test .left))
 
 pub accumulate-spec : {M : Type 1} → statement M
