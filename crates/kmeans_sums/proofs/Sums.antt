@@ -19,7 +19,6 @@ use Rattle.kmeans_layout.proofs.Regions.{set-counts, set-counts-state, get-coun
 use Rattle.kmeans_layout.proofs.Regions.{put-sums-all, put-sums-all-state, put-counts-all, put-counts-all-state, length-sums}
 use Rattle.kmeans_sums.specs.Cohesion.{cohesionOf}
 use Rattle.kmeans_sums.specs.Gains.{Gains, Gained, Accumulated}
-use Rattle.kmeans_layout.proofs.Sizes.{label-below}
 
 -- ---- the norms, by which the scales are written
 pub norms-length : (rows : List Float) (d n : ℕ) → length (normsUpTo rows d n) ≡ n
