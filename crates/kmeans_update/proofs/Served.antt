@@ -15,7 +15,7 @@ use Rattle.vector.specs.Vectors.{dotOf}
 use Rattle.kmeans_layout.specs.State.{State}
 use Rattle.kmeans_update.specs.Update.{emptyUpTo, servedUpTo, putServed}
 use Rattle.kmeans_layout.specs.Areas.{stateIn, countsIn, servedAt}
-use Rattle.kmeans_update.specs.Groups.{serveLeaf}
+use Rattle.kmeans_update.specs.Groups.{serveLeaf, serveLeaves}
 use Rattle.kmeans_layout.proofs.Regions.{set-served, get-counts, get-labels, row-centers}
 
 -- one group more
@@ -39,7 +39,7 @@ serve-done coords i m k d w u served v place h b e =
     rw (place, e₁) (set-served m k d w u i _ h)
 
 module _ (coords : List Float) (d : ℕ) (s : State) where
-  length-served-up : (i : ℕ) → length (servedUpTo coords d s i) ≡ i
+  pub length-served-up : (i : ℕ) → length (servedUpTo coords d s i) ≡ i
   unfolding servedUpTo
   length-served-up zero = refl
   length-served-up (suc i) = length-append (servedUpTo coords d s i) _ ∙ rw (length-served-up i) (omega arith)
@@ -61,5 +61,5 @@ module _ (coords : List Float) (d : ℕ) (s : State) where
       rw (drop-cons (s .served) i nan, append-assoc) (set-at a (getD (s .served) i nan) (drop (suc i) (s .served)) v i (length-served-up i)) in
       f ∙ rw (e, add-one, n)
 
-  pub serve-end : (i m : ℕ) → length (s .served) ≤ i → i ≡ m → servedBy i ≡ putServed (servedUpTo coords d s m) s
+  pub serve-end : (i m : ℕ) → length (s .served) ≤ i → i ≡ m → servedBy i ≡ serveLeaves coords d m s
   serve-end i m h e = rw (drop-of-length-le (s .served) h, append-nil, e)

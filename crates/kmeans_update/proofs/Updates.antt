@@ -16,14 +16,14 @@ use Rattle.rows.specs.Rows.{part, putPart, rowOf}
 use Rattle.vector.specs.Vectors.{dotOf, normOf, dividedBy, unitVector}
 use Rattle.pick.specs.Places.{argminOf}
 use Rattle.rows.proofs.Rows.{row-within, length-part, part-put, drop-put, put-same}
-use Rattle.pick.proofs.Places.{argmin-below}
+use Rattle.pick.proofs.Places.{either, argmin-below}
 use Rattle.kmeans_bounds.specs.Shifts.{cosine}
 use Rattle.kmeans_layout.specs.State.{State}
 use Rattle.kmeans_update.specs.Update.{Update, freshUpdate, putServed, moveCenter, bestServed, reseeded, reseedFrom, recentered, recenter}
 use Rattle.kmeans_update.specs.Update.{updateGroup, updateUpTo}
 use Rattle.kmeans_sums.specs.Sums.{centerBy}
 use Rattle.kmeans_layout.specs.Areas.{stateIn, sumsIn, countsIn, total, sumsAt, servedAt, driftAt, LeafOf, GroupOf}
-use Rattle.kmeans_update.specs.Groups.{LaterRows}
+use Rattle.kmeans_update.specs.Groups.{LaterRows, keepCenter}
 use Rattle.kmeans_layout.proofs.Regions.{withCenters, withDrift, set-drift, set-drift-sums, row-centers, row-sums, put-row-centers, put-row-centers-sums}
 use Rattle.kmeans_layout.proofs.Regions.{put-row-sums, put-row-sums-state, length-sums, served-are, set-served, set-served-sums, get-counts}
 use Rattle.kmeans_layout.proofs.Sizes.{leaf-of}
@@ -72,7 +72,7 @@ module _ (m k d : ℕ) (w : List Float) (c : ℕ) (v : Float) (group : GroupOf c
         e₁ ∙ rw (drift-state u, ← ev)
 
   pub keep-done : v ≡ cosine (dotOf (part w (c * d) d) (part w (c * d) d))
-      → (u : List ℕ) → stateIn m k d drifted u ≡ moveCenter d c (rowOf (stateIn m k d w u .centers) d c) (stateIn m k d w u)
+      → (u : List ℕ) → stateIn m k d drifted u ≡ keepCenter d c (stateIn m k d w u)
   unfolding moveCenter
   keep-done e u =
       let s = stateIn m k d w u in
@@ -209,9 +209,9 @@ pub record UpdatedTo (coords : List Float) (m k d : ℕ) (w₀ w : List Float) (
   pub state : stateIn m k d w u ≡ updateUpTo coords d (sumsIn k d w₀) (countsIn m k u) (stateIn m k d w₀ u) c .state
   pub rows : (e : ℕ) → c ≤ e → e < k → rowOf (sumsIn k d w) d e ≡ rowOf (sumsIn k d w₀) d e
 
-pub update-start : (coords : List Float) (m k d : ℕ) (w : List Float) (u : List ℕ) → UpdatedTo coords m k d w w u 0
+pub groups-start : (coords : List Float) (m k d : ℕ) (w : List Float) (u : List ℕ) → UpdatedTo coords m k d w w u 0
 unfolding updateUpTo
-update-start coords m k d w u = record { state = refl; rows = λ e h g. refl }
+groups-start coords m k d w u = record { state = refl; rows = λ e h g. refl }
 
 -- the state after a group goes by the state before it and by the row of its sum, not by the leaves picked
 same-group : (coords : List Float) (d : ℕ) (sums sums' : List Float) (counts : List ℕ) (c : ℕ) (s : State) (b : Update) → s ≡ b .state
@@ -229,11 +229,11 @@ module _ (coords : List Float) (m k d : ℕ) (w₀ w : List Float) (u : List ℕ
   abbrev upTo : ℕ → Update
   upTo n = updateUpTo coords d (sumsIn k d w₀) (countsIn m k u) (stateIn m k d w₀ u) n
 
-  pub update-turn : (w' : List Float) → c < k
+  pub groups-turn : (w' : List Float) → c < k
       → stateIn m k d w' u ≡ updateGroup coords d (sumsIn k d w) (countsIn m k u) c (freshUpdate (stateIn m k d w u)) .state
       → LaterRows c k d w w' → UpdatedTo coords m k d w₀ w' u (c + 1)
   unfolding updateUpTo
-  update-turn w' below g later =
+  groups-turn w' below g later =
       record {
         state = rw add-one
             (g ∙ same-group coords d (sumsIn k d w) (sumsIn k d w₀) (countsIn m k u) c (stateIn m k d w u) (upTo c) (done .state)
@@ -241,18 +241,16 @@ module _ (coords : List Float) (m k d : ℕ) (w₀ w : List Float) (u : List ℕ
         rows = λ j h l. later j (omega arith) l ∙ done .rows j (omega arith) l;
       }
 
-  pub update-end : c ≡ k → stateIn m k d w u ≡ upTo k .state
-  update-end e = done .state ∙ ap (λ (n : ℕ). upTo n .state) e
+  pub groups-end : c ≡ k → stateIn m k d w u ≡ upTo k .state
+  groups-end e = done .state ∙ ap (λ (n : ℕ). upTo n .state) e
 
 -- the labels stay
-either-labels : (b : Bool) (x y : Update) (l : List ℕ) → x .state .labels ≡ l → y .state .labels ≡ l → cond b x y .state .labels ≡ l
-either-labels true x y l e f = e
-either-labels false x y l e f = f
-
-pub update-labels : (coords : List Float) (d : ℕ) (sums : List Float) (counts : List ℕ) (s : State) (c : ℕ) → updateUpTo coords d sums counts s c .state .labels ≡ s .labels
+pub update-labels : (coords : List Float) (d : ℕ) (sums : List Float) (counts : List ℕ) (s : State) (c : ℕ)
+    → updateUpTo coords d sums counts s c .state .labels ≡ s .labels
 unfolding updateUpTo moveCenter putServed
 update-labels coords d sums counts s zero = refl
 update-labels coords d sums counts s (suc c) =
     let b = updateUpTo coords d sums counts s c in
     let e : b .state .labels ≡ s .labels = update-labels coords d sums counts s c in
-    either-labels (eqb (getD counts c 0) 0) (reseedFrom coords d c (argminOf (b .state .served)) b) (recenter d sums c b) (s .labels) e e
+    either (λ (x : Update). x .state .labels ≡ s .labels) (eqb (getD counts c 0) 0)
+    (reseedFrom coords d c (argminOf (b .state .served)) b) (recenter d sums c b) e e
