@@ -9,7 +9,7 @@ use mathlib.Core.Bool.{Bool, true, false, not, _||_, cond, true≢false}
 use Prim.Native.Nat.{ℕ, zero, suc, _+_, _*_, _≤_, _<_}
 use native.Mathlib.Omega.{arith}
 use lib.Dec.{T, eqb, lit≤}
-use lib.ListN.{length, getD, set, length-set, length-append}
+use lib.ListN.{length, getD, set, length-set}
 use lib.Seq.{getD-set-same, getD-set-other}
 use borrow.Author.Tests.{eqb-true, eqb-false, ne-eqb}
 use lib.Ieee.{Float, nan, inf, fin, lt, eq, le, isNan}
@@ -26,8 +26,8 @@ use Rattle.vector.proofs.Within.{all-put, all-append, all-row, all-get, row-len
 use Rattle.pick.proofs.Places.{either, argmin-below, argmin-least}
 use Rattle.kmeans_bounds.proofs.Turns.{neither}
 use Rattle.kmeans_sums.proofs.Within.{sums-within, center-within}
-use Rattle.kmeans_update.specs.Update.{Update, freshUpdate, putServed, moveCenter, emptyUpTo, among, servedUpTo, bestServed, reseedFrom}
-use Rattle.kmeans_update.specs.Update.{recenter, updateUpTo, updateTo}
+use Rattle.kmeans_update.specs.Update.{Update, freshUpdate, putServed, moveCenter, emptyUpTo, among, servedUpTo, bestServed}
+use Rattle.kmeans_update.specs.Update.{reseedFrom, recenter, updateUpTo, updateTo}
 use Rattle.kmeans_update.specs.Groups.{serveLeaves}
 use Rattle.kmeans_update.proofs.Served.{length-served-up}
 
@@ -240,7 +240,8 @@ module _ (m d : ℕ) (coords : List Float) (hc : All (Within 2 1) coords) (hd : 
         clean = fresh-clean _ h;
         long = length-served-up coords d s m;
         high = λ i l e. absurd (true≢false (sym e));
-        low = λ i l e. all-get (Within 1024 1) (servedUpTo coords d s m) i (served-within s h m) (omega (arith, length-served-up coords d s m, l));
+        low = λ i l e.
+            all-get (Within 1024 1) (servedUpTo coords d s m) i (served-within s h m) (omega (arith, length-served-up coords d s m, l));
       }
 
   -- ---- the whole update, after c of its k groups

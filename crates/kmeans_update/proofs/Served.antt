@@ -1,5 +1,5 @@
--- Laws of how well the leaves are served, and of whether a group is empty: what a turn stores is one more step of the definition. By the laws of the regions.
--- Assumes nothing.
+-- Laws of how well the leaves are served, and of whether a group is empty: what a turn stores is one more step of the definition. By the
+-- laws of the regions. Assumes nothing.
 use mathlib.Core.Path.{_≡_, refl, ap, _∙_}
 use mathlib.Core.List.{List, [], _∷_, _++_, append-assoc, append-nil}
 use mathlib.Core.Bool.{Bool, _||_}
@@ -19,7 +19,8 @@ use Rattle.kmeans_update.specs.Groups.{serveLeaf, serveLeaves}
 use Rattle.kmeans_layout.proofs.Regions.{set-served, get-counts, get-labels, row-centers}
 
 -- one group more
-pub empty-turn : (m k : ℕ) (u : List ℕ) (c : ℕ) (b : Bool) → c < k → b ≡ emptyUpTo (countsIn m k u) c → (b || eqb (getD u (m + c) 0) 0) ≡ emptyUpTo (countsIn m k u) (c + 1)
+pub empty-turn : (m k : ℕ) (u : List ℕ) (c : ℕ) (b : Bool) → c < k → b ≡ emptyUpTo (countsIn m k u) c
+    → (b || eqb (getD u (m + c) 0) 0) ≡ emptyUpTo (countsIn m k u) (c + 1)
 unfolding emptyUpTo
 empty-turn m k u c b h e = rw (add-one, e, get-counts m k u c 0 h)
 
@@ -35,7 +36,8 @@ serve-done coords i m k d w u served v place h b e =
     let g : c * d + d - c * d ≡ d = omega arith in
     let s = stateIn m k d w u in
     let e₁ : v ≡ dotOf (rowOf coords d i) (rowOf (s .centers) d (getD (s .labels) i 0)) =
-    e ∙ rw (f, g, row-centers m k d w u c b) (ap (λ (x : ℕ). dotOf (rowOf coords d i) (rowOf (s .centers) d x)) (get-labels m k d w u i 0 h)) in
+    e ∙ rw (f, g, row-centers m k d w u c b) (ap (λ (x : ℕ). dotOf (rowOf coords d i) (rowOf (s .centers) d x))
+    (get-labels m k d w u i 0 h)) in
     rw (place, e₁) (set-served m k d w u i _ h)
 
 module _ (coords : List Float) (d : ℕ) (s : State) where
@@ -58,7 +60,8 @@ module _ (coords : List Float) (d : ℕ) (s : State) where
       let v = dotOf (rowOf coords d i) (rowOf (s .centers) d (getD (s .labels) i 0)) in
       let a = servedUpTo coords d s i in
       let n : set (a ++ drop i (s .served)) i v ≡ (a ++ (v ∷ [])) ++ drop (suc i) (s .served) =
-      rw (drop-cons (s .served) i nan, append-assoc) (set-at a (getD (s .served) i nan) (drop (suc i) (s .served)) v i (length-served-up i)) in
+      rw (drop-cons (s .served) i nan, append-assoc) (set-at a (getD (s .served) i nan) (drop (suc i) (s .served)) v i
+      (length-served-up i)) in
       f ∙ rw (e, add-one, n)
 
   pub serve-end : (i m : ℕ) → length (s .served) ≤ i → i ≡ m → servedBy i ≡ serveLeaves coords d m s

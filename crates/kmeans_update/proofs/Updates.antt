@@ -19,17 +19,19 @@ use Rattle.rows.proofs.Rows.{row-within, length-part, part-put, drop-put, put-s
 use Rattle.pick.proofs.Places.{either, argmin-below}
 use Rattle.kmeans_bounds.specs.Shifts.{cosine}
 use Rattle.kmeans_layout.specs.State.{State}
-use Rattle.kmeans_update.specs.Update.{Update, freshUpdate, putServed, moveCenter, bestServed, reseeded, reseedFrom, recentered, recenter}
-use Rattle.kmeans_update.specs.Update.{updateGroup, updateUpTo}
+use Rattle.kmeans_update.specs.Update.{Update, freshUpdate, putServed, moveCenter, bestServed, reseeded, reseedFrom, recentered}
+use Rattle.kmeans_update.specs.Update.{recenter, updateGroup, updateUpTo}
 use Rattle.kmeans_sums.specs.Sums.{centerBy}
 use Rattle.kmeans_layout.specs.Areas.{stateIn, sumsIn, countsIn, total, sumsAt, servedAt, driftAt, LeafOf, GroupOf}
 use Rattle.kmeans_update.specs.Groups.{LaterRows, keepCenter}
-use Rattle.kmeans_layout.proofs.Regions.{withCenters, withDrift, set-drift, set-drift-sums, row-centers, row-sums, put-row-centers, put-row-centers-sums}
+use Rattle.kmeans_layout.proofs.Regions.{withCenters, withDrift, set-drift, set-drift-sums, row-centers, row-sums, put-row-centers}
+use Rattle.kmeans_layout.proofs.Regions.{put-row-centers-sums}
 use Rattle.kmeans_layout.proofs.Regions.{put-row-sums, put-row-sums-state, length-sums, served-are, set-served, set-served-sums, get-counts}
 use Rattle.kmeans_layout.proofs.Sizes.{leaf-of}
 
 -- what stands after a part that was replaced
-put-before : (l : List Float) (at n p : ℕ) (v : List Float) → length v ≡ n → at + n ≤ p → p ≤ length l → drop p (putPart l at n v) ≡ drop p l
+put-before : (l : List Float) (at n p : ℕ) (v : List Float) → length v ≡ n → at + n ≤ p → p ≤ length l
+    → drop p (putPart l at n v) ≡ drop p l
 put-before l at n p v e h g = rw (← e) (drop-put l at p v (omega arith) g)
 
 -- centre c moved to the row in its place among the sums, and centre c kept
@@ -66,7 +68,8 @@ module _ (m k d : ℕ) (w : List Float) (c : ℕ) (v : Float) (group : GroupOf c
     move-done e u =
         let s = stateIn m k d w u in
         let r = rowOf (sumsIn k d w) d c in
-        let ev : v ≡ cosine (dotOf (rowOf (s .centers) d c) r) = e ∙ rw (row-centers m k d w u c (group .below), row-sums m k d w c (group .below)) in
+        let ev : v ≡ cosine (dotOf (rowOf (s .centers) d c) r) =
+        e ∙ rw (row-centers m k d w u c (group .below), row-sums m k d w c (group .below)) in
         let e₁ : stateIn m k d w' u ≡ withCenters (putPart (stateIn m k d drifted u .centers) (c * d) d r) (stateIn m k d drifted u) =
         rw put-row (put-row-centers m k d drifted u c r length-row (group .below) (rw length-set long)) in
         e₁ ∙ rw (drift-state u, ← ev)
@@ -80,7 +83,8 @@ module _ (m k d : ℕ) (w : List Float) (c : ℕ) (v : Float) (group : GroupOf c
       drift-state u ∙ rw (put-same (s .centers) (c * d) d, ← ev)
 
 -- a row r written in the place of row c of the sums
-module _ (m k d : ℕ) (w : List Float) (c : ℕ) (r : List Float) (group : GroupOf c k d) (long : total m k d ≤ length w) (full : length r ≡ d) where
+module _ (m k d : ℕ) (w : List Float) (c : ℕ) (r : List Float) (group : GroupOf c k d) (long : total m k d ≤ length w)
+    (full : length r ≡ d) where
   abbrev pub written : List Float
   written = putPart w (k * d + c * d) (k * d + c * d + d - (k * d + c * d)) r
 
@@ -95,26 +99,30 @@ module _ (m k d : ℕ) (w : List Float) (c : ℕ) (r : List Float) (group : Grou
 
   written-row : rowOf (sumsIn k d written) d c ≡ r
   written-row =
-      ap (λ (l : List Float). rowOf l d c) written-sums ∙ part-put (sumsIn k d w) (c * d) d r full (omega (arith, length-sums m k d w long, group .row))
+      ap (λ (l : List Float). rowOf l d c) written-sums ∙ part-put (sumsIn k d w) (c * d) d r full
+      (omega (arith, length-sums m k d w long, group .row))
 
   written-later : LaterRows c k d w written
   written-later e h g =
       let b : e * d ≤ length (sumsIn k d w) = omega (arith, length-sums m k d w long, row-within e k d g) in
-      let q : drop (e * d) (putPart (sumsIn k d w) (c * d) d r) ≡ drop (e * d) (sumsIn k d w) = put-before (sumsIn k d w) (c * d) d (e * d) r full (row-within c e d h) b in
+      let q : drop (e * d) (putPart (sumsIn k d w) (c * d) d r) ≡ drop (e * d) (sumsIn k d w) =
+      put-before (sumsIn k d w) (c * d) d (e * d) r full (row-within c e d h) b in
       ap (λ (l : List Float). rowOf l d e) written-sums ∙ ap (λ (l : List Float). take d l) q
 
   pub later-of : (w' : List Float) → sumsIn k d w' ≡ sumsIn k d written → LaterRows c k d w w'
   later-of w' s e h g = ap (λ (l : List Float). rowOf l d e) s ∙ written-later e h g
 
-  pub moved-row : (w' : List Float) → ((u : List ℕ) → stateIn m k d w' u ≡ moveCenter d c (rowOf (sumsIn k d written) d c) (stateIn m k d written u))
+  pub moved-row : (w' : List Float) → ((u : List ℕ) → stateIn m k d w' u
+      ≡ moveCenter d c (rowOf (sumsIn k d written) d c) (stateIn m k d written u))
       → (u : List ℕ) → stateIn m k d w' u ≡ moveCenter d c r (stateIn m k d w u)
   moved-row w' e u = e u ∙ rw (written-row, written-state u)
 
   pub length-written : length written ≡ length w
   length-written =
-      let f : k * d + c * d + d - (k * d + c * d) ≡ d = omega arith in
-      let g : length (drop d (drop (k * d + c * d) w)) ≡ length w - (k * d + c * d) - d = length-drop d (drop (k * d + c * d) w) ∙ rw length-drop in
-      rw (f, length-append, length-append, length-take-le (k * d + c * d) w (omega (arith, group .row)), full, g) (omega (arith, group .row))
+      let at = k * d + c * d in
+      let f : at + d - at ≡ d = omega arith in
+      let g : length (drop d (drop at w)) ≡ length w - at - d = length-drop d (drop at w) ∙ rw length-drop in
+      rw (f, length-append, length-append, length-take-le at w (omega (arith, group .row)), full, g) (omega (arith, group .row))
 
 -- centre c by its sum, where the sum's norm is above 0 and where not
 module _ (m k d : ℕ) (w : List Float) (c : ℕ) (group : GroupOf c k d) (long : total m k d ≤ length w) where
@@ -125,16 +133,19 @@ module _ (m k d : ℕ) (w : List Float) (c : ℕ) (group : GroupOf c k d) (long 
   lent-is = let f : k * d + c * d + d - (k * d + c * d) ≡ d = omega arith in rw f (row-sums m k d w c (group .below))
 
   pub length-lent : length lent ≡ d
-  length-lent = ap (λ (l : List Float). length l) lent-is ∙ length-part (sumsIn k d w) (c * d) d (omega (arith, length-sums m k d w long, group .row))
+  length-lent =
+      ap (λ (l : List Float). length l) lent-is ∙ length-part (sumsIn k d w) (c * d) d (omega (arith, length-sums m k d w long, group .row))
 
   module _ (n : Float) (norm : n ≡ normOf lent) where
-    pub center-divided : (r : List Float) (s s' : State) (o : List Float) → lt plusZero n ≡ true → r ≡ dividedBy n lent → s' ≡ moveCenter d c r s
+    pub center-divided : (r : List Float) (s s' : State) (o : List Float) → lt plusZero n ≡ true → r ≡ dividedBy n lent
+        → s' ≡ moveCenter d c r s
         → s' ≡ moveCenter d c (centerBy (rowOf (sumsIn k d w) d c) o) s
     center-divided r s s' o t e f =
         let q : n ≡ normOf (rowOf (sumsIn k d w) d c) = norm ∙ ap normOf lent-is in
         f ∙ rw (← q, t, e, lent-is)
 
-    pub center-kept : (s s' : State) (o : List Float) → lt plusZero n ≡ false → s' ≡ moveCenter d c o s → s' ≡ moveCenter d c (centerBy (rowOf (sumsIn k d w) d c) o) s
+    pub center-kept : (s s' : State) (o : List Float) → lt plusZero n ≡ false → s' ≡ moveCenter d c o s
+        → s' ≡ moveCenter d c (centerBy (rowOf (sumsIn k d w) d c) o) s
     center-kept s s' o t f =
         let q : n ≡ normOf (rowOf (sumsIn k d w) d c) = norm ∙ ap normOf lent-is in
         f ∙ rw (← q, t)

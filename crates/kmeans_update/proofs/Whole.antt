@@ -1,4 +1,5 @@
--- The update as a whole, over plain lists: what its calls ensure is the definition's update, and labels stay below k. By the way each test went. Assumes nothing.
+-- The update as a whole, over plain lists: what its calls ensure is the definition's update, and labels stay below k. By the way each test
+-- went. Assumes nothing.
 use mathlib.Core.Path.{_≡_, refl, _∙_}
 use mathlib.Core.List.{List}
 use mathlib.Core.Bool.{Bool, true, false}

@@ -2,8 +2,7 @@
 -- from it. Assumes nothing.
 use lib.ListN.{length}
 use lib.Ieee.{div, ofBits}
-use Rattle.kmeans_layout.proofs.Sizes.{group-of}
-use Rattle.kmeans_layout.proofs.Sizes.{area-kept}
+use Rattle.kmeans_layout.proofs.Sizes.{group-of, area-kept}
 use Rattle.kmeans_seeding.proofs.Seeds.{first-done}
 use borrow.Author.Needs.{needs}
 use Rattle.kmeans_seeding.proofs.first_distances.Statement.{statement}

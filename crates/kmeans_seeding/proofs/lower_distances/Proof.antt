@@ -7,8 +7,7 @@ use native.Mathlib.Omega.{arith}
 use lib.ListN.{length}
 use Rattle.kmeans_layout.specs.Areas.{stateIn}
 use Rattle.kmeans_layout.proofs.Regions.{length-low}
-use Rattle.kmeans_layout.proofs.Sizes.{leaf-of}
-use Rattle.kmeans_layout.proofs.Sizes.{area-kept}
+use Rattle.kmeans_layout.proofs.Sizes.{leaf-of, area-kept}
 use Rattle.kmeans_seeding.proofs.Seeds.{LoweredFrom, lowering-start, lowering-four, lowering-turn, lowering-end}
 use borrow.Author.Needs.{needs}
 use Rattle.kmeans_seeding.proofs.lower_distances.Statement.{statement}

@@ -12,7 +12,8 @@ returns c =
     let s = c .before .before .before .before in
     let a = s .args in
     let v = c .turned .result in (
-      keep-done (a .m) (a .k) (a .d) (a .work .now) (a .c) v (s .pre .1) (s .pre .0 .work-long) (p .result) (p .ensures) (c .turned .ensures),
+      keep-done (a .m) (a .k) (a .d) (a .work .now) (a .c) v (s .pre .1) (s .pre .0 .work-long) (p .result) (p .ensures)
+          (c .turned .ensures),
       drift-sums (a .m) (a .k) (a .d) (a .work .now) (a .c) v (s .pre .1) (s .pre .0 .work-long) (p .result) (p .ensures),
     )
 

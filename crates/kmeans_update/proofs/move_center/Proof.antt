@@ -1,4 +1,5 @@
--- `kmeans_update::move_center` meets its contract, by what `turned` and `copy_within` ensure: each promise is a law over plain lists. Assumes nothing.
+-- `kmeans_update::move_center` meets its contract, by what `turned` and `copy_within` ensure: each promise is a law over plain lists.
+-- Assumes nothing.
 use native.Mathlib.Omega.{arith}
 use borrow.Author.Needs.{needs}
 use lib.ListN.{length-set}

@@ -1,5 +1,5 @@
--- `kmeans_update::reseed` meets its contract, by what `argmin`, `unit` and `move_center` ensure: the worst-served leaf is one of the m leaves, and
--- the promise is a law over plain lists. Assumes nothing.
+-- `kmeans_update::reseed` meets its contract, by what `argmin`, `unit` and `move_center` ensure: the worst-served leaf is one of the m
+-- leaves, and the promise is a law over plain lists. Assumes nothing.
 use mathlib.Core.Path.{_≡_, _∙_}
 use Prim.Native.Nat.{_+_, _≤_}
 use native.Mathlib.Omega.{arith}
@@ -22,7 +22,8 @@ leaf-at p =
     let s = start p in
     let a = s .args in
     let at = served-of p .served-at in
-    worst-leaf (a .m) (a .k) (a .d) (a .work .now) (p .argmin .result) (at .result) (at .ensures) (p .argmin .ensures) (s .pre .0 .area .sizes .m-some) (s .pre .0 .area .work-long)
+    worst-leaf (a .m) (a .k) (a .d) (a .work .now) (p .argmin .result) (at .result) (at .ensures) (p .argmin .ensures)
+    (s .pre .0 .area .sizes .m-some) (s .pre .0 .area .work-long)
 
 abbrev argmin-at : tie.After-unit → tie.After-argmin
 argmin-at q = q .before .before .before
@@ -86,7 +87,8 @@ returns c =
           (z .area .sizes .m-some) (z .area .work-long) (full-at q) (at .result) (at .ensures) (p .argmin .ensures) (q .unit .ensures)
           (f .move-center .ensures .0),
       reseed-later (a .m) (a .k) (a .d) (a .coords .now) (a .work .now) (a .c) (p .argmin .result) r (f .move-center .last .0) (s .pre .1)
-          (z .area .sizes .m-some) (z .area .work-long) (full-at q) (at .result) (at .ensures) (p .argmin .ensures) (f .move-center .ensures .1),
+          (z .area .sizes .m-some) (z .area .work-long) (full-at q) (at .result) (at .ensures) (p .argmin .ensures)
+          (f .move-center .ensures .1),
     )
 
 pub reseed-spec : {M : Type 1} → statement M

@@ -1,5 +1,5 @@
--- `kmeans_update::update` meets its contract: where the two ways meet, served is refreshed if a group is empty and the sums are those of accumulate; update_groups goes on
--- from there. Assumes nothing.
+-- `kmeans_update::update` meets its contract: where the two ways meet, served is refreshed if a group is empty and the sums are those of
+-- accumulate; update_groups goes on from there. Assumes nothing.
 use mathlib.Core.Path.{_≡_, ap, _∙_}
 use mathlib.Core.List.{List}
 use mathlib.Core.Logic.{⊎-elim}
@@ -8,8 +8,7 @@ use lib.Ieee.{Float}
 use Rattle.kmeans_layout.specs.State.{State}
 use Rattle.kmeans_update.specs.Update.{refreshed}
 use Rattle.kmeans_layout.specs.Areas.{stateIn, sumsIn, countsIn}
-use Rattle.kmeans_layout.proofs.Sizes.{sized-of}
-use Rattle.kmeans_layout.proofs.Sizes.{labelled-of}
+use Rattle.kmeans_layout.proofs.Sizes.{sized-of, labelled-of}
 use Rattle.kmeans_update.proofs.Whole.{refresh-made, refresh-left, update-done}
 use borrow.Author.Needs.{needs}
 use Rattle.kmeans_update.proofs.update.Statement.{statement}
@@ -26,8 +25,10 @@ refreshed-at : (j : tie.Joined1) → let g = accumulated j in
     let a = start g .args in
     let w₁ = g .accumulate .last .0 in
     let u₁ = g .accumulate .last .1 .0 in
+    let s = stateIn (a .m) (a .k) (a .d) w₁ u₁ in
+    let counts = countsIn (a .m) (a .k) u₁ in
     (length (j .if1 .work) ≡ length w₁)
-    × (stateIn (a .m) (a .k) (a .d) (j .if1 .work) u₁ ≡ refreshed (a .coords .now) (a .m) (a .k) (a .d) (countsIn (a .m) (a .k) u₁) (stateIn (a .m) (a .k) (a .d) w₁ u₁))
+    × (stateIn (a .m) (a .k) (a .d) (j .if1 .work) u₁ ≡ refreshed (a .coords .now) (a .m) (a .k) (a .d) counts s)
     × (sumsIn (a .k) (a .d) (j .if1 .work) ≡ sumsIn (a .k) (a .d) w₁)
 refreshed-at j =
     let g = accumulated j in
@@ -46,7 +47,8 @@ refreshed-at j =
     ))
     (λ w. (
       ap length (w .1),
-      ap (λ (l : List Float). stateIn (a .m) (a .k) (a .d) l u₁) (w .1) ∙ refresh-left (a .coords .now) (a .m) (a .k) (a .d) counts s s (h .result) (h .ensures) (w .0 .left),
+      ap (λ (l : List Float). stateIn (a .m) (a .k) (a .d) l u₁) (w .1)
+          ∙ refresh-left (a .coords .now) (a .m) (a .k) (a .d) counts s s (h .result) (h .ensures) (w .0 .left),
       ap (λ (l : List Float). sumsIn (a .k) (a .d) l) (w .1),
     ))
     (j .if1 .came)
@@ -61,7 +63,8 @@ refresh-requires c κs =
     let s = start g in
     let a = s .args in (
       sized-of _ _ _ _ (length (a .coords .now)) (a .m) (a .k) (a .d) (g .accumulate .kept .0) (g .accumulate .kept .1 .0) (s .pre .0),
-      labelled-of (a .m) (a .k) (stateIn (a .m) (a .k) (a .d) (a .work .now) (a .marks .now)) (stateIn (a .m) (a .k) (a .d) (g .accumulate .last .0) (g .accumulate .last .1 .0))
+      labelled-of (a .m) (a .k) (stateIn (a .m) (a .k) (a .d) (a .work .now) (a .marks .now))
+          (stateIn (a .m) (a .k) (a .d) (g .accumulate .last .0) (g .accumulate .last .1 .0))
           (ap (λ (x : State). x .labels) (g .accumulate .ensures .state)) (s .pre .1 .1),
     )
 

@@ -1,5 +1,5 @@
--- `kmeans_update::update_groups` meets its contract. The loop's invariant: the state is the definition's after c groups, and the sums of the other groups
--- are as they were (`UpdatedTo`). The measure is what is left of the groups. Assumes nothing.
+-- `kmeans_update::update_groups` meets its contract. The loop's invariant: the state is the definition's after c groups, and the sums of
+-- the other groups are as they were (`UpdatedTo`). The measure is what is left of the groups. Assumes nothing.
 use mathlib.Core.Path.{_≡_, refl, _∙_}
 use Prim.Native.Nat.{_≤_, _-_}
 use native.Mathlib.Omega.{arith}
