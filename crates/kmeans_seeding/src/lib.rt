@@ -23,7 +23,7 @@ fn cosine_distance(
     k: usize,
     d: usize,
 ) -> f64
-    requires { ⌜ (Area (length (now work)) m k d) × (length (now coords) ≡ m * d) × (m * d ≤ 1048576) ⌝ }
+    requires { ⌜ (Area (length (now work)) m k d) × (length (now coords) ≡ m * d) ⌝ }
     requires { ⌜ (LeafOf i m d) × (GroupOf c k d) ⌝ }
     ensures { λ r. ⌜ ((u : List ℕ) → r ≡ cosineDistance (rowOf (now (coords .entry)) d i)
         (rowOf (stateIn m k d (now (work .entry)) u .centers) d c)) ⌝ }
@@ -46,7 +46,7 @@ fn four_cosine_distances(
     k: usize,
     d: usize,
 ) -> float::Four
-    requires { ⌜ (Area (length (now work)) m k d) × (length (now coords) ≡ m * d) × (m * d ≤ 1048576) ⌝ }
+    requires { ⌜ (Area (length (now work)) m k d) × (length (now coords) ≡ m * d) ⌝ }
     requires { ⌜ ((i + 4) * d ≤ m * d) × (GroupOf c k d) ⌝ }
     ensures { λ r. ⌜ ((u : List ℕ) → r
         ≡ fourCosineDistances (now (coords .entry)) d (rowOf (stateIn m k d (now (work .entry)) u .centers) d c) i) ⌝ }
@@ -89,7 +89,7 @@ fn lower_four(work: &mut [f64], at: usize, f: float::Four)
 
 // The distance of each leaf lowered where centre c is nearer: by fours, then singly.
 fn lower_distances(work: &mut [f64], coords: &[f64], c: usize, m: usize, k: usize, d: usize)
-    requires { ⌜ (Area (length (now work)) m k d) × (length (now coords) ≡ m * d) × (m * d ≤ 1048576) ⌝ }
+    requires { ⌜ (Area (length (now work)) m k d) × (length (now coords) ≡ m * d) ⌝ }
     requires { ⌜ GroupOf c k d ⌝ }
     ensures { λ _. ⌜ ((u : List ℕ) → stateIn m k d (now (work .exit)) u
         ≡ loweredBy (now (coords .entry)) d c (stateIn m k d (now (work .entry)) u)) ⌝ }
@@ -110,7 +110,7 @@ fn lower_distances(work: &mut [f64], coords: &[f64], c: usize, m: usize, k: usiz
 
 // The distance of each leaf from the first centre, lowered from an infinite one.
 fn first_distances(work: &mut [f64], coords: &[f64], m: usize, k: usize, d: usize)
-    requires { ⌜ (Area (length (now work)) m k d) × (length (now coords) ≡ m * d) × (m * d ≤ 1048576) × (0 < k) ⌝ }
+    requires { ⌜ (Area (length (now work)) m k d) × (length (now coords) ≡ m * d) ⌝ }
     ensures { λ _. ⌜ ((u : List ℕ) → stateIn m k d (now (work .exit)) u
         ≡ firstDistances (now (coords .entry)) m d (stateIn m k d (now (work .entry)) u)) ⌝ }
 {
@@ -136,7 +136,7 @@ fn put_chances(work: &mut [f64], weights: &[f64], m: usize, k: usize, d: usize)
 
 // Centre c becomes leaf i as a unit vector.
 fn seed_center(work: &mut [f64], coords: &[f64], c: usize, i: usize, m: usize, k: usize, d: usize)
-    requires { ⌜ (Area (length (now work)) m k d) × (length (now coords) ≡ m * d) × (m * d ≤ 1048576) ⌝ }
+    requires { ⌜ (Area (length (now work)) m k d) × (length (now coords) ≡ m * d) ⌝ }
     requires { ⌜ (LeafOf i m d) × (GroupOf c k d) ⌝ }
     ensures { λ _. ⌜ ((u : List ℕ) → stateIn m k d (now (work .exit)) u
         ≡ putCenter d c (unitVector (rowOf (now (coords .entry)) d i)) (stateIn m k d (now (work .entry)) u)) ⌝ }

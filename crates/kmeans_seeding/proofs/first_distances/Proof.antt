@@ -16,9 +16,8 @@ lower-distances-requires c κs =
       (
         area-kept (length (a .work .now)) (length (f .fill-at .last .0)) (a .m) (a .k) (a .d) (f .fill-at .kept .0) (b .pre .0),
         b .pre .1,
-        b .pre .2,
       ),
-      group-of 0 (a .k) (a .d) (b .pre .3),
+      group-of 0 (a .k) (a .d) (b .pre .0 .sizes .k-some),
     )
 
 returns : tie.Need-returns

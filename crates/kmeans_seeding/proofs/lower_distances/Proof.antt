@@ -45,7 +45,7 @@ four-cosine-distances-requires c κs =
     let b = start (low-of q) in
     let a = b .args in
     let h : l .i + 4 ≤ a .m = omega (arith, c .before .loop-test .taken, l .inv .0) in (
-      (area-kept (length (a .work .now)) (length (l .work)) (a .m) (a .k) (a .d) (l .inv .1) (b .pre .0 .0), b .pre .0 .1, b .pre .0 .2),
+      (area-kept (length (a .work .now)) (length (l .work)) (a .m) (a .k) (a .d) (l .inv .1) (b .pre .0 .0), b .pre .0 .1),
       (mul-le-mul-right (a .d) h, b .pre .1),
     )
 
@@ -75,7 +75,7 @@ cosine-distance-requires c κs =
     let b = start (low-of (loop-of q)) in
     let a = b .args in
     let same = l .inv .1 ∙ loop-of q .loop .inv .1 in (
-      (area-kept (length (a .work .now)) (length (l .work)) (a .m) (a .k) (a .d) same (b .pre .0 .0), b .pre .0 .1, b .pre .0 .2),
+      (area-kept (length (a .work .now)) (length (l .work)) (a .m) (a .k) (a .d) same (b .pre .0 .0), b .pre .0 .1),
       (leaf-of (l .i) (a .m) (a .d) (omega arith), b .pre .1),
     )
 

@@ -31,7 +31,6 @@ seed-center-requires c κs =
       (
         seeding-area (length (a .work .now)) _ (length (a .weights .now)) (length (a .coords .now)) (a .m) (a .k) (a .d) refl s,
         s .coords-long,
-        s .sizes .md-small,
       ),
       (leaf-of (q .weighted-pick .result .index) (a .m) (a .d) below, group-of 0 (a .k) (a .d) (s .sizes .k-some)),
     )
@@ -45,8 +44,6 @@ first-distances-requires c κs =
       seeding-area (length (a .work .now)) _ (length (a .weights .now)) (length (a .coords .now)) (a .m) (a .k) (a .d)
           (r .seed-center .kept .0) s,
       s .coords-long,
-      s .sizes .md-small,
-      s .sizes .k-some,
     )
 
 loop-holds : tie.Need-loop-holds Inv-loop μ-loop

@@ -27,7 +27,6 @@ seed-center-requires c κs =
         seeding-area (length (a .work .now)) _ (length (a .weights .now)) (length (a .coords .now)) (a .m) (a .k) (a .d)
             (h .put-chances .kept .0) s,
         s .coords-long,
-        s .sizes .md-small,
       ),
       (leaf-of (q .weighted-pick .result .index) (a .m) (a .d) below, b .pre .1),
     )
