@@ -1,16 +1,16 @@
 -- Laws of how well the leaves are served, and of whether a group is empty: what a turn stores is one more step of the definition. By the
 -- laws of the regions. Assumes nothing.
 use mathlib.Core.Path.{_≡_, refl, ap, _∙_}
-use mathlib.Core.List.{List, [], _∷_, _++_, append-assoc, append-nil}
+use mathlib.Core.List.{List, _++_}
 use mathlib.Core.Bool.{Bool, _||_}
-use Prim.Native.Nat.{ℕ, zero, suc, _+_, _*_, _-_, _≤_, _<_}
+use Prim.Native.Nat.{ℕ, zero, suc, _+_, _*_, _-_, _<_}
 use native.Mathlib.Numerals.{add-one}
 use native.Mathlib.Omega.{arith}
 use lib.Dec.{eqb}
-use lib.ListN.{length, getD, drop, set, length-append, drop-of-length-le}
-use lib.Seq.{drop-cons, set-at}
+use lib.ListN.{length, getD, drop, set, length-append}
 use lib.Ieee.{Float, nan}
 use Rattle.rows.specs.Rows.{part, rowOf}
+use Rattle.rows.proofs.Fills.{front-turn, front-end}
 use Rattle.vector.specs.Vectors.{dotOf}
 use Rattle.kmeans_layout.specs.State.{State}
 use Rattle.kmeans_update.specs.Update.{emptyUpTo, servedUpTo, putServed}
@@ -36,8 +36,8 @@ serve-done coords i m k d w u served v place h b e =
     let g : c * d + d - c * d ≡ d = omega arith in
     let s = stateIn m k d w u in
     let e₁ : v ≡ dotOf (rowOf coords d i) (rowOf (s .centers) d (getD (s .labels) i 0)) =
-    e ∙ rw (f, g, row-centers m k d w u c b) (ap (λ (x : ℕ). dotOf (rowOf coords d i) (rowOf (s .centers) d x))
-    (get-labels m k d w u i 0 h)) in
+    e ∙ rw (f, g, row-centers m k d w u c b)
+    (ap (λ (x : ℕ). dotOf (rowOf coords d i) (rowOf (s .centers) d x)) (get-labels m k d w u i 0 h)) in
     rw (place, e₁) (set-served m k d w u i _ h)
 
 module _ (coords : List Float) (d : ℕ) (s : State) where
@@ -59,10 +59,7 @@ module _ (coords : List Float) (d : ℕ) (s : State) where
   serve-turn i t t' h e f =
       let v = dotOf (rowOf coords d i) (rowOf (s .centers) d (getD (s .labels) i 0)) in
       let a = servedUpTo coords d s i in
-      let n : set (a ++ drop i (s .served)) i v ≡ (a ++ (v ∷ [])) ++ drop (suc i) (s .served) =
-      rw (drop-cons (s .served) i nan, append-assoc) (set-at a (getD (s .served) i nan) (drop (suc i) (s .served)) v i
-      (length-served-up i)) in
-      f ∙ rw (e, add-one, n)
+      f ∙ rw (e, front-turn nan a (s .served) i (length-served-up i) v h, add-one)
 
-  pub serve-end : (i m : ℕ) → length (s .served) ≤ i → i ≡ m → servedBy i ≡ serveLeaves coords d m s
-  serve-end i m h e = rw (drop-of-length-le (s .served) h, append-nil, e)
+  pub serve-end : (i m : ℕ) → length (s .served) ≡ m → i ≡ m → servedBy i ≡ serveLeaves coords d m s
+  serve-end i m h e = rw (e, front-end (servedUpTo coords d s m) (s .served) m h)

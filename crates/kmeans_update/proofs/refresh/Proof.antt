@@ -70,7 +70,7 @@ returns c =
     let s₀ = stateIn (a .m) (a .k) (a .d) (a .work .now) (a .marks .now) in
     let long = length-served (a .m) (a .k) (a .d) (a .work .now) (a .marks .now) (s .pre .0 .work-long) in
     let e : l .i ≡ a .m = omega arith in
-    (l .inv .2 ∙ serve-end (a .coords .now) (a .d) s₀ (l .i) (a .m) (omega (arith, e, long)) e, l .inv .3)
+    (l .inv .2 ∙ serve-end (a .coords .now) (a .d) s₀ (l .i) (a .m) long e, l .inv .3)
 
 pub refresh-spec : {M : Type 1} → statement M
 refresh-spec =
