@@ -99,7 +99,7 @@ lowered-at coords d row [] j i n e h = absurd (omega arith)
 lowered-at coords d row (x ∷ xs) j zero n e h = let f : n ≡ j = omega arith in rw f
 lowered-at coords d row (x ∷ xs) j (suc i) n e h = lowered-at coords d row xs (suc j) i n (omega arith) (omega arith)
 
-abbrev pub lowering : List Float → ℕ → ℕ → ℕ → State → State
+abbrev pub lowering : List Float → (d c i : ℕ) → State → State
 lowering coords d c i s = putLow (take i (lowered coords d (rowOf (s .centers) d c) 0 (s .low)) ++ drop i (s .low)) s
 
 pub lowering-start : (coords : List Float) (d c : ℕ) (s : State) → s ≡ lowering coords d c 0 s
@@ -107,7 +107,7 @@ unfolding putLow
 lowering-start coords d c s = refl
 
 -- what a loop over the leaves from i₀ to i does: where those before i₀ are lowered, those before i are
-abbrev pub LoweredFrom : ℕ → ℕ → ℕ → List Float → ℕ → List Float → ℕ → List Float → ℕ → Type 0
+abbrev pub LoweredFrom : (m k d : ℕ) → List Float → (c : ℕ) → List Float → (i₀ : ℕ) → List Float → (i : ℕ) → Type 0
 LoweredFrom m k d coords c w₀ i₀ w i =
     (u : List ℕ) (s : State) → length (s .low) ≡ m → stateIn m k d w₀ u ≡ lowering coords d c i₀ s
     → stateIn m k d w u ≡ lowering coords d c i s
