@@ -1,10 +1,12 @@
-// A leaf's best centre (vmf.rs; document 01, 'Spherical k-means'): the first of the greatest dots with the centres, it, and the next best dot.
+// A leaf's best centre (vmf.rs; document 01, 'Spherical k-means'): the first of the greatest dots with the centres, it,
+// and the next best dot.
 ghost use mathlib.Core.Path.{_≡_};
 ghost use Prim.Native.Nat.{_+_, _*_, _-_, _<_, _≤_};
 ghost use lib.ListN.{length};
 ghost use Rattle.rows.specs.Rows.{rowOf};
 ghost use Rattle.vector.specs.Vectors.{dotOf};
-ghost use Rattle.kmeans_nearest.specs.Nearest.{betterOf, withThree, bestTo, rowDots, Centers};
+ghost use Rattle.kmeans_nearest.specs.Nearest.{betterOf, bestTo};
+ghost use Rattle.kmeans_nearest.specs.Fours.{rowDots, withThree, Centers};
 
 // A leaf's best centre, its dot, and the next best dot.
 pub struct Best {

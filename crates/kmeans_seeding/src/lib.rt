@@ -1,5 +1,5 @@
-// The seeding of a run of spherical k-means (vmf.rs, spherical_pp; document 01, 'Spherical k-means'): the distances stand in the place of the lower bounds, the chances
-// in that of the upper ones. m leaves of d coordinates, k groups.
+// The seeding of a run of spherical k-means (vmf.rs, spherical_pp; document 01, 'Spherical k-means'): the distances
+// stand in the place of the lower bounds, the chances in that of the upper ones. m leaves of d coordinates, k groups.
 ghost use mathlib.Core.Path.{_≡_};
 ghost use mathlib.Core.Bool.{cond};
 ghost use mathlib.Core.List.{List};
@@ -7,16 +7,26 @@ ghost use Prim.Native.Nat.{ℕ, _+_, _*_, _<_, _≤_};
 ghost use lib.ListN.{length};
 ghost use lib.Ieee.{lt};
 ghost use Rattle.rows.specs.Rows.{rowOf};
-ghost use Rattle.kmeans_seeding.specs.Seeding.{angleOf, anglesUpTo, lowered, chances, seedsOf};
+ghost use Rattle.kmeans_seeding.specs.Seeding.{cosineDistance, seedsOf};
 ghost use Rattle.vector.specs.Vectors.{unitVector};
 ghost use Rattle.kmeans_layout.specs.Areas.{stateIn, LeafOf, GroupOf, Area};
-ghost use Rattle.kmeans_seeding.specs.Distances.{putLow, putHigh, putCenter, fourAngles, lowerAt, lowerFour, Seeding, SeededNext};
+ghost use Rattle.kmeans_seeding.specs.Distances.{putCenter, fourCosineDistances, lowerAt, lowerFour};
+ghost use Rattle.kmeans_seeding.specs.Distances.{firstDistances, loweredBy, chanced, Seeding, SeededNext};
 
-// How far leaf i is from centre c.
-fn angle(work: &[f64], coords: &[f64], c: usize, i: usize, m: usize, k: usize, d: usize) -> f64
-    requires { ⌜ (Area (length (now work)) m k d) × (length (now coords) ≡ m * d) × (m * d ≤ 1048576) ⌝ }
+// The cosine distance of leaf i from centre c.
+fn cosine_distance(
+    work: &[f64],
+    coords: &[f64],
+    c: usize,
+    i: usize,
+    m: usize,
+    k: usize,
+    d: usize,
+) -> f64
+    requires { ⌜ (Area (length (now work)) m k d) × (length (now coords) ≡ m * d) ⌝ }
     requires { ⌜ (LeafOf i m d) × (GroupOf c k d) ⌝ }
-    ensures { λ r. ⌜ ((u : List ℕ) → r ≡ angleOf (rowOf (now (coords .entry)) d i) (rowOf (stateIn m k d (now (work .entry)) u .centers) d c)) ⌝ }
+    ensures { λ r. ⌜ ((u : List ℕ) → r ≡ cosineDistance (rowOf (now (coords .entry)) d i)
+        (rowOf (stateIn m k d (now (work .entry)) u .centers) d c)) ⌝ }
 {
     let at = i * d;
     let row = c * d;
@@ -26,8 +36,8 @@ fn angle(work: &[f64], coords: &[f64], c: usize, i: usize, m: usize, k: usize, d
     )
 }
 
-// How far leaves i to i + 3 are from centre c.
-fn four_angles(
+// The cosine distances of leaves i to i + 3 from centre c.
+fn four_cosine_distances(
     work: &[f64],
     coords: &[f64],
     c: usize,
@@ -36,9 +46,10 @@ fn four_angles(
     k: usize,
     d: usize,
 ) -> float::Four
-    requires { ⌜ (Area (length (now work)) m k d) × (length (now coords) ≡ m * d) × (m * d ≤ 1048576) ⌝ }
+    requires { ⌜ (Area (length (now work)) m k d) × (length (now coords) ≡ m * d) ⌝ }
     requires { ⌜ ((i + 4) * d ≤ m * d) × (GroupOf c k d) ⌝ }
-    ensures { λ r. ⌜ ((u : List ℕ) → r ≡ fourAngles (now (coords .entry)) d (rowOf (stateIn m k d (now (work .entry)) u .centers) d c) i) ⌝ }
+    ensures { λ r. ⌜ ((u : List ℕ) → r
+        ≡ fourCosineDistances (now (coords .entry)) d (rowOf (stateIn m k d (now (work .entry)) u .centers) d c) i) ⌝ }
 {
     let row = c * d;
     let f = kmeans_nearest::row_dots(&work[row..row + d], coords, i, d);
@@ -78,21 +89,20 @@ fn lower_four(work: &mut [f64], at: usize, f: float::Four)
 
 // The distance of each leaf lowered where centre c is nearer: by fours, then singly.
 fn lower_distances(work: &mut [f64], coords: &[f64], c: usize, m: usize, k: usize, d: usize)
-    requires { ⌜ (Area (length (now work)) m k d) × (length (now coords) ≡ m * d) × (m * d ≤ 1048576) ⌝ }
+    requires { ⌜ (Area (length (now work)) m k d) × (length (now coords) ≡ m * d) ⌝ }
     requires { ⌜ GroupOf c k d ⌝ }
     ensures { λ _. ⌜ ((u : List ℕ) → stateIn m k d (now (work .exit)) u
-        ≡ putLow (lowered (now (coords .entry)) d (rowOf (stateIn m k d (now (work .entry)) u .centers) d c) 0 (stateIn m k d (now (work .entry)) u .low)) (stateIn m k d (now (work .entry)) u)) ⌝ }
+        ≡ loweredBy (now (coords .entry)) d c (stateIn m k d (now (work .entry)) u)) ⌝ }
 {
-    let kd = k * d;
-    let low = kd + kd + m;
+    let low = kmeans_layout::low_at(m, k, d);
     let mut i = 0;
     while 4 <= m - i {
-        let f = four_angles(work, coords, c, i, m, k, d);
+        let f = four_cosine_distances(work, coords, c, i, m, k, d);
         lower_four(work, low + i, f);
         i += 4;
     }
     while i < m {
-        let v = angle(work, coords, c, i, m, k, d);
+        let v = cosine_distance(work, coords, c, i, m, k, d);
         lower_at(work, low + i, v);
         i += 1;
     }
@@ -100,12 +110,12 @@ fn lower_distances(work: &mut [f64], coords: &[f64], c: usize, m: usize, k: usiz
 
 // The distance of each leaf from the first centre, lowered from an infinite one.
 fn first_distances(work: &mut [f64], coords: &[f64], m: usize, k: usize, d: usize)
-    requires { ⌜ (Area (length (now work)) m k d) × (length (now coords) ≡ m * d) × (m * d ≤ 1048576) × (0 < k) ⌝ }
+    requires { ⌜ (Area (length (now work)) m k d) × (length (now coords) ≡ m * d) ⌝ }
     ensures { λ _. ⌜ ((u : List ℕ) → stateIn m k d (now (work .exit)) u
-        ≡ putLow (anglesUpTo (now (coords .entry)) d (rowOf (stateIn m k d (now (work .entry)) u .centers) d 0) m) (stateIn m k d (now (work .entry)) u)) ⌝ }
+        ≡ firstDistances (now (coords .entry)) m d (stateIn m k d (now (work .entry)) u)) ⌝ }
 {
-    let kd = k * d;
-    kmeans_layout::fill_at(work, kd + kd + m, m, 1.0 / 0.0);
+    let low = kmeans_layout::low_at(m, k, d);
+    kmeans_layout::fill_at(work, low, m, 1.0 / 0.0);
     lower_distances(work, coords, 0, m, k, d);
 }
 
@@ -113,11 +123,10 @@ fn first_distances(work: &mut [f64], coords: &[f64], m: usize, k: usize, d: usiz
 fn put_chances(work: &mut [f64], weights: &[f64], m: usize, k: usize, d: usize)
     requires { ⌜ (Area (length (now work)) m k d) × (length (now weights) ≡ m) ⌝ }
     ensures { λ _. ⌜ ((u : List ℕ) → stateIn m k d (now (work .exit)) u
-        ≡ putHigh (chances (now (weights .entry)) (stateIn m k d (now (work .entry)) u .low)) (stateIn m k d (now (work .entry)) u)) ⌝ }
+        ≡ chanced (now (weights .entry)) (stateIn m k d (now (work .entry)) u)) ⌝ }
 {
-    let kd = k * d;
-    let low = kd + kd + m;
-    let high = low + m;
+    let low = kmeans_layout::low_at(m, k, d);
+    let high = kmeans_layout::high_at(m, k, d);
     let mut i = 0;
     while i < m {
         work[high + i] = weights[i] * work[low + i];
@@ -127,7 +136,7 @@ fn put_chances(work: &mut [f64], weights: &[f64], m: usize, k: usize, d: usize)
 
 // Centre c becomes leaf i as a unit vector.
 fn seed_center(work: &mut [f64], coords: &[f64], c: usize, i: usize, m: usize, k: usize, d: usize)
-    requires { ⌜ (Area (length (now work)) m k d) × (length (now coords) ≡ m * d) × (m * d ≤ 1048576) ⌝ }
+    requires { ⌜ (Area (length (now work)) m k d) × (length (now coords) ≡ m * d) ⌝ }
     requires { ⌜ (LeafOf i m d) × (GroupOf c k d) ⌝ }
     ensures { λ _. ⌜ ((u : List ℕ) → stateIn m k d (now (work .exit)) u
         ≡ putCenter d c (unitVector (rowOf (now (coords .entry)) d i)) (stateIn m k d (now (work .entry)) u)) ⌝ }
@@ -137,12 +146,12 @@ fn seed_center(work: &mut [f64], coords: &[f64], c: usize, i: usize, m: usize, k
     vector::unit(&mut work[to..to + d], &coords[from..from + d]);
 }
 
-// One centre more, by the weights times the distances; the generator's next state.
+// One centre more, by the weights times the distances; answers the generator after it.
 fn seed_next(
     work: &mut [f64],
     weights: &[f64],
     coords: &[f64],
-    state: u64,
+    generator: u64,
     c: usize,
     m: usize,
     k: usize,
@@ -150,42 +159,43 @@ fn seed_next(
 ) -> u64
     requires { ⌜ Seeding (length (now work)) (length (now weights)) (length (now coords)) m k d ⌝ }
     requires { ⌜ GroupOf c k d ⌝ }
-    ensures { λ r. ⌜ ((u : List ℕ) → SeededNext (now (weights .entry)) (now (coords .entry)) d c state (stateIn m k d (now (work .entry)) u) (stateIn m k d (now (work .exit)) u) r) ⌝ }
+    ensures { λ r. ⌜ ((u : List ℕ) → SeededNext (now (weights .entry)) (now (coords .entry)) d c generator
+        (stateIn m k d (now (work .entry)) u) (stateIn m k d (now (work .exit)) u) r) ⌝ }
 {
     put_chances(work, weights, m, k, d);
-    let kd = k * d;
-    let high = kd + kd + m + m;
+    let high = kmeans_layout::high_at(m, k, d);
     let s = &work[..];
-    let p = pick::weighted_pick(&s[high..high + m], state);
+    let p = pick::weighted_pick(&s[high..high + m], generator);
     let i = p.index;
     seed_center(work, coords, c, i, m, k, d);
     lower_distances(work, coords, c, m, k, d);
-    p.state
+    p.generator
 }
 
-// The seeds of a run (spherical_pp); the generator's next state.
+// The seeds of a run (spherical_pp); answers the generator after them.
 pub fn seed(
     work: &mut [f64],
     weights: &[f64],
     coords: &[f64],
-    state: u64,
+    generator: u64,
     m: usize,
     k: usize,
     d: usize,
 ) -> u64
     requires { ⌜ Seeding (length (now work)) (length (now weights)) (length (now coords)) m k d ⌝ }
-    ensures { λ r. ⌜ ((u : List ℕ) → (stateIn m k d (now (work .exit)) u .centers ≡ seedsOf (now (weights .entry)) (now (coords .entry)) m k d state .centers)
-        × (r ≡ seedsOf (now (weights .entry)) (now (coords .entry)) m k d state .state)) ⌝ }
+    ensures { λ r. ⌜ ((u : List ℕ) → (stateIn m k d (now (work .exit)) u .centers
+        ≡ seedsOf (now (weights .entry)) (now (coords .entry)) m k d generator .centers)
+        × (r ≡ seedsOf (now (weights .entry)) (now (coords .entry)) m k d generator .generator)) ⌝ }
 {
-    let p = pick::weighted_pick(weights, state);
+    let p = pick::weighted_pick(weights, generator);
     let i = p.index;
     seed_center(work, coords, 0, i, m, k, d);
     first_distances(work, coords, m, k, d);
-    let mut s = p.state;
+    let mut g = p.generator;
     let mut c = 1;
     while c < k {
-        s = seed_next(work, weights, coords, s, c, m, k, d);
+        g = seed_next(work, weights, coords, g, c, m, k, d);
         c += 1;
     }
-    s
+    g
 }

@@ -5,5 +5,5 @@ use lib.Ieee.{Float}
 use Rattle.float.specs.Arithmetic.{plusZero, sumFrom}
 use Rattle.kmeans_sums.specs.Sums.{normsUpTo, sumsUpTo}
 
-unfoldable pub cohesionOf : List Float → List Float → List ℕ → ℕ → ℕ → ℕ → Float
+unfoldable pub cohesionOf : (weights coords : List Float) (labels : List ℕ) (m k d : ℕ) → Float
 cohesionOf weights coords labels m k d = sumFrom plusZero (normsUpTo (sumsUpTo weights coords labels k d m) d k)

@@ -20,7 +20,8 @@ pub record Gains (marks : List ℕ) (weights : List Float) (i m k d : ℕ) : Typ
 -- leaf i adds its row to the sum of its label, which counts it; the state stays
 pub record Gained (weights coords : List Float) (i m k d : ℕ) (w w' : List Float) (u u' : List ℕ) : Type 0 where
   pub state : stateIn m k d w' u' ≡ stateIn m k d w u
-  pub sums : sumsIn k d w' ≡ addLeaf (sumsIn k d w) d (getD (stateIn m k d w u .labels) i 0) (getD weights i nan) (rowOf coords d i)
+  pub sums : sumsIn k d w'
+      ≡ addLeaf (sumsIn k d w) d (getD (stateIn m k d w u .labels) i 0) (getD weights i nan) (rowOf coords d i)
   pub counts : countsIn m k u' ≡ countOne (countsIn m k u) (getD (stateIn m k d w u .labels) i 0)
 
 pub record Accumulated (weights coords : List Float) (m k d : ℕ) (w w' : List Float) (u u' : List ℕ) : Type 0 where

@@ -1,5 +1,5 @@
-// The sums and counts of the groups by the labels, and the cohesion (vmf.rs; document 01, 'Spherical k-means'), in the work areas of a run: m leaves of d coordinates,
-// k groups.
+// The sums and counts of the groups by the labels, and the cohesion (vmf.rs; document 01, 'Spherical k-means'), in the
+// work areas of a run: m leaves of d coordinates, k groups.
 ghost use mathlib.Core.Path.{_≡_};
 ghost use Prim.Native.Nat.{_+_, _*_, _<_};
 ghost use lib.ListN.{length};
@@ -22,7 +22,8 @@ fn gain(
 )
     requires { ⌜ Sized (length (now work)) (length (now marks)) (length (now coords)) m k d ⌝ }
     requires { ⌜ Gains (now marks) (now weights) i m k d ⌝ }
-    ensures { λ _. ⌜ Gained (now (weights .entry)) (now (coords .entry)) i m k d (now (work .entry)) (now (work .exit)) (now (marks .entry)) (now (marks .exit)) ⌝ }
+    ensures { λ _. ⌜ Gained (now (weights .entry)) (now (coords .entry)) i m k d
+        (now (work .entry)) (now (work .exit)) (now (marks .entry)) (now (marks .exit)) ⌝ }
 {
     let kd = k * d;
     let c = marks[i] as usize;
@@ -44,10 +45,11 @@ pub fn accumulate(
 )
     requires { ⌜ Sized (length (now work)) (length (now marks)) (length (now coords)) m k d ⌝ }
     requires { ⌜ (length (now weights) ≡ m) × Labelled m k (stateIn m k d (now work) (now marks)) ⌝ }
-    ensures { λ _. ⌜ Accumulated (now (weights .entry)) (now (coords .entry)) m k d (now (work .entry)) (now (work .exit)) (now (marks .entry)) (now (marks .exit)) ⌝ }
+    ensures { λ _. ⌜ Accumulated (now (weights .entry)) (now (coords .entry)) m k d
+        (now (work .entry)) (now (work .exit)) (now (marks .entry)) (now (marks .exit)) ⌝ }
 {
     let kd = k * d;
-    rows::fill(&mut work[kd..kd + kd], 0.0);
+    kmeans_layout::fill_at(work, kd, kd, 0.0);
     rows::fill_u32(&mut marks[m..m + k], 0);
     let mut i = 0;
     while i < m {
@@ -84,9 +86,12 @@ pub fn cohesion_of(
 ) -> f64
     requires { ⌜ Sized (length (now work)) (length (now marks)) (length (now coords)) m k d ⌝ }
     requires { ⌜ (length (now weights) ≡ m) × Labelled m k (stateIn m k d (now work) (now marks)) ⌝ }
-    ensures { λ r. ⌜ (r ≡ cohesionOf (now (weights .entry)) (now (coords .entry)) (stateIn m k d (now (work .entry)) (now (marks .entry)) .labels) m k d)
-        × (stateIn m k d (now (work .exit)) (now (marks .exit)) ≡ stateIn m k d (now (work .entry)) (now (marks .entry)))
-        × (sumsIn k d (now (work .exit)) ≡ sumsUpTo (now (weights .entry)) (now (coords .entry)) (stateIn m k d (now (work .entry)) (now (marks .entry)) .labels) k d m) ⌝ }
+    ensures { λ r. ⌜ (r ≡ cohesionOf (now (weights .entry)) (now (coords .entry))
+        (stateIn m k d (now (work .entry)) (now (marks .entry)) .labels) m k d)
+        × (stateIn m k d (now (work .exit)) (now (marks .exit))
+        ≡ stateIn m k d (now (work .entry)) (now (marks .entry)))
+        × (sumsIn k d (now (work .exit)) ≡ sumsUpTo (now (weights .entry)) (now (coords .entry))
+        (stateIn m k d (now (work .entry)) (now (marks .entry)) .labels) k d m) ⌝ }
 {
     accumulate(work, marks, weights, coords, m, k, d);
     add_norms(work, m, k, d)

@@ -1,4 +1,4 @@
 pub mod Served
-pub mod Settles
+pub mod Whole
 pub mod Updates
 pub mod Reseeds

@@ -9,7 +9,7 @@ use mathlib.Core.Bool.{Bool, true, false, not, _||_, cond, true≢false}
 use Prim.Native.Nat.{ℕ, zero, suc, _+_, _*_, _≤_, _<_}
 use native.Mathlib.Omega.{arith}
 use lib.Dec.{T, eqb, lit≤}
-use lib.ListN.{length, getD, set, length-set, length-append}
+use lib.ListN.{length, getD, set, length-set}
 use lib.Seq.{getD-set-same, getD-set-other}
 use borrow.Author.Tests.{eqb-true, eqb-false, ne-eqb}
 use lib.Ieee.{Float, nan, inf, fin, lt, eq, le, isNan}
@@ -23,10 +23,13 @@ use Rattle.float.proofs.Order.{lt-or-ge}
 use Rattle.float.proofs.Bound.{Within}
 use Rattle.float.proofs.Ranges.{All, dot-256}
 use Rattle.vector.proofs.Within.{all-put, all-append, all-row, all-get, row-length, unit-within}
-use Rattle.pick.proofs.Places.{argmin-below, argmin-least}
+use Rattle.pick.proofs.Places.{either, argmin-below, argmin-least}
+use Rattle.kmeans_bounds.proofs.Turns.{neither}
 use Rattle.kmeans_sums.proofs.Within.{sums-within, center-within}
-use Rattle.kmeans_update.specs.Update.{Update, freshUpdate, putServed, moveCenter, emptyUpTo, among, servedUpTo, bestServed, reseedFrom}
-use Rattle.kmeans_update.specs.Update.{recenter, updateUpTo, updateTo}
+use Rattle.kmeans_update.specs.Update.{Update, freshUpdate, putServed, moveCenter, emptyUpTo, among, servedUpTo, bestServed}
+use Rattle.kmeans_update.specs.Update.{reseedFrom, recenter, updateUpTo, updateTo}
+use Rattle.kmeans_update.specs.Groups.{serveLeaves}
+use Rattle.kmeans_update.proofs.Served.{length-served-up}
 
 -- ---- of more leaves than are listed, one is not listed
 without : ℕ → List ℕ → List ℕ
@@ -97,10 +100,6 @@ unfolding le lt eq
 above-all B nan h g = h
 above-all B (inf s) h g = h
 above-all B (fin s m e) h g = g
-
-neither : (a b : Bool) → (a || b) ≡ false → (a ≡ false) × (b ≡ false)
-neither true b e = absurd (true≢false e)
-neither false b e = (refl, e)
 
 -- without an empty group among k, there is none among fewer
 none-before : (counts : List ℕ) (k c : ℕ) → c ≤ k → emptyUpTo counts k ≡ false → emptyUpTo counts c ≡ false
@@ -201,15 +200,11 @@ module _ (m d : ℕ) (coords : List Float) (hc : All (Within 2 1) coords) (hd : 
     updates-sound : Sound m 0 (freshUpdate s) → (c : ℕ) → c ≤ m → Sound m c (updateUpTo coords d sums counts s c)
     unfolding updateUpTo
     updates-sound h zero l = h
-    updates-sound h (suc c) l = go (eqb (getD counts c 0) 0) (updates-sound h c (omega arith))
-      where
-        b : Update
-        b = updateUpTo coords d sums counts s c
-
-        go : (e : Bool) → Sound m c b → Sound m (suc c)
-            (cond e (reseedFrom coords d c (argminOf (b .state .served)) b) (recenter d sums c b))
-        go true t = reseed-sound c b l t
-        go false t = recenter-sound c b t
+    updates-sound h (suc c) l =
+        let b = updateUpTo coords d sums counts s c in
+        let t = updates-sound h c (omega arith) in
+        either (Sound m (suc c)) (eqb (getD counts c 0) 0) (reseedFrom coords d c (argminOf (b .state .served)) b) (recenter d sums c b)
+        (reseed-sound c b l t) (recenter-sound c b t)
 
     -- without an empty group nothing is picked
     updates-full : Clean 0 (freshUpdate s) → (c : ℕ) → emptyUpTo counts c ≡ false → Clean c (updateUpTo coords d sums counts s c)
@@ -223,13 +218,6 @@ module _ (m d : ℕ) (coords : List Float) (hc : All (Within 2 1) coords) (hd : 
         (recenter-clean c b (updates-full h c (o .0)))
 
   -- ---- served refreshed: each a dot of two rows within ±2
-  served-length : (s : State) (n : ℕ) → length (servedUpTo coords d s n) ≡ n
-  unfolding servedUpTo
-  served-length s zero = refl
-  served-length s (suc n) =
-      let e = length-append (servedUpTo coords d s n) (dotOf (rowOf coords d n) (rowOf (s .centers) d (getD (s .labels) n 0)) ∷ []) in
-      omega (arith, e, served-length s n)
-
   served-within : (s : State) → All (Within 2 1) (s .centers) → (n : ℕ) → All (Within 1024 1) (servedUpTo coords d s n)
   unfolding servedUpTo
   served-within s h zero = tt
@@ -245,14 +233,15 @@ module _ (m d : ℕ) (coords : List Float) (hc : All (Within 2 1) coords) (hd : 
   fresh-clean : (s : State) → All (Within 2 1) (s .centers) → Clean 0 (freshUpdate s)
   fresh-clean s h = record { centers = h; few = omega arith; none = refl }
 
-  refreshed-sound : (s : State) → All (Within 2 1) (s .centers) → Sound m 0 (freshUpdate (putServed (servedUpTo coords d s m) s))
+  refreshed-sound : (s : State) → All (Within 2 1) (s .centers) → Sound m 0 (freshUpdate (serveLeaves coords d m s))
   unfolding putServed among
   refreshed-sound s h =
       record {
         clean = fresh-clean _ h;
-        long = served-length s m;
+        long = length-served-up coords d s m;
         high = λ i l e. absurd (true≢false (sym e));
-        low = λ i l e. all-get (Within 1024 1) (servedUpTo coords d s m) i (served-within s h m) (omega (arith, served-length s m, l));
+        low = λ i l e.
+            all-get (Within 1024 1) (servedUpTo coords d s m) i (served-within s h m) (omega (arith, length-served-up coords d s m, l));
       }
 
   -- ---- the whole update, after c of its k groups
@@ -271,7 +260,7 @@ module _ (m d : ℕ) (coords : List Float) (hc : All (Within 2 1) coords) (hd : 
       hs = sums-within weights coords (s .labels) k d hw hc m (omega (arith, lw)) lm
 
       again : State
-      again = putServed (servedUpTo coords d s m) s
+      again = serveLeaves coords d m s
 
       go : (b : Bool) → emptyUpTo counts k ≡ b → Clean c (updateUpTo coords d sums counts (cond b again s) c)
       go true e = updates-sound sums counts hs again (refreshed-sound s h) c (omega arith) .clean

@@ -26,8 +26,10 @@ putServed v s =
       labels = s .labels;
     }
 
--- centre c becomes this row of d; its drift is the dot of the old row and the new, held to [−1, 1]
-unfoldable pub moveCenter : ℕ → ℕ → List Float → State → State
+-- Centre c becomes this row of d; its drift is the dot of the old row and the new, held to [−1, 1]. The Rust takes the
+-- drifts once all centres have moved, against a copy of the old ones: that is the same, since no move before this one
+-- touches row c, and no later one of the update.
+unfoldable pub moveCenter : (d c : ℕ) → List Float → State → State
 moveCenter d c row s =
     record {
       centers = putPart (s .centers) (c * d) d row;
@@ -40,7 +42,7 @@ moveCenter d c row s =
     }
 
 -- whether one of the first n groups is empty
-unfoldable pub emptyUpTo : List ℕ → ℕ → Bool
+unfoldable pub emptyUpTo : List ℕ → (n : ℕ) → Bool
 emptyUpTo counts zero = false
 emptyUpTo counts (suc c) = emptyUpTo counts c || eqb (getD counts c 0) 0
 
@@ -59,54 +61,60 @@ pub record Update : Type 0 where
 abbrev pub freshUpdate : State → Update
 freshUpdate s = record { state = s; picked = []; doubled = 0 }
 
--- how well the first n leaves are served by the centres of their labels
-unfoldable pub servedUpTo : List Float → ℕ → State → ℕ → List Float
-servedUpTo coords d s zero = []
-servedUpTo coords d s (suc i) =
-    servedUpTo coords d s i ++ (dotOf (rowOf coords d i) (rowOf (s .centers) d (getD (s .labels) i 0)) ∷ [])
-
--- served refreshed where a group is empty
-abbrev pub refreshed : List Float → ℕ → ℕ → ℕ → List ℕ → State → State
-refreshed coords m k d counts s = cond (emptyUpTo counts k) (putServed (servedUpTo coords d s m) s) s
-
 -- how well a leaf is served once a reseed has picked it: best of all, so that no other reseed picks it
 abbrev pub bestServed : Float
 bestServed = inf false
 
--- an empty group is reseeded from the worst-served leaf
-abbrev pub reseeded : List Float → ℕ → ℕ → ℕ → State → State
-reseeded coords d c worst s =
-    moveCenter d c (unitVector (rowOf coords d worst)) (putServed (set (s .served) worst bestServed) s)
+-- a group that is not empty gets the centre of its sum
+module _ (d : ℕ) (sums : List Float) (c : ℕ) where
+  abbrev pub recentered : State → State
+  recentered s = moveCenter d c (centerBy (rowOf sums d c) (rowOf (s .centers) d c)) s
 
-abbrev pub reseedFrom : List Float → ℕ → ℕ → ℕ → Update → Update
-reseedFrom coords d c worst u =
-    record {
-      state = reseeded coords d c worst (u .state);
-      picked = worst ∷ u .picked;
-      doubled = u .doubled + cond (among worst (u .picked)) 1 0;
-    }
+  abbrev pub recenter : Update → Update
+  recenter u = record { state = recentered (u .state); picked = u .picked; doubled = u .doubled }
 
--- any other group gets the centre of its sum
-abbrev pub recentered : ℕ → List Float → ℕ → State → State
-recentered d sums c s = moveCenter d c (centerBy (rowOf sums d c) (rowOf (s .centers) d c)) s
+module _ (coords : List Float) (d : ℕ) where
+  -- how well the first n leaves are served by the centres of their labels
+  unfoldable pub servedUpTo : State → (n : ℕ) → List Float
+  servedUpTo s zero = []
+  servedUpTo s (suc i) =
+      servedUpTo s i ++ (dotOf (rowOf coords d i) (rowOf (s .centers) d (getD (s .labels) i 0)) ∷ [])
 
-abbrev pub recenter : ℕ → List Float → ℕ → Update → Update
-recenter d sums c u = record { state = recentered d sums c (u .state); picked = u .picked; doubled = u .doubled }
+  -- an empty group is reseeded from the worst-served leaf
+  abbrev pub reseeded : (c worst : ℕ) → State → State
+  reseeded c worst s =
+      moveCenter d c (unitVector (rowOf coords d worst)) (putServed (set (s .served) worst bestServed) s)
 
-abbrev pub updateGroup : List Float → ℕ → List Float → List ℕ → ℕ → Update → Update
-updateGroup coords d sums counts c u =
-    cond (eqb (getD counts c 0) 0) (reseedFrom coords d c (argminOf (u .state .served)) u) (recenter d sums c u)
+  abbrev pub reseedFrom : (c worst : ℕ) → Update → Update
+  reseedFrom c worst u =
+      record {
+        state = reseeded c worst (u .state);
+        picked = worst ∷ u .picked;
+        doubled = u .doubled + cond (among worst (u .picked)) 1 0;
+      }
 
-unfoldable pub updateUpTo : List Float → ℕ → List Float → List ℕ → State → ℕ → Update
-updateUpTo coords d sums counts s zero = freshUpdate s
-updateUpTo coords d sums counts s (suc c) = updateGroup coords d sums counts c (updateUpTo coords d sums counts s c)
+  module _ (sums : List Float) (counts : List ℕ) where
+    abbrev pub updateGroup : (c : ℕ) → Update → Update
+    updateGroup c u =
+        cond (eqb (getD counts c 0) 0) (reseedFrom c (argminOf (u .state .served)) u) (recenter d sums c u)
 
--- sums and counts, served refreshed where a group is empty, and new centres of the first n groups
-abbrev pub updateTo : List Float → List Float → ℕ → ℕ → ℕ → State → ℕ → Update
-updateTo weights coords m k d s n =
-    updateUpTo coords d (sumsUpTo weights coords (s .labels) k d m) (countsUpTo (s .labels) k m)
-    (refreshed coords m k d (countsUpTo (s .labels) k m) s) n
+    -- the first n groups
+    unfoldable pub updateUpTo : State → (n : ℕ) → Update
+    updateUpTo s zero = freshUpdate s
+    updateUpTo s (suc c) = updateGroup c (updateUpTo s c)
 
--- of all k
-abbrev pub updateOf : List Float → List Float → ℕ → ℕ → ℕ → State → Update
-updateOf weights coords m k d s = updateTo weights coords m k d s k
+-- served refreshed where a group is empty
+abbrev pub refreshed : List Float → (m k d : ℕ) → List ℕ → State → State
+refreshed coords m k d counts s = cond (emptyUpTo counts k) (putServed (servedUpTo coords d s m) s) s
+
+module _ (weights coords : List Float) (m k d : ℕ) (s : State) where
+  -- sums and counts, served refreshed where a group is empty, and new centres of the first n groups
+  abbrev pub updateTo : (n : ℕ) → Update
+  updateTo n =
+      let counts = countsUpTo (s .labels) k m in
+      let sums = sumsUpTo weights coords (s .labels) k d m in
+      updateUpTo coords d sums counts (refreshed coords m k d counts s) n
+
+  -- of all k
+  abbrev pub updateOf : Update
+  updateOf = updateTo k

@@ -1,17 +1,17 @@
-// The update of a round of spherical k-means: new centres, their drift, and reseeds of empty groups (vmf.rs; document 01, 'Spherical k-means'), in the work areas of a
-// run: m leaves of d coordinates, k groups.
+// The update of a round of spherical k-means: new centres, their drift, and reseeds of empty groups (vmf.rs; document
+// 01, 'Spherical k-means'), in the work areas of a run: m leaves of d coordinates, k groups.
 ghost use mathlib.Core.Path.{_≡_};
 ghost use mathlib.Core.List.{List};
 ghost use Prim.Native.Nat.{ℕ, _+_, _*_, _<_, _≤_};
 ghost use lib.ListN.{length, getD};
 ghost use Rattle.rows.specs.Rows.{part, rowOf};
 ghost use Rattle.kmeans_bounds.specs.Shifts.{cosine};
-ghost use Rattle.kmeans_update.specs.Update.{emptyUpTo, servedUpTo, putServed, moveCenter, reseeded, recentered};
+ghost use Rattle.kmeans_update.specs.Update.{emptyUpTo, moveCenter, reseeded, recentered};
 ghost use Rattle.kmeans_update.specs.Update.{freshUpdate, updateGroup, updateUpTo, updateOf};
 ghost use Rattle.pick.specs.Places.{argminOf};
 ghost use Rattle.vector.specs.Vectors.{dotOf};
 ghost use Rattle.kmeans_layout.specs.Areas.{stateIn, sumsIn, countsIn, Sized, LeafOf, GroupOf, Labelled, Area};
-ghost use Rattle.kmeans_update.specs.Groups.{serveLeaf, LaterRows, Leafed};
+ghost use Rattle.kmeans_update.specs.Groups.{serveLeaf, serveLeaves, keepCenter, LaterRows, Leafed};
 
 // ---- how well the leaves are served
 
@@ -41,16 +41,16 @@ fn refresh_leaf(
 )
     requires { ⌜ Sized (length (now work)) (length (now marks)) (length (now coords)) m k d ⌝ }
     requires { ⌜ (LeafOf i m d) × GroupOf (getD (now marks) i 0) k d ⌝ }
-    ensures { λ _. ⌜ stateIn m k d (now (work .exit)) (now (marks .entry)) ≡ serveLeaf (now (coords .entry)) d i (stateIn m k d (now (work .entry)) (now (marks .entry))) ⌝ }
+    ensures { λ _. ⌜ stateIn m k d (now (work .exit)) (now (marks .entry))
+        ≡ serveLeaf (now (coords .entry)) d i (stateIn m k d (now (work .entry)) (now (marks .entry))) ⌝ }
     ensures { λ _. ⌜ sumsIn k d (now (work .exit)) ≡ sumsIn k d (now (work .entry)) ⌝ }
 {
-    let kd = k * d;
+    let served = kmeans_layout::served_at(m, k, d);
     let c = marks[i] as usize;
     let at = i * d;
     let row = c * d;
     let s = &work[..];
     let v = vector::dot(&coords[at..at + d], &s[row..row + d]);
-    let served = kd + kd + m + m + m;
     work[served + i] = v;
 }
 
@@ -59,7 +59,7 @@ fn refresh(work: &mut [f64], marks: &[u32], coords: &[f64], m: usize, k: usize, 
     requires { ⌜ Sized (length (now work)) (length (now marks)) (length (now coords)) m k d ⌝ }
     requires { ⌜ Labelled m k (stateIn m k d (now work) (now marks)) ⌝ }
     ensures { λ _. ⌜ stateIn m k d (now (work .exit)) (now (marks .entry))
-        ≡ putServed (servedUpTo (now (coords .entry)) d (stateIn m k d (now (work .entry)) (now (marks .entry))) m) (stateIn m k d (now (work .entry)) (now (marks .entry))) ⌝ }
+        ≡ serveLeaves (now (coords .entry)) d m (stateIn m k d (now (work .entry)) (now (marks .entry))) ⌝ }
     ensures { λ _. ⌜ sumsIn k d (now (work .exit)) ≡ sumsIn k d (now (work .entry)) ⌝ }
 {
     let mut i = 0;
@@ -83,14 +83,15 @@ fn turned(w: &[f64], at: usize, to: usize, d: usize) -> f64
 fn move_center(work: &mut [f64], c: usize, m: usize, k: usize, d: usize)
     requires { ⌜ Area (length (now work)) m k d ⌝ }
     requires { ⌜ GroupOf c k d ⌝ }
-    ensures { λ _. ⌜ ((u : List ℕ) → stateIn m k d (now (work .exit)) u ≡ moveCenter d c (rowOf (sumsIn k d (now (work .entry))) d c) (stateIn m k d (now (work .entry)) u)) ⌝ }
+    ensures { λ _. ⌜ ((u : List ℕ) → stateIn m k d (now (work .exit)) u
+        ≡ moveCenter d c (rowOf (sumsIn k d (now (work .entry))) d c) (stateIn m k d (now (work .entry)) u)) ⌝ }
     ensures { λ _. ⌜ sumsIn k d (now (work .exit)) ≡ sumsIn k d (now (work .entry)) ⌝ }
 {
     let kd = k * d;
     let to = c * d;
     let from = kd + to;
+    let drift = kmeans_layout::drift_at(m, k, d);
     let v = turned(work, to, from, d);
-    let drift = kd + kd + m + m + m + m;
     work[drift + c] = v;
     rows::copy_within(work, from, to, d);
 }
@@ -99,13 +100,13 @@ fn move_center(work: &mut [f64], c: usize, m: usize, k: usize, d: usize)
 fn keep_center(work: &mut [f64], c: usize, m: usize, k: usize, d: usize)
     requires { ⌜ Area (length (now work)) m k d ⌝ }
     requires { ⌜ GroupOf c k d ⌝ }
-    ensures { λ _. ⌜ ((u : List ℕ) → stateIn m k d (now (work .exit)) u ≡ moveCenter d c (rowOf (stateIn m k d (now (work .entry)) u .centers) d c) (stateIn m k d (now (work .entry)) u)) ⌝ }
+    ensures { λ _. ⌜ ((u : List ℕ) → stateIn m k d (now (work .exit)) u
+        ≡ keepCenter d c (stateIn m k d (now (work .entry)) u)) ⌝ }
     ensures { λ _. ⌜ sumsIn k d (now (work .exit)) ≡ sumsIn k d (now (work .entry)) ⌝ }
 {
-    let kd = k * d;
     let at = c * d;
+    let drift = kmeans_layout::drift_at(m, k, d);
     let v = turned(work, at, at, d);
-    let drift = kd + kd + m + m + m + m;
     work[drift + c] = v;
 }
 
@@ -138,11 +139,11 @@ fn reseed(work: &mut [f64], coords: &[f64], c: usize, m: usize, k: usize, d: usi
         (stateIn m k d (now (work .entry)) u)) ⌝ }
     ensures { λ _. ⌜ LaterRows c k d (now (work .entry)) (now (work .exit)) ⌝ }
 {
-    let kd = k * d;
-    let served = kd + kd + m + m + m;
+    let served = kmeans_layout::served_at(m, k, d);
     let s = &work[..];
     let worst = pick::argmin(&s[served..served + m]);
     let row = worst * d;
+    let kd = k * d;
     let from = kd + c * d;
     vector::unit(&mut work[from..from + d], &coords[row..row + d]);
     work[served + worst] = 1.0 / 0.0;
@@ -174,7 +175,7 @@ fn update_group(
 }
 
 // Every group's centre anew.
-fn update(work: &mut [f64], marks: &[u32], coords: &[f64], m: usize, k: usize, d: usize)
+fn update_groups(work: &mut [f64], marks: &[u32], coords: &[f64], m: usize, k: usize, d: usize)
     requires { ⌜ Sized (length (now work)) (length (now marks)) (length (now coords)) m k d ⌝ }
     ensures { λ _. ⌜ stateIn m k d (now (work .exit)) (now (marks .entry))
         ≡ updateUpTo (now (coords .entry)) d (sumsIn k d (now (work .entry))) (countsIn m k (now (marks .entry)))
@@ -187,8 +188,8 @@ fn update(work: &mut [f64], marks: &[u32], coords: &[f64], m: usize, k: usize, d
     }
 }
 
-// Sums and counts, served refreshed where a group is empty, and new centres.
-pub fn settle(
+// The update: sums and counts, served refreshed where a group is empty, and new centres.
+pub fn update(
     work: &mut [f64],
     marks: &mut [u32],
     weights: &[f64],
@@ -207,5 +208,5 @@ pub fn settle(
     if has_empty(marks, m, k) {
         refresh(work, marks, coords, m, k, d);
     }
-    update(work, marks, coords, m, k, d);
+    update_groups(work, marks, coords, m, k, d);
 }

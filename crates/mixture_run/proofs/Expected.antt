@@ -11,7 +11,7 @@ use Rattle.float.specs.Arithmetic.{plusZero}
 use Rattle.float.specs.declared.Four.{Four}
 use Rattle.rows.specs.Rows.{part, putPart, rowOf}
 use Rattle.vector.specs.Vectors.{dotOf}
-use Rattle.kmeans_nearest.specs.Nearest.{rowDots}
+use Rattle.kmeans_nearest.specs.Fours.{rowDots}
 use Rattle.rows.proofs.Rows.{row-within, put-more, part-cut}
 use Rattle.mixture_softmax.specs.Softmax.{logSumExp, logSumAt, sharesAt, joined, weighed, sharesUpTo, logsUpTo}
 use Rattle.mixture_softmax.proofs.Softmax.{shares-length}

@@ -1,5 +1,5 @@
--- Laws of the definitions of specs/Places.antt and specs/Pick.antt, one for a turn of the loop that computes each and one for its end. A pick goes by what is left of the
--- list, a place by the turns done; either lies within the list. Assumes nothing.
+-- Laws of the definitions of specs/Places.antt and specs/Pick.antt, one for a turn of the loop that computes each and one for its end. A
+-- pick goes by what is left of the list, a place by the turns done; either lies within the list. Assumes nothing.
 use mathlib.Core.Path.{_≡_, refl, sym, subst}
 use mathlib.Core.List.{List, [], _∷_}
 use mathlib.Core.Bool.{Bool, true, false, not, _||_, cond}
@@ -19,19 +19,21 @@ use Rattle.rng.specs.SplitMix.{stepOf, mixOf, unitOf}
 use Rattle.pick.specs.Places.{argmaxUpTo, argmaxOf, argminUpTo, argminOf}
 use Rattle.pick.specs.Pick.{pickFrom, pickOf}
 
--- the place of the greatest and of the least: one place alone, a turn by the way that the test went, and the end of a loop that starts at place 1
-either-zero : (t : Bool) → _≡_ {A = ℕ} (cond t 0 0) 0
-either-zero true = refl
-either-zero false = refl
+-- what holds of both holds of either
+pub either : {A : Type 0} (P : A → Type 0) (b : Bool) (x y : A) → P x → P y → P (cond b x y)
+either P true x y h g = h
+either P false x y h g = g
 
+-- the place of the greatest and of the least: one place alone, a turn by the way that the test went, and the end of a loop that starts at
+-- place 1
 module _ (v : List Float) where
   pub argmax-one : argmaxUpTo v 1 ≡ 0
   unfolding argmaxUpTo
-  argmax-one = either-zero (lt (getD v 0 nan) (getD v 0 nan))
+  argmax-one = either (λ (i : ℕ). i ≡ 0) (lt (getD v 0 nan) (getD v 0 nan)) 0 0 refl refl
 
   pub argmin-one : argminUpTo v 1 ≡ 0
   unfolding argminUpTo
-  argmin-one = either-zero (lt (getD v 0 nan) (getD v 0 nan))
+  argmin-one = either (λ (i : ℕ). i ≡ 0) (lt (getD v 0 nan) (getD v 0 nan)) 0 0 refl refl
 
   module _ (best best' i : ℕ) (t : Bool) where
     pub argmax-turn : best ≡ argmaxUpTo v i → lt (getD v best nan) (getD v i nan) ≡ t → best' ≡ cond t i best → best' ≡ argmaxUpTo v (i + 1)
@@ -53,21 +55,19 @@ argmin-end [] i e = let f : i ≡ 1 = omega arith in rw f (argmin-one [])
 argmin-end (x ∷ v) i e = let f : i ≡ suc (length v) = omega arith in rw f
 
 -- the place lies in the vector, if it is not empty
-either-below : (t : Bool) (i best n : ℕ) → i < n → best < n → cond t i best < n
-either-below true i best n h g = h
-either-below false i best n h g = g
-
 argmax-within : (v : List Float) (n : ℕ) → 0 < length v → n ≤ length v → argmaxUpTo v n < length v
 unfolding argmaxUpTo
 argmax-within v zero h g = h
 argmax-within v (suc i) h g =
-    either-below (lt (getD v (argmaxUpTo v i) nan) (getD v i nan)) i (argmaxUpTo v i) (length v) g (argmax-within v i h (omega arith))
+    either (λ (p : ℕ). p < length v) (lt (getD v (argmaxUpTo v i) nan) (getD v i nan)) i (argmaxUpTo v i) g
+    (argmax-within v i h (omega arith))
 
 argmin-within : (v : List Float) (n : ℕ) → 0 < length v → n ≤ length v → argminUpTo v n < length v
 unfolding argminUpTo
 argmin-within v zero h g = h
 argmin-within v (suc i) h g =
-    either-below (lt (getD v i nan) (getD v (argminUpTo v i) nan)) i (argminUpTo v i) (length v) g (argmin-within v i h (omega arith))
+    either (λ (p : ℕ). p < length v) (lt (getD v i nan) (getD v (argminUpTo v i) nan)) i (argminUpTo v i) g
+    (argmin-within v i h (omega arith))
 
 pub argmax-below : (v : List Float) → 0 < length v → argmaxOf v < length v
 argmax-below v h = argmax-within v (length v) h (omega arith)
@@ -128,13 +128,14 @@ pick-within : (t : Float) (i : ℕ) (ws : List Float) → 0 < i + length ws → 
 unfolding pickFrom
 pick-within t i [] h = omega arith
 pick-within t i (w ∷ ws) h =
-    either-below (le (sub binary64 t w) plusZero) i (pickFrom (sub binary64 t w) (suc i) ws) (i + suc (length ws)) (omega arith)
+    either (λ (p : ℕ). p < i + suc (length ws)) (le (sub binary64 t w) plusZero) i (pickFrom (sub binary64 t w) (suc i) ws) (omega arith)
     (omega (arith, pick-within (sub binary64 t w) (suc i) ws (omega arith)))
 
-pub pick-below : (ws : List Float) (state : ℕ) → 0 < length ws → pickOf ws state .index < length ws
-pick-below ws state h =
-    let out = mixOf (stepOf state) in
+pub pick-below : (ws : List Float) (generator : ℕ) → 0 < length ws → pickOf ws generator .index < length ws
+pick-below ws generator h =
+    let out = mixOf (stepOf generator) in
     let sum = sumFrom minusZero ws in
+    let t = mul binary64 (unitOf out) sum in
     let e : max (length ws) 1 ≡ length ws = omega arith in
-    either-below (le sum plusZero) (out % max (length ws) 1) (pickFrom (mul binary64 (unitOf out) sum) 0 ws) (length ws) (rw e (mod-lt out h))
-    (omega (arith, pick-within (mul binary64 (unitOf out) sum) 0 ws (omega arith)))
+    either (λ (p : ℕ). p < length ws) (le sum plusZero) (out % max (length ws) 1) (pickFrom t 0 ws) (rw e (mod-lt out h))
+    (omega (arith, pick-within t 0 ws (omega arith)))

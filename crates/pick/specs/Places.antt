@@ -5,25 +5,26 @@ use Prim.Native.Nat.{ℕ, zero, suc}
 use lib.ListN.{length, getD}
 use lib.Ieee.{Float, nan, lt}
 
--- The place of the greatest among the first n elements, the first of equals: an element takes the place only where it is above the one held, and a
--- comparison with a NaN is false.
-abbrev pub greater : List Float → ℕ → ℕ → ℕ
-greater v best i = cond (lt (getD v best nan) (getD v i nan)) i best
+module _ (v : List Float) where
+  -- The place of the greatest among the first n elements, the first of equals: an element takes the place only where
+  -- it is above the one held, and a comparison with a NaN is false.
+  abbrev pub greater : (best i : ℕ) → ℕ
+  greater best i = cond (lt (getD v best nan) (getD v i nan)) i best
 
-unfoldable pub argmaxUpTo : List Float → ℕ → ℕ
-argmaxUpTo v zero = 0
-argmaxUpTo v (suc i) = greater v (argmaxUpTo v i) i
+  unfoldable pub argmaxUpTo : (n : ℕ) → ℕ
+  argmaxUpTo zero = 0
+  argmaxUpTo (suc i) = greater (argmaxUpTo i) i
 
-abbrev pub argmaxOf : List Float → ℕ
-argmaxOf v = argmaxUpTo v (length v)
+  abbrev pub argmaxOf : ℕ
+  argmaxOf = argmaxUpTo (length v)
 
--- the place of the least, likewise
-abbrev pub less : List Float → ℕ → ℕ → ℕ
-less v best i = cond (lt (getD v i nan) (getD v best nan)) i best
+  -- the place of the least, likewise
+  abbrev pub less : (best i : ℕ) → ℕ
+  less best i = cond (lt (getD v i nan) (getD v best nan)) i best
 
-unfoldable pub argminUpTo : List Float → ℕ → ℕ
-argminUpTo v zero = 0
-argminUpTo v (suc i) = less v (argminUpTo v i) i
+  unfoldable pub argminUpTo : (n : ℕ) → ℕ
+  argminUpTo zero = 0
+  argminUpTo (suc i) = less (argminUpTo i) i
 
-abbrev pub argminOf : List Float → ℕ
-argminOf v = argminUpTo v (length v)
+  abbrev pub argminOf : ℕ
+  argminOf = argminUpTo (length v)

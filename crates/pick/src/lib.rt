@@ -1,4 +1,5 @@
-// The places that vmf.rs picks in a vector, on lent slices of f64: the greatest, the least, and one with a chance in proportion to its weight.
+// The places that vmf.rs picks in a vector, on lent slices of f64: the greatest, the least, and one with a chance in
+// proportion to its weight.
 ghost use mathlib.Core.Path.{_≡_};
 ghost use Prim.Native.Nat.{max};
 ghost use Rattle.pick.specs.Places.{argmaxOf, argminOf};
@@ -34,10 +35,10 @@ pub fn argmin(v: &[f64]) -> usize
     best
 }
 
-// What a pick answers: the place, and the generator's state after its draw.
+// What a pick answers: the place, and the generator after its draw.
 pub struct Picked {
     pub index: usize,
-    pub state: u64,
+    pub generator: u64,
 }
 
 // The first place with t at or below 0 once its weight is taken off, else the last.
@@ -63,20 +64,20 @@ fn at_least_one(n: usize) -> usize
     if n == 0 { 1 } else { n }
 }
 
-// A place with a chance in proportion to its weight, by one draw from the generator's state.
-pub fn weighted_pick(w: &[f64], state: u64) -> Picked
-    ensures { λ r. ⌜ r ≡ pickOf (now (w .entry)) state ⌝ }
+// A place with a chance in proportion to its weight, by one draw from the generator.
+pub fn weighted_pick(w: &[f64], generator: u64) -> Picked
+    ensures { λ r. ⌜ r ≡ pickOf (now (w .entry)) generator ⌝ }
 {
     let total = vector::sum(w);
-    let drawn = rng::draw_u64(state);
+    let drawn = rng::draw_u64(generator);
     if total <= 0.0 {
         return Picked {
             index: drawn.out as usize % at_least_one(w.len()),
-            state: drawn.state,
+            generator: drawn.state,
         };
     }
     Picked {
         index: pick_at(w, rng::unit_f64(drawn.out) * total),
-        state: drawn.state,
+        generator: drawn.state,
     }
 }

@@ -1,5 +1,5 @@
--- `kmeans_nearest::best_from` meets its contract. The invariant of both loops: the best so far is that of the centres before c. The measure is what is left of the
--- centres. Assumes nothing.
+-- `kmeans_nearest::best_from` meets its contract. The invariant of both loops: the best so far is that of the centres before c. The measure
+-- is what is left of the centres. Assumes nothing.
 use mathlib.Core.Path.{_≡_}
 use Prim.Native.Nat.{_+_, _≤_, _<_, _-_}
 use native.Mathlib.Nat.{mul-le-mul-right}
@@ -41,7 +41,8 @@ loop-again c =
     let a = l .before .before .before .args in (
       omega arith,
       omega (arith, l .loop .inv .1, f .before .loop-test .taken),
-      best-four (a .x .now) (a .centers .now) (a .d) (l .loop .c) (l .loop .b) (c .before .better .result) (c .with-three .result) (f .row-dots .result)
+      best-four (a .x .now) (a .centers .now) (a .d) (l .loop .c) (l .loop .b) (c .before .better .result) (c .with-three .result)
+          (f .row-dots .result)
           (l .loop .inv .0)
           (l .loop .inv .2)
           (f .row-dots .ensures)
@@ -60,7 +61,8 @@ loop2-again c =
     let a = l .before .before .before .before .before .args in (
       omega arith,
       omega arith,
-      best-turn (a .x .now) (a .centers .now) (a .d) (l .loop2 .c) (l .loop2 .b) (c .better2 .result) (c .before .row-dot .result) (l .loop2 .inv .0) (l .loop2 .inv .2)
+      best-turn (a .x .now) (a .centers .now) (a .d) (l .loop2 .c) (l .loop2 .b) (c .better2 .result) (c .before .row-dot .result)
+          (l .loop2 .inv .0) (l .loop2 .inv .2)
           (c .before .row-dot .ensures)
           (c .better2 .ensures),
     )

@@ -1,4 +1,5 @@
--- `kmeans_nearest::best_of` meets its contract: the first centre alone, or the first four, are a start of `bestTo`, and `best_from` goes on from it. Assumes nothing.
+-- `kmeans_nearest::best_of` meets its contract: the first centre alone, or the first four, are a start of `bestTo`, and `best_from` goes on
+-- from it. Assumes nothing.
 use mathlib.Core.Bool.{true}
 use Prim.Native.Nat.{_≤_}
 use native.Mathlib.Nat.{mul-le-mul-right}

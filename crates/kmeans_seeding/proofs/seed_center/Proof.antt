@@ -9,7 +9,8 @@ returns : tie.Need-returns
 returns c =
     let b = c .before .before .before .before .before .before .before in
     let a = b .args in
-    λ u. center-done (a .m) (a .k) (a .d) (a .work .now) (a .coords .now) u (a .c) (a .i) (c .before .before .unit .last .0) (b .pre .1 .1 .below)
+    λ u. center-done (a .m) (a .k) (a .d) (a .work .now) (a .coords .now) u (a .c) (a .i) (c .before .before .unit .last .0)
+    (b .pre .1 .1 .below)
     (omega (arith, b .pre .1 .0 .row, b .pre .0 .1))
     (b .pre .0 .0 .work-long)
     (c .before .before .unit .ensures)

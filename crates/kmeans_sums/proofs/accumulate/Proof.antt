@@ -1,7 +1,7 @@
--- accumulate makes the sums and counts of the groups: both are cleared, and after i turns they are those of the first i leaves, beside the state of the start.
--- Assumes nothing.
+-- accumulate makes the sums and counts of the groups: both are cleared, and after i turns they are those of the first i leaves, beside the
+-- state of the start. Assumes nothing.
 use mathlib.Core.Path.{_≡_, refl, _∙_}
-use Prim.Native.Nat.{_+_, _*_, _-_, _≤_}
+use Prim.Native.Nat.{_+_, _-_, _≤_}
 use native.Mathlib.Omega.{arith}
 use lib.ListN.{length}
 use lib.Ieee.{ofBits}
@@ -15,15 +15,19 @@ use Rattle.kmeans_sums.proofs.accumulate.Tie as tie
 
 abbrev Inv-loop : tie.InvT-loop
 Inv-loop work₀ marks₀ weights coords m k d kd i₀ work marks i =
-    (i ≤ m) × Sized (length work) (length marks) (length coords) m k d × Gathered weights coords m k d (stateIn m k d work₀ marks₀) i work marks
+    (i ≤ m) × Sized (length work) (length marks) (length coords) m k d
+    × Gathered weights coords m k d (stateIn m k d work₀ marks₀) i work marks
     × (length work ≡ length work₀) × (length marks ≡ length marks₀)
 
 abbrev μ-loop : tie.MeasureT-loop
 μ-loop work₀ marks₀ weights coords m k d kd i₀ work marks i = m - i
 
 -- places, each from a later one
+abbrev fill-at-of : tie.After-fill-u32 Inv-loop μ-loop → tie.After-fill-at Inv-loop μ-loop
+fill-at-of p = p .before .before .before .before
+
 abbrev start : tie.After-fill-u32 Inv-loop μ-loop → tie.Start Inv-loop μ-loop
-start p = let q = p .before .before .before .before .before in q .before .before .before .before .before
+start p = fill-at-of p .before .before .before .before .before .before
 
 abbrev fill-u32-at : tie.At-loop Inv-loop μ-loop → tie.After-fill-u32 Inv-loop μ-loop
 fill-u32-at p = p .before .before .before
@@ -34,14 +38,14 @@ loop-at p = let q = p .before .before .before .before in q .before .before .befo
 -- where the loop begins the sums and counts are cleared
 cleared-at : (f : tie.After-fill-u32 Inv-loop μ-loop) → let a = start f .args in
     Gathered (a .weights .now) (a .coords .now) (a .m) (a .k) (a .d) (stateIn (a .m) (a .k) (a .d) (a .work .now) (a .marks .now)) 0
-    (putPart (a .work .now) (a .k * a .d) (a .k * a .d + a .k * a .d - a .k * a .d) (f .before .before .before .before .fill .last .0)) (putPart (a .marks .now) (a .m) (a .m + a .k - a .m) (f .fill-u32 .last .0))
+    (fill-at-of f .fill-at .last .0) (putPart (a .marks .now) (a .m) (a .m + a .k - a .m) (f .fill-u32 .last .0))
 unfolding ofBits
 cleared-at f =
-    let g = f .before .before .before .before in
+    let g = fill-at-of f in
     let s = start f in
     let a = s .args in
-    cleared (a .weights .now) (a .coords .now) (a .m) (a .k) (a .d) (length (a .coords .now)) (a .work .now) (g .fill .last .0) (a .marks .now) (f .fill-u32 .last .0) (s .pre .0)
-    (g .fill .ensures) (f .fill-u32 .ensures)
+    cleared (a .weights .now) (a .coords .now) (a .m) (a .k) (a .d) (length (a .coords .now)) (a .work .now) (g .fill-at .last .0)
+    (a .marks .now) (f .fill-u32 .last .0) (s .pre .0) (g .fill-at .ensures) (f .fill-u32 .ensures)
 
 loop-holds : tie.Need-loop-holds Inv-loop μ-loop
 loop-holds c =
@@ -57,10 +61,12 @@ loop-holds c =
 gain-requires : tie.Need-gain-requires Inv-loop μ-loop
 gain-requires c κs =
     let l = c .before .before .before .loop in
-    let s = start (fill-u32-at (c .before .before .before)) in
+    let f = fill-u32-at (c .before .before .before) in
+    let s = start f in
     let a = s .args in (
       l .inv .1,
-      gains-of (a .weights .now) (a .coords .now) (a .m) (a .k) (a .d) _ (l .i) (l .work) (l .marks) (l .inv .2) (stateIn (a .m) (a .k) (a .d) (a .work .now) (a .marks .now)) (cleared-at (c .before .before .before .before .before .before) .state) (s .pre .1 .1)
+      gains-of (a .weights .now) (a .coords .now) (a .m) (a .k) (a .d) _ (l .i) (l .work) (l .marks) (l .inv .2)
+          (stateIn (a .m) (a .k) (a .d) (a .work .now) (a .marks .now)) (cleared-at f .state) (s .pre .1 .1)
           (c .before .before .loop-test .taken) (s .pre .0 .sizes .m-small) (s .pre .1 .0),
     )
 
@@ -83,7 +89,8 @@ returns : tie.Need-returns Inv-loop μ-loop
 returns c =
     let l = c .before .loop in
     let a = start (fill-u32-at (c .before)) .args in
-    gather-end (a .weights .now) (a .coords .now) (a .m) (a .k) (a .d) _ (l .i) (l .work) (l .marks) (l .inv .2) (a .work .now) (a .marks .now) (cleared-at (c .before .before .before .before) .state)
+    gather-end (a .weights .now) (a .coords .now) (a .m) (a .k) (a .d) _ (l .i) (l .work) (l .marks) (l .inv .2) (a .work .now)
+    (a .marks .now) (cleared-at (c .before .before .before .before) .state)
     (omega (arith, c .loop-test .left))
 
 pub accumulate-spec : {M : Type 1} → statement M
@@ -92,11 +99,6 @@ accumulate-spec =
     (tie.spec
     Inv-loop
     μ-loop
-    (λ c. search needs)
-    (λ c. search needs)
-    (λ c. search needs)
-    (λ c. search needs)
-    (λ c. search needs)
     (λ c. search needs)
     (λ c κs. search needs)
     (λ c. search needs)

@@ -26,33 +26,15 @@ loop-holds : tie.Need-loop-holds Inv-loop μ-loop
 unfolding ofBits normsUpTo
 loop-holds c = (omega arith, refl)
 
-mul-at : tie.Need-mul-at Inv-loop μ-loop
-mul-at c = let r = within c in omega (arith, r)
-
-add-at : tie.Need-add-at Inv-loop μ-loop
-add-at c = let r = within c in omega (arith, r)
-
-add-norm : tie.Need-add-norm Inv-loop μ-loop
-add-norm c = let r = within c in omega (arith, r)
-
-mul-norm : tie.Need-mul-norm Inv-loop μ-loop
-mul-norm c = let r = within c in omega (arith, r)
-
-sub-norm : tie.Need-sub-norm Inv-loop μ-loop
-sub-norm c = let r = within c in omega (arith, r)
-
-part-norm-start : tie.Need-part-norm-start Inv-loop μ-loop
-part-norm-start c = let r = within c in omega (arith, r)
-
-part-norm-end : tie.Need-part-norm-end Inv-loop μ-loop
-part-norm-end c = let r = within c in omega (arith, r)
-
 loop-again : tie.Need-loop-again Inv-loop μ-loop
 loop-again c =
     let l = c .before .before .before .loop in
     let s = c .before .before .before .before .before in
-    let a = s .args in
-    (omega arith, norms-turn (a .m) (a .k) (a .d) (a .work .now) (l .c) (l .total) (c .norm .result) (c .before .before .loop-test .taken) (l .inv .1) (c .norm .ensures))
+    let a = s .args in (
+      omega arith,
+      norms-turn (a .m) (a .k) (a .d) (a .work .now) (l .c) (l .total) (c .norm .result) (c .before .before .loop-test .taken)
+          (l .inv .1) (c .norm .ensures),
+    )
 
 returns : tie.Need-returns Inv-loop μ-loop
 returns c =
@@ -69,13 +51,13 @@ add-norms-spec =
     μ-loop
     (λ c. search needs)
     loop-holds
-    mul-at
-    add-at
-    add-norm
-    mul-norm
-    sub-norm
-    part-norm-start
-    part-norm-end
+    (λ c. omega (arith, within c))
+    (λ c. omega (arith, within c))
+    (λ c. omega (arith, within c))
+    (λ c. omega (arith, within c))
+    (λ c. omega (arith, within c))
+    (λ c. omega (arith, within c))
+    (λ c. omega (arith, within c))
     (λ c κs. search needs)
     (λ c. search needs)
     (λ c. search needs)

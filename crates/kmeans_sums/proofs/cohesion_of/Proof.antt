@@ -15,13 +15,15 @@ add-norms-requires c κs =
     let g = c .before .before .before .before .before in
     let s = start c in
     let a = s .args in
-    area-of _ _ (length (a .coords .now)) (a .m) (a .k) (a .d) (sized-of _ _ _ _ (length (a .coords .now)) (a .m) (a .k) (a .d) (g .accumulate .kept .0) (g .accumulate .kept .1 .0) (s .pre .0))
+    area-of _ _ (length (a .coords .now)) (a .m) (a .k) (a .d)
+    (sized-of _ _ _ _ (length (a .coords .now)) (a .m) (a .k) (a .d) (g .accumulate .kept .0) (g .accumulate .kept .1 .0) (s .pre .0))
 
 returns : tie.Need-returns
 returns c =
     let g = c .before .before .before .before .before .before in
     let a = start (c .before) .args in (
-      cohesion-done (a .weights .now) (a .coords .now) (a .m) (a .k) (a .d) (a .work .now) _ (a .marks .now) _ (c .add-norms .result) (g .accumulate .ensures) (c .add-norms .ensures),
+      cohesion-done (a .weights .now) (a .coords .now) (a .m) (a .k) (a .d) (a .work .now) _ (a .marks .now) _ (c .add-norms .result)
+          (g .accumulate .ensures) (c .add-norms .ensures),
       g .accumulate .ensures .state,
       g .accumulate .ensures .sums,
     )

@@ -1,4 +1,5 @@
--- `kmeans_update::move_center` meets its contract, by what `turned` and `copy_within` ensure: each promise is a law over plain lists. Assumes nothing.
+-- `kmeans_update::move_center` meets its contract, by what `turned` and `copy_within` ensure: each promise is a law over plain lists.
+-- Assumes nothing.
 use native.Mathlib.Omega.{arith}
 use borrow.Author.Needs.{needs}
 use lib.ListN.{length-set}
@@ -9,7 +10,7 @@ use Rattle.kmeans_update.proofs.move_center.Tie as tie
 
 copy-within-requires : tie.Need-copy-within-requires
 copy-within-requires c κs =
-    let s = c .before .before .before .before in
+    let s = c .before .before .before .before .before in
     record { order = omega (arith, s .pre .1 .row); within = simp length-set (omega (arith, s .pre .0 .work-long, s .pre .1 .row)) }
 
 same-length : tie.Need-same-length
@@ -20,12 +21,15 @@ unfolding ofBits ofInt
 returns c =
     let f = c .before .before in
     let h = f .before .before in
-    let s = h .before .before .before in
+    let p = h .before .before .drift-at in
+    let s = h .before .before .before .before in
     let a = s .args in
     let w' = f .copy-within .last .0 in
     let v = h .turned .result in (
-      move-done (a .m) (a .k) (a .d) (a .work .now) (a .c) v (s .pre .1) (s .pre .0 .work-long) w' (f .copy-within .ensures) (h .turned .ensures),
-      move-sums (a .m) (a .k) (a .d) (a .work .now) (a .c) v (s .pre .1) (s .pre .0 .work-long) w' (f .copy-within .ensures),
+      move-done (a .m) (a .k) (a .d) (a .work .now) (a .c) v (s .pre .1) (s .pre .0 .work-long) (p .result) (p .ensures) w'
+          (f .copy-within .ensures) (h .turned .ensures),
+      move-sums (a .m) (a .k) (a .d) (a .work .now) (a .c) v (s .pre .1) (s .pre .0 .work-long) (p .result) (p .ensures) w'
+          (f .copy-within .ensures),
     )
 
 pub move-center-spec : {M : Type 1} → statement M
@@ -36,11 +40,7 @@ move-center-spec =
     (λ c. search needs)
     (λ c. search needs)
     (λ c κs. search needs)
-    (λ c. search needs)
-    (λ c. search needs)
-    (λ c. search needs)
-    (λ c. search needs)
-    (λ c. search needs)
+    (λ c κs. search needs)
     (λ c. search needs)
     (λ c. search needs)
     (λ c. search needs)

@@ -1,5 +1,5 @@
--- `kmeans_update::recenter` meets its contract, by what `norm`, `divide_by`, `move_center` and `keep_center` ensure: each promise is a law over plain lists. Assumes
--- nothing.
+-- `kmeans_update::recenter` meets its contract, by what `norm`, `divide_by`, `move_center` and `keep_center` ensure: each promise is a law
+-- over plain lists. Assumes nothing.
 use mathlib.Core.Path.{_≡_, ap, _∙_}
 use borrow.Author.Needs.{needs}
 use lib.ListN.{length}
@@ -20,11 +20,15 @@ returns c =
     let s = n .before .before .before .before in
     let a = s .args in
     let r = h .divide-by .last .0 in
-    let full : length r ≡ a .d = h .divide-by .kept .0 ∙ length-lent (a .m) (a .k) (a .d) (a .work .now) (a .c) (s .pre .1) (s .pre .0 .work-long) in (
-      λ u. center-divided (a .m) (a .k) (a .d) (a .work .now) (a .c) (s .pre .1) (s .pre .0 .work-long) (n .norm .result) (n .norm .ensures) r
+    let full : length r ≡ a .d =
+    h .divide-by .kept .0 ∙ length-lent (a .m) (a .k) (a .d) (a .work .now) (a .c) (s .pre .1) (s .pre .0 .work-long) in (
+      λ u. center-divided (a .m) (a .k) (a .d) (a .work .now) (a .c) (s .pre .1) (s .pre .0 .work-long) (n .norm .result)
+          (n .norm .ensures) r
           (stateIn (a .m) (a .k) (a .d) (a .work .now) u) _ _ (q .if1 .taken) (h .divide-by .ensures)
-          (moved-row (a .m) (a .k) (a .d) (a .work .now) (a .c) r (s .pre .1) (s .pre .0 .work-long) full (f .move-center .last .0) (f .move-center .ensures .0) u),
-      later-of (a .m) (a .k) (a .d) (a .work .now) (a .c) r (s .pre .1) (s .pre .0 .work-long) full (f .move-center .last .0) (f .move-center .ensures .1),
+          (moved-row (a .m) (a .k) (a .d) (a .work .now) (a .c) r (s .pre .1) (s .pre .0 .work-long) full
+          (f .move-center .last .0) (f .move-center .ensures .0) u),
+      later-of (a .m) (a .k) (a .d) (a .work .now) (a .c) r (s .pre .1) (s .pre .0 .work-long) full
+          (f .move-center .last .0) (f .move-center .ensures .1),
     )
 
 returns-2 : tie.Need-returns-2

@@ -12,7 +12,8 @@ returns : tie.Need-returns
 unfolding ofBits ofInt
 returns c =
     let a = c .before .before .before .before .before .args in
-    c .clamp .ensures ∙ ap cosine (c .before .dot .ensures ∙ ap₂ dotOf (part-cut (a .w .now) (a .at) (a .d)) (part-cut (a .w .now) (a .to) (a .d)))
+    c .clamp .ensures ∙ ap cosine (c .before .dot .ensures
+    ∙ ap₂ dotOf (part-cut (a .w .now) (a .at) (a .d)) (part-cut (a .w .now) (a .to) (a .d)))
 
 pub turned-spec : {M : Type 1} → statement M
 turned-spec =

@@ -1,67 +1,106 @@
--- `kmeans_update::update` meets its contract. The loop's invariant: the state is the definition's after c groups, and the sums of the other groups
--- are as they were (`UpdatedTo`). The measure is what is left of the groups. Assumes nothing.
-use mathlib.Core.Path.{_≡_, refl, _∙_}
-use Prim.Native.Nat.{_≤_, _-_}
-use native.Mathlib.Omega.{arith}
-use borrow.Author.Needs.{needs}
+-- `kmeans_update::update` meets its contract: where the two ways meet, served is refreshed if a group is empty and the sums are those of
+-- accumulate; update_groups goes on from there. Assumes nothing.
+use mathlib.Core.Path.{_≡_, ap, _∙_}
+use mathlib.Core.List.{List}
+use mathlib.Core.Logic.{⊎-elim}
 use lib.ListN.{length}
-use Rattle.kmeans_layout.specs.Areas.{Sized}
-use Rattle.kmeans_layout.proofs.Sizes.{sized-of, group-of}
-use Rattle.kmeans_update.proofs.Updates.{UpdatedTo, update-start, update-turn, update-end}
+use lib.Ieee.{Float}
+use Rattle.kmeans_layout.specs.State.{State}
+use Rattle.kmeans_update.specs.Update.{refreshed}
+use Rattle.kmeans_layout.specs.Areas.{stateIn, sumsIn, countsIn}
+use Rattle.kmeans_layout.proofs.Sizes.{sized-of, labelled-of}
+use Rattle.kmeans_update.proofs.Whole.{refresh-made, refresh-left, update-done}
+use borrow.Author.Needs.{needs}
 use Rattle.kmeans_update.proofs.update.Statement.{statement}
 use Rattle.kmeans_update.proofs.update.Tie as tie
 
-abbrev Inv-loop : tie.InvT-loop
-Inv-loop work₀ marks coords m k d c₀ work c =
-    (c ≤ k) × Sized (length work) (length marks) (length coords) m k d × (length work ≡ length work₀)
-    × UpdatedTo coords m k d work₀ work marks c
+abbrev accumulated : tie.Joined1 → tie.After-accumulate
+accumulated j = j .before .before .before .before .before .before .before
 
-abbrev μ-loop : tie.MeasureT-loop
-μ-loop work₀ marks coords m k d c₀ work c = k - c
+abbrev start : tie.After-accumulate → tie.Start
+start g = g .before .before .before .before .before .before .before
 
-loop-holds : tie.Need-loop-holds Inv-loop μ-loop
-loop-holds c =
-    let s = c .before .before .before in
-    let a = s .args in
-    (omega arith, s .pre, refl, update-start (a .coords .now) (a .m) (a .k) (a .d) (a .work .now) (a .marks .now))
+-- where the two ways meet
+refreshed-at : (j : tie.Joined1) → let g = accumulated j in
+    let a = start g .args in
+    let w₁ = g .accumulate .last .0 in
+    let u₁ = g .accumulate .last .1 .0 in
+    let s = stateIn (a .m) (a .k) (a .d) w₁ u₁ in
+    let counts = countsIn (a .m) (a .k) u₁ in
+    (length (j .if1 .work) ≡ length w₁)
+    × (stateIn (a .m) (a .k) (a .d) (j .if1 .work) u₁ ≡ refreshed (a .coords .now) (a .m) (a .k) (a .d) counts s)
+    × (sumsIn (a .k) (a .d) (j .if1 .work) ≡ sumsIn (a .k) (a .d) w₁)
+refreshed-at j =
+    let g = accumulated j in
+    let a = start g .args in
+    let w₁ = g .accumulate .last .0 in
+    let u₁ = g .accumulate .last .1 .0 in
+    let s = stateIn (a .m) (a .k) (a .d) w₁ u₁ in
+    let counts = countsIn (a .m) (a .k) u₁ in
+    let h = j .before .has-empty in
+    ⊎-elim
+    (λ w. (
+      ap length (w .6) ∙ w .3 .kept .0,
+      ap (λ (l : List Float). stateIn (a .m) (a .k) (a .d) l u₁) (w .6)
+          ∙ refresh-made (a .coords .now) (a .m) (a .k) (a .d) counts s _ (h .result) (h .ensures) (w .0 .taken) (w .3 .ensures .0),
+      ap (λ (l : List Float). sumsIn (a .k) (a .d) l) (w .6) ∙ w .3 .ensures .1,
+    ))
+    (λ w. (
+      ap length (w .1),
+      ap (λ (l : List Float). stateIn (a .m) (a .k) (a .d) l u₁) (w .1)
+          ∙ refresh-left (a .coords .now) (a .m) (a .k) (a .d) counts s s (h .result) (h .ensures) (w .0 .left),
+      ap (λ (l : List Float). sumsIn (a .k) (a .d) l) (w .1),
+    ))
+    (j .if1 .came)
 
-update-group-requires : tie.Need-update-group-requires Inv-loop μ-loop
-update-group-requires c κs =
-    let l = c .before .before in
-    let a = l .before .before .before .before .args in
-    (l .loop .inv .1, group-of (l .loop .c) (a .k) (a .d) (omega arith))
+-- places, each from a later one
+abbrev accumulate-at : tie.After-refresh-arg2 → tie.After-accumulate
+accumulate-at p = let q = p .before .before .before .before .before in q .before .before .before .before
 
-loop-again : tie.Need-loop-again Inv-loop μ-loop
-loop-again c =
-    let f = c .before .before in
-    let l = f .before .before .before in
-    let a = l .before .before .before .before .args in
-    let g = f .update-group in (
-      omega arith,
-      sized-of _ _ _ _ (length (a .coords .now)) (a .m) (a .k) (a .d) (g .kept .0) refl (l .loop .inv .1),
-      g .kept .0 ∙ l .loop .inv .2,
-      update-turn (a .coords .now) (a .m) (a .k) (a .d) (a .work .now) (l .loop .work) (a .marks .now) (l .loop .c) (l .loop .inv .3)
-          (g .last .0) (omega arith)
-          (g .ensures .0) (g .ensures .1),
+refresh-requires : tie.Need-refresh-requires
+refresh-requires c κs =
+    let g = accumulate-at c in
+    let s = start g in
+    let a = s .args in (
+      sized-of _ _ _ _ (length (a .coords .now)) (a .m) (a .k) (a .d) (g .accumulate .kept .0) (g .accumulate .kept .1 .0) (s .pre .0),
+      labelled-of (a .m) (a .k) (stateIn (a .m) (a .k) (a .d) (a .work .now) (a .marks .now))
+          (stateIn (a .m) (a .k) (a .d) (g .accumulate .last .0) (g .accumulate .last .1 .0))
+          (ap (λ (x : State). x .labels) (g .accumulate .ensures .state)) (s .pre .1 .1),
     )
 
-returns : tie.Need-returns Inv-loop μ-loop
+update-groups-requires : tie.Need-update-groups-requires
+update-groups-requires c κs =
+    let j = c .before .before in
+    let g = accumulated j in
+    let s = start g in
+    let a = s .args in
+    sized-of _ _ _ _ (length (a .coords .now)) (a .m) (a .k) (a .d) (refreshed-at j .0 ∙ g .accumulate .kept .0) (g .accumulate .kept .1 .0)
+    (s .pre .0)
+
+same-length : tie.Need-same-length
+same-length c =
+    let f = c .before .before in
+    let j = f .before .before .before in
+    f .update-groups .kept .0 ∙ refreshed-at j .0 ∙ accumulated j .accumulate .kept .0
+
+returns : tie.Need-returns
 returns c =
-    let l = c .before in
-    let a = l .before .before .before .before .args in
-    update-end (a .coords .now) (a .m) (a .k) (a .d) (a .work .now) (l .loop .work) (a .marks .now) (l .loop .c) (l .loop .inv .3)
-    (omega arith)
+    let f = c .before .before in
+    let j = f .before .before .before in
+    let g = accumulated j in
+    let a = start g .args in
+    update-done (a .weights .now) (a .coords .now) (a .m) (a .k) (a .d) (a .work .now) (g .accumulate .last .0) (j .if1 .work)
+    (a .marks .now) (g .accumulate .last .1 .0) _
+    (g .accumulate .ensures) (refreshed-at j .1) (refreshed-at j .2) (f .update-groups .ensures)
 
 pub update-spec : {M : Type 1} → statement M
 update-spec =
     tie.close
     (tie.spec
-    Inv-loop
-    μ-loop
-    loop-holds
-    update-group-requires
-    (λ c. search needs)
-    (λ c. search needs)
-    loop-again
+    (λ c κs. search needs)
+    (λ c κs. search needs)
+    refresh-requires
+    update-groups-requires
+    same-length
     (λ c. search needs)
     returns)

@@ -1,4 +1,5 @@
--- `kmeans_update::update_group` meets its contract, by what `reseed` and `recenter` ensure and by the test of the group's count. Assumes nothing.
+-- `kmeans_update::update_group` meets its contract, by what `reseed` and `recenter` ensure and by the test of the group's count. Assumes
+-- nothing.
 use borrow.Author.Needs.{needs}
 use Rattle.kmeans_update.proofs.Updates.{group-empty, group-full}
 use Rattle.kmeans_update.proofs.update_group.Statement.{statement}

@@ -1,5 +1,5 @@
--- `pick::argmax` meets its contract. The loop's invariant: `best` is the place of the greatest among the first i elements, and below i. The measure is what is
--- left of the length. Assumes nothing.
+-- `pick::argmax` meets its contract. The loop's invariant: `best` is the place of the greatest among the first i elements, and below i. The
+-- measure is what is left of the length. Assumes nothing.
 use mathlib.Core.Path.{_≡_, sym, _∙_}
 use mathlib.Core.Bool.{true, false}
 use mathlib.Core.Logic.{⊎-elim}

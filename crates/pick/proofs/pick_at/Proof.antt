@@ -1,5 +1,5 @@
--- `pick::pick_at` meets its contract. The loop's invariant: the pick from what is left of the weights, with what is left of t, is the whole pick. The measure
--- is what is left of the length. Assumes nothing.
+-- `pick::pick_at` meets its contract. The loop's invariant: the pick from what is left of the weights, with what is left of t, is the whole
+-- pick. The measure is what is left of the length. Assumes nothing.
 use mathlib.Core.Path.{_≡_, _∙_}
 use Prim.Native.Nat.{_≤_, _-_}
 use native.Mathlib.Omega.{arith}

@@ -1,5 +1,5 @@
--- `pick::weighted_pick` meets its contract, by what its calls ensure: with a total at or below 0 the draw modulo the length, else the pick by a fraction of
--- the total. Each return is a law over plain values. Assumes nothing.
+-- `pick::weighted_pick` meets its contract, by what its calls ensure: with a total at or below 0 the draw modulo the length, else the pick
+-- by a fraction of the total. Each return is a law over plain values. Assumes nothing.
 use mathlib.Core.Path.{_≡_}
 use mathlib.Core.List.{List}
 use mathlib.Core.Bool.{true, false}
@@ -16,12 +16,14 @@ use Rattle.pick.specs.declared.Picked.{Picked}
 use Rattle.pick.proofs.weighted_pick.Statement.{statement}
 use Rattle.pick.proofs.weighted_pick.Tie as tie
 
-module _ (ws : List Float) (state : ℕ) (total : Float) (d : Drawn) (sums : total ≡ sumFrom minusZero ws) (draws : d ≡ drawn state) where
-  low : (most : ℕ) → most ≡ max (length ws) 1 → le total plusZero ≡ true → _≡_ {A = Picked} (record { index = d .out % most; state = d .state }) (pickOf ws state)
+module _ (ws : List Float) (generator : ℕ) (total : Float) (d : Drawn) (sums : total ≡ sumFrom minusZero ws)
+    (draws : d ≡ drawn generator) where
+  low : (most : ℕ) → most ≡ max (length ws) 1 → le total plusZero ≡ true
+      → _≡_ {A = Picked} (record { index = d .out % most; generator = d .state }) (pickOf ws generator)
   low most m t = rw (draws, m, ← sums, t)
 
   high : (u : Float) (i : ℕ) → u ≡ unitOf (d .out) → i ≡ pickFrom (mul binary64 u total) 0 ws → le total plusZero ≡ false
-      → _≡_ {A = Picked} (record { index = i; state = d .state }) (pickOf ws state)
+      → _≡_ {A = Picked} (record { index = i; generator = d .state }) (pickOf ws generator)
   high u i f p t = rw (p, f, draws, ← sums, t)
 
 returns : tie.Need-returns
@@ -30,7 +32,7 @@ returns c =
     let d = c .before .before in
     let s = d .before in
     let x = s .before .before .args in
-    low (x .w .now) (x .state) (s .sum .result) (d .draw-u64 .result) (s .sum .ensures) (d .draw-u64 .ensures) (c .at-least-one .result)
+    low (x .w .now) (x .generator) (s .sum .result) (d .draw-u64 .result) (s .sum .ensures) (d .draw-u64 .ensures) (c .at-least-one .result)
     (c .at-least-one .ensures)
     (c .before .if1 .taken)
 
@@ -41,7 +43,8 @@ returns-2 c =
     let d = u .before .before in
     let s = d .before in
     let x = s .before .before .args in
-    high (x .w .now) (x .state) (s .sum .result) (d .draw-u64 .result) (s .sum .ensures) (d .draw-u64 .ensures) (u .unit-f64 .result) (c .pick-at .result)
+    high (x .w .now) (x .generator) (s .sum .result) (d .draw-u64 .result) (s .sum .ensures) (d .draw-u64 .ensures) (u .unit-f64 .result)
+    (c .pick-at .result)
     (u .unit-f64 .ensures)
     (c .pick-at .ensures)
     (u .before .if1 .left)
