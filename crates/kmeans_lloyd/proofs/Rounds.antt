@@ -20,7 +20,7 @@ use Rattle.kmeans_assign.specs.declared.Passed.{Passed}
 use Rattle.kmeans_lloyd.specs.declared.Round.{Round}
 use Rattle.kmeans_assign.proofs.Cases.{either}
 use Rattle.kmeans_assign.proofs.Passes.{labelled-of-pass}
-use Rattle.kmeans_update.proofs.Settles.{labelled-of-update}
+use Rattle.kmeans_update.proofs.Whole.{labelled-of-update}
 
 -- ---- a round, by its pass p
 module _ (weights coords : List Float) (m k d it : ℕ) (p : Pass) (x : State) (q : Passed) (is : passed x q ≡ p)

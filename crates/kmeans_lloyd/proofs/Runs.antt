@@ -34,7 +34,7 @@ started-labelled coords m k d s seeds h e i l = rw (e, zero-at m i) h
 pub run-done : (weights coords : List Float) (m k d rounds generator : ℕ) (cs : List Float) (s₂ s₃ s₄ : State) (next : ℕ) (c : Counts)
     (v : Float)
     → cs ≡ seedsOf weights coords m k d generator .centers
-    → next ≡ seedsOf weights coords m k d generator .state
+    → next ≡ seedsOf weights coords m k d generator .generator
     → s₂ ≡ startedFrom coords m k d cs
     → RunSoFar (roundsFrom weights coords m k d rounds 0 (freshRun s₂)) s₃ c
     → v ≡ cohesionOf weights coords (s₃ .labels) m k d

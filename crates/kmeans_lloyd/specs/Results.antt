@@ -29,7 +29,7 @@ module _ (weights coords : List Float) (m k d : ℕ) where
       }
 
   abbrev pub resultFrom : (rounds : ℕ) → Seeds → Result
-  resultFrom rounds s = resultBy (lloydOf weights coords m k d rounds (s .centers)) (s .state)
+  resultFrom rounds s = resultBy (lloydOf weights coords m k d rounds (s .centers)) (s .generator)
 
   unfoldable pub resultOf : (rounds generator : ℕ) → Result
   resultOf rounds generator = resultFrom rounds (seedsOf weights coords m k d generator)

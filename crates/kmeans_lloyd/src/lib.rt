@@ -43,7 +43,7 @@ fn one_round(
             counts: c,
         };
     }
-    kmeans_update::settle(work, marks, weights, coords, m, k, d);
+    kmeans_update::update(work, marks, weights, coords, m, k, d);
     Round {
         ended: false,
         counts: c,

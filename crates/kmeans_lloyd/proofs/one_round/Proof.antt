@@ -25,11 +25,11 @@ returns c =
     (p .pass .result) (p .pass .ensures .0) (p .pass .ensures .1) (c .if1 .taken)
 
 -- places, each from a later one
-abbrev pass-at : tie.After-settle-arg2 → tie.After-pass
+abbrev pass-at : tie.After-update-arg2 → tie.After-pass
 pass-at p = let q = p .before .before .before .before in q .before .before .before .before .before
 
-settle-requires : tie.Need-settle-requires
-settle-requires c κs =
+update-requires : tie.Need-update-requires
+update-requires c κs =
     let p = pass-at c in
     let b = start p in
     let a = b .args in
@@ -51,10 +51,10 @@ returns-2 c =
     let a = start p .args in
     let s = stateIn (a .m) (a .k) (a .d) (a .work .now) (a .marks .now) in
     let x = stateIn (a .m) (a .k) (a .d) (p .pass .last .0) (p .pass .last .1 .0) in
-    let x' = stateIn (a .m) (a .k) (a .d) (g .settle .last .0) (g .settle .last .1 .0) in
+    let x' = stateIn (a .m) (a .k) (a .d) (g .update .last .0) (g .update .last .1 .0) in
     round-settled (a .weights .now) (a .coords .now) (a .m) (a .k) (a .d) (a .it) (passOf (a .coords .now) (a .m) (a .k) (a .d) (a .it) s) x
     (p .pass .result) (p .pass .ensures .0)
-    (p .pass .ensures .1) x' (g .before .before .before .if1 .left) (g .settle .ensures)
+    (p .pass .ensures .1) x' (g .before .before .before .if1 .left) (g .update .ensures)
 
 pub one-round-spec : {M : Type 1} → statement M
 one-round-spec =
@@ -64,7 +64,7 @@ one-round-spec =
     (λ c. search needs)
     (λ c. search needs)
     returns
-    settle-requires
+    update-requires
     (λ c. search needs)
     (λ c. search needs)
     returns-2)
