@@ -14,5 +14,5 @@ abbrev pub logNormOf : ℕ → Float → Float
 logNormOf d kappa = logVmfNormOf d (maxOf kappa kappaMin)
 
 -- ln weight + log normalizer
-abbrev pub baseOf : ℕ → Float → Float → Float
-baseOf d weight kappa = add binary64 (lnOf (maxOf weight weightFloor)) (logNormOf d kappa)
+abbrev pub logCoefficient : ℕ → Float → Float → Float
+logCoefficient d weight kappa = add binary64 (lnOf (maxOf weight weightFloor)) (logNormOf d kappa)

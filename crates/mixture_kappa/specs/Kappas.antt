@@ -17,7 +17,7 @@ tabulate f (suc n) = tabulate f n ++ (f n ∷ [])
 
 -- the mean resultant length; 0 where the weight is not above 0
 abbrev pub meanLength : Float → Float → Float
-meanLength length weight = cond (lt plusZero weight) (div binary64 length weight) plusZero
+meanLength resultant weight = cond (lt plusZero weight) (div binary64 resultant weight) plusZero
 
 -- the concentration of group c by its own length and weight
 abbrev pub kappaAt : ℕ → List Float → List Float → ℕ → Float

@@ -51,7 +51,7 @@ pub fn log_norm(kappa: f64, d: usize) -> f64
 }
 
 // ln weight + log normalizer of a group.
-pub fn base(weight: f64, norm: f64) -> f64
+pub fn log_coefficient(weight: f64, norm: f64) -> f64
     ensures { λ r. ⌜ r ≡ add binary64 (lnOf (maxOf weight weightFloor)) norm ⌝ }
 {
     logarithm::ln(float::max(weight, 1e-300)) + norm

@@ -11,7 +11,7 @@ use Rattle.rows.specs.Rows.{part, putPart, cut, startOf}
 use Rattle.rows.proofs.Rows.{cut-set, cut-put, cut-whole, cut-length, cut-put-whole, cut-get, cut-part}
 use Rattle.rows.proofs.Fills.{front-turn, front-end}
 use Rattle.mixture_kappa.specs.Kappas.{tabulate}
-use Rattle.mixture_run.specs.Areas.{Parts, lengths, total, named, partsIn, withDirections, withSums, withWeights, withKappas, withBases, withTotals, withNorms, withResp}
+use Rattle.mixture_run.specs.Areas.{Parts, lengths, total, named, partsIn, withDirections, withSums, withWeights, withKappas, withLogCoefficients, withTotals, withNorms, withResp}
 
 -- ---- a region: its number, and how its part is read and replaced
 pub record Region : Type 0 where
@@ -51,8 +51,8 @@ weightsR = region 2 (λ p. p .weights) withWeights (λ ls. refl) (λ m k d w l. 
 abbrev pub kappasR : Region
 kappasR = region 3 (λ p. p .kappas) withKappas (λ ls. refl) (λ m k d w l. refl) (λ l p. refl) (λ l l' p. refl) (λ p. refl) (λ m k d. omega arith) (omega arith)
 
-abbrev pub basesR : Region
-basesR = region 4 (λ p. p .bases) withBases (λ ls. refl) (λ m k d w l. refl) (λ l p. refl) (λ l l' p. refl) (λ p. refl) (λ m k d. omega arith) (omega arith)
+abbrev pub logCoefficientsR : Region
+logCoefficientsR = region 4 (λ p. p .logCoefficients) withLogCoefficients (λ ls. refl) (λ m k d w l. refl) (λ l p. refl) (λ l l' p. refl) (λ p. refl) (λ m k d. omega arith) (omega arith)
 
 abbrev pub totalsR : Region
 totalsR = region 5 (λ p. p .totals) withTotals (λ ls. refl) (λ m k d w l. refl) (λ l p. refl) (λ l l' p. refl) (λ p. refl) (λ m k d. omega arith) (omega arith)

@@ -8,17 +8,17 @@ use Rattle.float.specs.declared.Four.{Four}
 use Rattle.rows.specs.Rows.{cut}
 use Rattle.limits.specs.Sizes.{Sizes}
 use Rattle.kmeans_layout.specs.Areas as areas
-use Rattle.mixture_run.specs.Mixture.{Model, Gathered, Em, likenessAt}
+use Rattle.mixture_run.specs.Mixture.{Model, Statistics, Em, logDensityAt}
 use Rattle.mixture_run.specs.Fits.{Once}
-use Rattle.mixture_run.specs.declared.Ran.{Ran}
+use Rattle.mixture_run.specs.declared.RunEnd.{RunEnd}
 
--- the regions: directions, resultants, then of each group its weight, concentration, base, whole weight and length of resultant, then the responsibilities
+-- the regions: directions, resultants, then of each group its weight, concentration, log coefficient, whole weight and length of resultant, then the responsibilities
 pub record Parts : Type 0 where
   pub directions : List Float
   pub sums : List Float
   pub weights : List Float
   pub kappas : List Float
-  pub bases : List Float
+  pub logCoefficients : List Float
   pub totals : List Float
   pub norms : List Float
   pub resp : List Float
@@ -36,8 +36,8 @@ weightsAt k d = k * d + k * d
 abbrev pub kappasAt : (k d : ℕ) → ℕ
 kappasAt k d = k * d + k * d + k
 
-abbrev pub basesAt : (k d : ℕ) → ℕ
-basesAt k d = k * d + k * d + k + k
+abbrev pub logCoefficientsAt : (k d : ℕ) → ℕ
+logCoefficientsAt k d = k * d + k * d + k + k
 
 abbrev pub totalsAt : (k d : ℕ) → ℕ
 totalsAt k d = k * d + k * d + k + k + k
@@ -45,8 +45,8 @@ totalsAt k d = k * d + k * d + k + k + k
 abbrev pub normsAt : (k d : ℕ) → ℕ
 normsAt k d = k * d + k * d + k + k + k + k
 
-abbrev pub respAt : (k d : ℕ) → ℕ
-respAt k d = k * d + k * d + k + k + k + k + k
+abbrev pub responsibilitiesAt : (k d : ℕ) → ℕ
+responsibilitiesAt k d = k * d + k * d + k + k + k + k + k
 
 abbrev pub named : List (List Float) → Parts
 named w =
@@ -55,7 +55,7 @@ named w =
       sums = getD w 1 [];
       weights = getD w 2 [];
       kappas = getD w 3 [];
-      bases = getD w 4 [];
+      logCoefficients = getD w 4 [];
       totals = getD w 5 [];
       norms = getD w 6 [];
       resp = getD w 7 [];
@@ -68,63 +68,63 @@ partsIn m k d w = named (cut (lengths m k d) w)
 -- with another list in one place
 abbrev pub withDirections : List Float → Parts → Parts
 withDirections l p =
-    record { directions = l; sums = p .sums; weights = p .weights; kappas = p .kappas; bases = p .bases; totals = p .totals; norms = p .norms; resp = p .resp }
+    record { directions = l; sums = p .sums; weights = p .weights; kappas = p .kappas; logCoefficients = p .logCoefficients; totals = p .totals; norms = p .norms; resp = p .resp }
 
 abbrev pub withSums : List Float → Parts → Parts
 withSums l p =
-    record { directions = p .directions; sums = l; weights = p .weights; kappas = p .kappas; bases = p .bases; totals = p .totals; norms = p .norms; resp = p .resp }
+    record { directions = p .directions; sums = l; weights = p .weights; kappas = p .kappas; logCoefficients = p .logCoefficients; totals = p .totals; norms = p .norms; resp = p .resp }
 
 abbrev pub withWeights : List Float → Parts → Parts
 withWeights l p =
-    record { directions = p .directions; sums = p .sums; weights = l; kappas = p .kappas; bases = p .bases; totals = p .totals; norms = p .norms; resp = p .resp }
+    record { directions = p .directions; sums = p .sums; weights = l; kappas = p .kappas; logCoefficients = p .logCoefficients; totals = p .totals; norms = p .norms; resp = p .resp }
 
 abbrev pub withKappas : List Float → Parts → Parts
 withKappas l p =
-    record { directions = p .directions; sums = p .sums; weights = p .weights; kappas = l; bases = p .bases; totals = p .totals; norms = p .norms; resp = p .resp }
+    record { directions = p .directions; sums = p .sums; weights = p .weights; kappas = l; logCoefficients = p .logCoefficients; totals = p .totals; norms = p .norms; resp = p .resp }
 
-abbrev pub withBases : List Float → Parts → Parts
-withBases l p =
-    record { directions = p .directions; sums = p .sums; weights = p .weights; kappas = p .kappas; bases = l; totals = p .totals; norms = p .norms; resp = p .resp }
+abbrev pub withLogCoefficients : List Float → Parts → Parts
+withLogCoefficients l p =
+    record { directions = p .directions; sums = p .sums; weights = p .weights; kappas = p .kappas; logCoefficients = l; totals = p .totals; norms = p .norms; resp = p .resp }
 
 abbrev pub withTotals : List Float → Parts → Parts
 withTotals l p =
-    record { directions = p .directions; sums = p .sums; weights = p .weights; kappas = p .kappas; bases = p .bases; totals = l; norms = p .norms; resp = p .resp }
+    record { directions = p .directions; sums = p .sums; weights = p .weights; kappas = p .kappas; logCoefficients = p .logCoefficients; totals = l; norms = p .norms; resp = p .resp }
 
 abbrev pub withNorms : List Float → Parts → Parts
 withNorms l p =
-    record { directions = p .directions; sums = p .sums; weights = p .weights; kappas = p .kappas; bases = p .bases; totals = p .totals; norms = l; resp = p .resp }
+    record { directions = p .directions; sums = p .sums; weights = p .weights; kappas = p .kappas; logCoefficients = p .logCoefficients; totals = p .totals; norms = l; resp = p .resp }
 
 abbrev pub withResp : List Float → Parts → Parts
 withResp l p =
-    record { directions = p .directions; sums = p .sums; weights = p .weights; kappas = p .kappas; bases = p .bases; totals = p .totals; norms = p .norms; resp = l }
+    record { directions = p .directions; sums = p .sums; weights = p .weights; kappas = p .kappas; logCoefficients = p .logCoefficients; totals = p .totals; norms = p .norms; resp = l }
 
--- the groups, the resultants and the state of the rounds that they hold
+-- the groups, their statistics and the state of the rounds that they hold
 abbrev pub modelOf : Parts → Model
 modelOf p = record { weights = p .weights; directions = p .directions; kappas = p .kappas }
 
-abbrev pub gatheredOf : Parts → Gathered
-gatheredOf p = record { totals = p .totals; sums = p .sums }
+abbrev pub statisticsOf : Parts → Statistics
+statisticsOf p = record { totals = p .totals; sums = p .sums }
 
-abbrev pub withGathered : Gathered → Parts → Parts
-withGathered g p = withTotals (g .totals) (withSums (g .sums) p)
+abbrev pub withStatistics : Statistics → Parts → Parts
+withStatistics g p = withTotals (g .totals) (withSums (g .sums) p)
 
 abbrev pub emOf : Parts → Float → Em
 emOf p loglik = record { resp = p .resp; model = modelOf p; loglik = loglik }
 
--- what four dots come to with the bases from place `base` of an area on and the concentrations from place `kappa` on
-abbrev pub basedFour : List Float → ℕ → ℕ → Four → Four
-basedFour w base kappa f =
+-- what four dots come to with the log coefficients from place `coefficient` of an area on and the concentrations from place `kappa` on
+abbrev pub logDensitiesBy : List Float → ℕ → ℕ → Four → Four
+logDensitiesBy w coefficient kappa f =
     record {
-      a = add binary64 (getD w base nan) (mul binary64 (getD w kappa nan) (f .a));
-      b = add binary64 (getD w (base + 1) nan) (mul binary64 (getD w (kappa + 1) nan) (f .b));
-      c = add binary64 (getD w (base + 2) nan) (mul binary64 (getD w (kappa + 2) nan) (f .c));
-      e = add binary64 (getD w (base + 3) nan) (mul binary64 (getD w (kappa + 3) nan) (f .e));
+      a = add binary64 (getD w coefficient nan) (mul binary64 (getD w kappa nan) (f .a));
+      b = add binary64 (getD w (coefficient + 1) nan) (mul binary64 (getD w (kappa + 1) nan) (f .b));
+      c = add binary64 (getD w (coefficient + 2) nan) (mul binary64 (getD w (kappa + 2) nan) (f .c));
+      e = add binary64 (getD w (coefficient + 3) nan) (mul binary64 (getD w (kappa + 3) nan) (f .e));
     }
 
--- the likenesses of a leaf to four groups, from c on
-abbrev pub fourLikenesses : ℕ → List Float → Model → List Float → ℕ → Four
-fourLikenesses d bases p x c =
-    record { a = likenessAt d bases p x c; b = likenessAt d bases p x (c + 1); c = likenessAt d bases p x (c + 2); e = likenessAt d bases p x (c + 3) }
+-- the log densities of a leaf in four groups, from c on
+abbrev pub fourLogDensities : ℕ → List Float → Model → List Float → ℕ → Four
+fourLogDensities d coefficients p x c =
+    record { a = logDensityAt d coefficients p x c; b = logDensityAt d coefficients p x (c + 1); c = logDensityAt d coefficients p x (c + 2); e = logDensityAt d coefficients p x (c + 3) }
 
 -- the length of an area: m leaves of d coordinates, k groups
 pub record Area (work m k d : ℕ) : Type 0 where
@@ -158,7 +158,7 @@ pub record Runnable (work marks weights coords m k d rounds : ℕ) : Type 0 wher
   pub leaves : Leaves weights coords m d
   pub rounds-small : rounds ≤ 10000
 
-pub record RunDone (once : Once) (p : Parts) (r : Ran) : Type 0 where
+pub record RunDone (once : Once) (p : Parts) (r : RunEnd) : Type 0 where
   pub em : emOf p (r .loglik) ≡ once .em
   pub made : r .made ≡ once .made
   pub saved : r .saved ≡ once .saved

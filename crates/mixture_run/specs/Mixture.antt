@@ -10,7 +10,7 @@ use Rattle.rows.specs.Rows.{rowOf, putPart}
 use Rattle.vector.specs.Vectors.{dotOf}
 use Rattle.kmeans_sums.specs.Sums.{addLeaf, normsUpTo, centerBy}
 use Rattle.mixture_softmax.specs.Softmax.{logSumExp, sharesOf}
-use Rattle.mixture_kappa.specs.Groups.{baseOf}
+use Rattle.mixture_kappa.specs.Groups.{logCoefficient}
 use Rattle.mixture_kappa.specs.Kappas.{tabulate, kappasOf}
 use Rattle.mixture_kappa.specs.declared.Kappa.{Kappa}
 
@@ -21,23 +21,23 @@ pub record Model : Type 0 where
   pub kappas : List Float
 
 -- ---- ln weight + log normalizer, of group c and of all k
-abbrev pub baseAt : ℕ → Model → ℕ → Float
-baseAt d p c = baseOf d (getD (p .weights) c nan) (getD (p .kappas) c nan)
+abbrev pub logCoefficientAt : ℕ → Model → ℕ → Float
+logCoefficientAt d p c = logCoefficient d (getD (p .weights) c nan) (getD (p .kappas) c nan)
 
-abbrev pub basesOf : ℕ → ℕ → Model → List Float
-basesOf k d p = tabulate (baseAt d p) k
+abbrev pub logCoefficients : ℕ → ℕ → Model → List Float
+logCoefficients k d p = tabulate (logCoefficientAt d p) k
 
 -- ---- the E-step
 
--- log r of leaf x and group c: its base + concentration · dot
-abbrev pub likenessAt : ℕ → List Float → Model → List Float → ℕ → Float
-likenessAt d bases p x c =
-    add binary64 (getD bases c nan) (mul binary64 (getD (p .kappas) c nan) (dotOf x (rowOf (p .directions) d c)))
+-- log r of leaf x and group c: its log coefficient + concentration · dot
+abbrev pub logDensityAt : ℕ → List Float → Model → List Float → ℕ → Float
+logDensityAt d coefficients p x c =
+    add binary64 (getD coefficients c nan) (mul binary64 (getD (p .kappas) c nan) (dotOf x (rowOf (p .directions) d c)))
 
-abbrev pub likenesses : ℕ → ℕ → List Float → Model → List Float → List Float
-likenesses k d bases p x = tabulate (likenessAt d bases p x) k
+abbrev pub logDensities : ℕ → ℕ → List Float → Model → List Float → List Float
+logDensities k d coefficients p x = tabulate (logDensityAt d coefficients p x) k
 
--- the responsibilities of a leaf, by its likenesses
+-- the responsibilities of a leaf, by its log densities
 abbrev pub softmax : List Float → List Float
 softmax logr = sharesOf (logSumExp logr) logr
 
@@ -50,32 +50,32 @@ abbrev pub expectLeaf : Float → List Float → Expected → Expected
 expectLeaf weight logr e = record { resp = e .resp ++ softmax logr; loglik = add binary64 (e .loglik) (mul binary64 weight (logSumExp logr)) }
 
 unfoldable pub expectUpTo : List Float → List Float → ℕ → ℕ → List Float → Model → ℕ → Expected
-expectUpTo weights coords k d bases p zero = record { resp = []; loglik = plusZero }
-expectUpTo weights coords k d bases p (suc i) =
-    expectLeaf (getD weights i nan) (likenesses k d bases p (rowOf coords d i)) (expectUpTo weights coords k d bases p i)
+expectUpTo weights coords k d coefficients p zero = record { resp = []; loglik = plusZero }
+expectUpTo weights coords k d coefficients p (suc i) =
+    expectLeaf (getD weights i nan) (logDensities k d coefficients p (rowOf coords d i)) (expectUpTo weights coords k d coefficients p i)
 
 -- ---- the M-step
 
--- the groups' weights and resultants
-pub record Gathered : Type 0 where
+-- the sufficient statistics of the groups: whole weights and resultants
+pub record Statistics : Type 0 where
   pub totals : List Float
   pub sums : List Float
 
 -- group c gains leaf x with this weight
-abbrev pub gatherGroup : ℕ → Float → List Float → ℕ → Gathered → Gathered
-gatherGroup d w x c g =
+abbrev pub accumulateGroup : ℕ → Float → List Float → ℕ → Statistics → Statistics
+accumulateGroup d w x c g =
     record { totals = set (g .totals) c (add binary64 (getD (g .totals) c nan) w); sums = addLeaf (g .sums) d c w x }
 
 -- the first n groups gain leaf i, each its weight times its responsibility
-unfoldable pub gatherLeaf : ℕ → Float → List Float → List Float → Gathered → ℕ → Gathered
-gatherLeaf d weight resp x g zero = g
-gatherLeaf d weight resp x g (suc c) = gatherGroup d (mul binary64 weight (getD resp c nan)) x c (gatherLeaf d weight resp x g c)
+unfoldable pub accumulateLeaf : ℕ → Float → List Float → List Float → Statistics → ℕ → Statistics
+accumulateLeaf d weight resp x g zero = g
+accumulateLeaf d weight resp x g (suc c) = accumulateGroup d (mul binary64 weight (getD resp c nan)) x c (accumulateLeaf d weight resp x g c)
 
 -- of the first n leaves
-unfoldable pub gatherUpTo : List Float → List Float → List Float → ℕ → ℕ → ℕ → Gathered
-gatherUpTo weights coords resp k d zero = record { totals = replicate k plusZero; sums = replicate (k * d) plusZero }
-gatherUpTo weights coords resp k d (suc i) =
-    gatherLeaf d (getD weights i nan) (rowOf resp k i) (rowOf coords d i) (gatherUpTo weights coords resp k d i) k
+unfoldable pub statisticsUpTo : List Float → List Float → List Float → ℕ → ℕ → ℕ → Statistics
+statisticsUpTo weights coords resp k d zero = record { totals = replicate k plusZero; sums = replicate (k * d) plusZero }
+statisticsUpTo weights coords resp k d (suc i) =
+    accumulateLeaf d (getD weights i nan) (rowOf resp k i) (rowOf coords d i) (statisticsUpTo weights coords resp k d i) k
 
 -- a group's share of the whole weight; 1/k where that is not above 0
 abbrev pub evenWeight : ℕ → Float
@@ -94,7 +94,7 @@ directionsUpTo d sums old (suc c) =
     putPart (directionsUpTo d sums old c) (c * d) d (centerBy (rowOf sums d c) (rowOf (directionsUpTo d sums old c) d c))
 
 -- the whole weight is summed from −0
-abbrev pub maximizeBy : Kappa → ℕ → ℕ → Model → Gathered → Float → Model
+abbrev pub maximizeBy : Kappa → ℕ → ℕ → Model → Statistics → Float → Model
 maximizeBy kappa k d p g whole =
     record {
       weights = tabulate (weightAt k whole (g .totals)) k;
@@ -102,7 +102,7 @@ maximizeBy kappa k d p g whole =
       kappas = kappasOf kappa k d (normsUpTo (g .sums) d k) (g .totals) whole;
     }
 
-abbrev pub maximize : Kappa → ℕ → ℕ → Model → Gathered → Model
+abbrev pub maximize : Kappa → ℕ → ℕ → Model → Statistics → Model
 maximize kappa k d p g = maximizeBy kappa k d p g (sumFrom minusZero (g .totals))
 
 -- ---- the rounds: the responsibilities, the groups and the log-likelihood
@@ -113,10 +113,10 @@ pub record Em : Type 0 where
 
 abbrev pub roundBy : Kappa → List Float → List Float → ℕ → ℕ → ℕ → Model → Expected → Em
 roundBy kappa weights coords m k d p e =
-    record { resp = e .resp; model = maximize kappa k d p (gatherUpTo weights coords (e .resp) k d m); loglik = e .loglik }
+    record { resp = e .resp; model = maximize kappa k d p (statisticsUpTo weights coords (e .resp) k d m); loglik = e .loglik }
 
 abbrev pub emRound : Kappa → List Float → List Float → ℕ → ℕ → ℕ → Model → Em
-emRound kappa weights coords m k d p = roundBy kappa weights coords m k d p (expectUpTo weights coords k d (basesOf k d p) p m)
+emRound kappa weights coords m k d p = roundBy kappa weights coords m k d p (expectUpTo weights coords k d (logCoefficients k d p) p m)
 
 -- 1e-7
 abbrev pub tolerance : Float

@@ -9,12 +9,12 @@ ghost use Rattle.mixture_run.specs.Areas.{partsIn, withKappas, Area};
 use super::layout;
 
 // The concentration by a resultant's length and weight.
-fn kappa_by(length: f64, weight: f64, d: usize) -> f64
+fn kappa_by(resultant: f64, weight: f64, d: usize) -> f64
     requires { ⌜ Dimension d ⌝ }
-    ensures { λ r. ⌜ r ≡ estimateOf d (meanLength length weight) ⌝ }
+    ensures { λ r. ⌜ r ≡ estimateOf d (meanLength resultant weight) ⌝ }
 {
     if weight > 0.0 {
-        return bessel::estimate_kappa(length / weight, d);
+        return bessel::estimate_kappa(resultant / weight, d);
     }
     bessel::estimate_kappa(0.0, d)
 }

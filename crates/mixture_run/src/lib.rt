@@ -30,7 +30,7 @@ fn em_round(
     requires { ⌜ Leaves (length (now weights)) (length (now coords)) m d ⌝ }
     ensures { λ r. ⌜ emOf (partsIn m k d (now (work .exit))) r ≡ emRound kappa (now (weights .entry)) (now (coords .entry)) m k d (modelOf (partsIn m k d (now (work .entry)))) ⌝ }
 {
-    expectation::put_bases(work, m, k, d);
+    expectation::put_log_coefficients(work, m, k, d);
     let loglik = expectation::expect(work, weights, coords, m, k, d);
     maximization::maximize_model(work, weights, coords, kappa, m, k, d);
     loglik
@@ -73,7 +73,7 @@ fn em(
 }
 
 // What a run answers: its log-likelihood, and the counts of its warm start.
-pub struct Ran {
+pub struct RunEnd {
     pub loglik: f64,
     pub made: u64,
     pub saved: u64,
@@ -89,7 +89,7 @@ pub fn movmf_once(
     m: usize,
     k: usize,
     d: usize,
-) -> Ran
+) -> RunEnd
     requires { ⌜ Runnable (length (now work)) (length (now marks)) (length (now weights)) (length (now coords)) m k d (s .rounds) ⌝ }
     ensures { λ r. ⌜ RunDone (onceOf s (now (weights .entry)) (now (coords .entry)) m k d) (partsIn m k d (now (work .exit))) r ⌝ }
 {
@@ -98,7 +98,7 @@ pub fn movmf_once(
     start::init_kappas(work, marks, weights, kappa, m, k, d);
     start::clear(work, m, k, d);
     let loglik = em(work, weights, coords, kappa, s.rounds, m, k, d);
-    Ran {
+    RunEnd {
         loglik,
         made: warm.made,
         saved: warm.saved,

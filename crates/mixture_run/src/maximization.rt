@@ -7,8 +7,8 @@ ghost use Rattle.rows.specs.Rows.{Apart, part, putPart, rowOf};
 ghost use Rattle.vector.specs.Vectors.{addScaled, dividedBy};
 ghost use Rattle.kmeans_sums.specs.Sums.{normsUpTo};
 ghost use Rattle.mixture_kappa.specs.Kappas.{tabulate};
-ghost use Rattle.mixture_run.specs.Mixture.{gatherGroup, gatherLeaf, gatherUpTo, evenWeight, weightBy, weightAt, directionsUpTo, maximize};
-ghost use Rattle.mixture_run.specs.Areas.{partsIn, modelOf, gatheredOf, withDirections, withWeights, withNorms, withGathered, Area, Leaves, LeafOf, GroupOf};
+ghost use Rattle.mixture_run.specs.Mixture.{accumulateGroup, accumulateLeaf, statisticsUpTo, evenWeight, weightBy, weightAt, directionsUpTo, maximize};
+ghost use Rattle.mixture_run.specs.Areas.{partsIn, modelOf, statisticsOf, withDirections, withWeights, withNorms, withStatistics, Area, Leaves, LeafOf, GroupOf};
 use super::concentration;
 use super::layout;
 
@@ -21,7 +21,7 @@ fn add_row(work: &mut [f64], coords: &[f64], w: f64, to: usize, from: usize, d: 
 }
 
 // Group c gains leaf i, of this weight, times its responsibility.
-fn gather_group(
+fn accumulate_group(
     work: &mut [f64],
     coords: &[f64],
     weight: f64,
@@ -34,7 +34,7 @@ fn gather_group(
     requires { ⌜ Area (length (now work)) m k d ⌝ }
     requires { ⌜ (length (now coords) ≡ m * d) × (LeafOf i m k d) × (GroupOf c k d) ⌝ }
     ensures { λ _. ⌜ partsIn m k d (now (work .exit))
-        ≡ withGathered (gatherGroup d (mul binary64 weight (getD (rowOf (partsIn m k d (now (work .entry)) .resp) k i) c nan)) (rowOf (now (coords .entry)) d i) c (gatheredOf (partsIn m k d (now (work .entry)))))
+        ≡ withStatistics (accumulateGroup d (mul binary64 weight (getD (rowOf (partsIn m k d (now (work .entry)) .resp) k i) c nan)) (rowOf (now (coords .entry)) d i) c (statisticsOf (partsIn m k d (now (work .entry)))))
         (partsIn m k d (now (work .entry))) ⌝ }
 {
     let at = layout::totals_at(k, d) + c;
@@ -45,7 +45,7 @@ fn gather_group(
 }
 
 // Every group gains leaf i.
-fn gather_leaf(
+fn accumulate_leaf(
     work: &mut [f64],
     weights: &[f64],
     coords: &[f64],
@@ -57,30 +57,30 @@ fn gather_leaf(
     requires { ⌜ Area (length (now work)) m k d ⌝ }
     requires { ⌜ (Leaves (length (now weights)) (length (now coords)) m d) × (LeafOf i m k d) ⌝ }
     ensures { λ _. ⌜ partsIn m k d (now (work .exit))
-        ≡ withGathered (gatherLeaf d (getD (now (weights .entry)) i nan) (rowOf (partsIn m k d (now (work .entry)) .resp) k i) (rowOf (now (coords .entry)) d i) (gatheredOf (partsIn m k d (now (work .entry)))) k)
+        ≡ withStatistics (accumulateLeaf d (getD (now (weights .entry)) i nan) (rowOf (partsIn m k d (now (work .entry)) .resp) k i) (rowOf (now (coords .entry)) d i) (statisticsOf (partsIn m k d (now (work .entry)))) k)
         (partsIn m k d (now (work .entry))) ⌝ }
 {
     let weight = weights[i];
     let mut c = 0;
     while c < k {
-        gather_group(work, coords, weight, i, c, m, k, d);
+        accumulate_group(work, coords, weight, i, c, m, k, d);
         c += 1;
     }
 }
 
-// The weights and the resultants of the groups, from nothing.
-fn gather(work: &mut [f64], weights: &[f64], coords: &[f64], m: usize, k: usize, d: usize)
+// The sufficient statistics of the groups: their whole weights and resultants, from nothing.
+fn accumulate(work: &mut [f64], weights: &[f64], coords: &[f64], m: usize, k: usize, d: usize)
     requires { ⌜ Area (length (now work)) m k d ⌝ }
     requires { ⌜ Leaves (length (now weights)) (length (now coords)) m d ⌝ }
     ensures { λ _. ⌜ partsIn m k d (now (work .exit))
-        ≡ withGathered (gatherUpTo (now (weights .entry)) (now (coords .entry)) (partsIn m k d (now (work .entry)) .resp) k d m) (partsIn m k d (now (work .entry))) ⌝ }
+        ≡ withStatistics (statisticsUpTo (now (weights .entry)) (now (coords .entry)) (partsIn m k d (now (work .entry)) .resp) k d m) (partsIn m k d (now (work .entry))) ⌝ }
 {
     let kd = k * d;
     kmeans_layout::fill_at(work, kd, kd, 0.0);
     kmeans_layout::fill_at(work, layout::totals_at(k, d), k, 0.0);
     let mut i = 0;
     while i < m {
-        gather_leaf(work, weights, coords, i, m, k, d);
+        accumulate_leaf(work, weights, coords, i, m, k, d);
         i += 1;
     }
 }
@@ -182,9 +182,9 @@ pub(crate) fn maximize_model(
     requires { ⌜ Leaves (length (now weights)) (length (now coords)) m d ⌝ }
     ensures { λ _. ⌜ (partsIn m k d (now (work .exit)) .resp ≡ partsIn m k d (now (work .entry)) .resp)
         × (modelOf (partsIn m k d (now (work .exit)))
-        ≡ maximize kappa k d (modelOf (partsIn m k d (now (work .entry)))) (gatherUpTo (now (weights .entry)) (now (coords .entry)) (partsIn m k d (now (work .entry)) .resp) k d m)) ⌝ }
+        ≡ maximize kappa k d (modelOf (partsIn m k d (now (work .entry)))) (statisticsUpTo (now (weights .entry)) (now (coords .entry)) (partsIn m k d (now (work .entry)) .resp) k d m)) ⌝ }
 {
-    gather(work, weights, coords, m, k, d);
+    accumulate(work, weights, coords, m, k, d);
     put_norms(work, m, k, d);
     let totals = layout::totals_at(k, d);
     let s = &work[..];

@@ -21,7 +21,7 @@ parts-alike a b at k g h =
     let e : at + k - at ≡ k = omega arith in
     record { same = rw e (length-part a at k g ∙ sym (length-part b at k h)) }
 
--- a row softened where it stands, by what it is as the code cuts it
+-- the softmax of a row where it stands, by what it is as the code cuts it
 pub leaf-done : (e rows v : List Float) (at k : ℕ) (r : Float) → r ≡ logSumOver (part rows at (at + k - at)) (part e at (at + k - at)) → v ≡ lessBy r (part rows at (at + k - at))
     → (r ≡ logSumOver (part rows at k) (part e at k)) × (putPart e at (at + k - at) v ≡ putPart e at k (lessBy r (part rows at k)))
 leaf-done e rows v at k r p q =

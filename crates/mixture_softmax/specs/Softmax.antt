@@ -1,4 +1,4 @@
--- Document 01, 'Mixture' (vmf.rs, the E-step): the log-space softmax of the leaves' likenesses. Definitions only.
+-- Document 01, 'Mixture' (vmf.rs, the E-step): the log-space softmax of the leaves' log densities. Definitions only.
 use mathlib.Core.Path.{_≡_}
 use mathlib.Core.List.{List, [], _∷_, _++_}
 use mathlib.Core.Bool.{true}
@@ -59,7 +59,7 @@ sharesUpTo k rows n = joined (sharesAt k rows) n
 abbrev pub logsUpTo : ℕ → List Float → List Float → Float → ℕ → Float
 logsUpTo k rows weights l n = weighed (logSumAt k rows) weights l n
 
--- what `soften` asks of the lengths
+-- what `log_softmax_rows` asks of the lengths
 pub record LeafRows (rows weights k : ℕ) : Type 0 where
   pub k-some : 0 < k
   pub k-small : k ≤ 64

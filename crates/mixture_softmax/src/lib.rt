@@ -1,4 +1,4 @@
-// The log-space softmax of many leaves (vmf.rs, the E-step of movmf_once; document 01, 'Mixture'), over lent rows of their likenesses to k groups. The exponentials
+// The log-space softmax of many leaves (vmf.rs, the E-step of movmf_once; document 01, 'Mixture'), over lent rows of their log densities in k groups. The exponentials
 // of a block of leaves are worked out in one run, eight at a time across the borders of the rows.
 ghost use mathlib.Core.Path.{_≡_};
 ghost use mathlib.Core.Bool.{true, false};
@@ -146,7 +146,7 @@ fn less_log_sums(e: &mut [f64], rows: &[f64], weights: &[f64], k: usize, l: f64)
 }
 
 // A block of leaves.
-fn soften_block(rows: &mut [f64], weights: &[f64], k: usize, l: f64) -> f64
+fn log_softmax_block(rows: &mut [f64], weights: &[f64], k: usize, l: f64) -> f64
     requires { ⌜ Block (length (now rows)) (length (now weights)) k ⌝ }
     ensures { λ r. ⌜ (r ≡ logsUpTo k (now (rows .entry)) (now (weights .entry)) l (length (now (weights .entry))))
         × (now (rows .exit) ≡ sharesUpTo k (now (rows .entry)) (length (now (weights .entry)))) ⌝ }
@@ -173,8 +173,8 @@ fn block_end(i: usize, m: usize, k: usize) -> usize
     i + most
 }
 
-// The rows of likenesses become the leaves' responsibilities; the log-likelihood.
-pub fn soften(rows: &mut [f64], weights: &[f64], k: usize) -> f64
+// The rows of log densities become the leaves' responsibilities; the log-likelihood.
+pub fn log_softmax_rows(rows: &mut [f64], weights: &[f64], k: usize) -> f64
     requires { ⌜ LeafRows (length (now rows)) (length (now weights)) k ⌝ }
     ensures { λ r. ⌜ (r ≡ logsUpTo k (now (rows .entry)) (now (weights .entry)) plusZero (length (now (weights .entry))))
         × (now (rows .exit) ≡ sharesUpTo k (now (rows .entry)) (length (now (weights .entry)))) ⌝ }
@@ -184,7 +184,7 @@ pub fn soften(rows: &mut [f64], weights: &[f64], k: usize) -> f64
     let mut i = 0;
     while i < m {
         let end = block_end(i, m, k);
-        l = soften_block(&mut rows[i * k..end * k], &weights[i..end], k, l);
+        l = log_softmax_block(&mut rows[i * k..end * k], &weights[i..end], k, l);
         i = end;
     }
     l

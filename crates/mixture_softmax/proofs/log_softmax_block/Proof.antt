@@ -1,12 +1,12 @@
--- `mixture_softmax::soften_block` meets its contract, by what its five calls ensure. Assumes nothing.
+-- `mixture_softmax::log_softmax_block` meets its contract, by what its five calls ensure. Assumes nothing.
 use mathlib.Core.Path.{_≡_, sym, _∙_}
 use native.Mathlib.Omega.{arith}
 use lib.ListN.{length, take}
 use lib.Seq.{length-take-le}
 use Rattle.mixture_softmax.proofs.Blocks.{logs-done, shares-done}
 use borrow.Author.Needs.{needs}
-use Rattle.mixture_softmax.proofs.soften_block.Statement.{statement}
-use Rattle.mixture_softmax.proofs.soften_block.Tie as tie
+use Rattle.mixture_softmax.proofs.log_softmax_block.Statement.{statement}
+use Rattle.mixture_softmax.proofs.log_softmax_block.Tie as tie
 
 -- places, each from a later one
 abbrev exp-front-at : tie.After-less-log-sums → tie.After-exp-front
@@ -52,8 +52,8 @@ returns c =
       c .before .before .copy .ensures ∙ shares-done (a .k) (a .rows .now) m (p .rows-long) _ (g .last .0) (x .last .0) (g .ensures) (x .ensures) (s .last .0) (y .last .0) (s .ensures .1) (y .ensures),
     )
 
-pub soften-block-spec : {M : Type 1} → statement M
-soften-block-spec =
+pub log-softmax-block-spec : {M : Type 1} → statement M
+log-softmax-block-spec =
     tie.close
     (tie.spec
     (λ c. search needs)

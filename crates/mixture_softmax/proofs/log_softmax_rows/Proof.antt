@@ -1,4 +1,4 @@
--- `mixture_softmax::soften` meets its contract. The loop's invariant: the rows of the first i leaves are their shares, what follows is as it was, and the log-likelihood is
+-- `mixture_softmax::log_softmax_rows` meets its contract. The loop's invariant: the rows of the first i leaves are their shares, what follows is as it was, and the log-likelihood is
 -- that of these leaves. The measure is the leaves left. Assumes nothing.
 use mathlib.Core.Path.{_≡_, refl, ap, _∙_}
 use mathlib.Core.List.{_++_}
@@ -13,8 +13,8 @@ use Rattle.mixture_softmax.proofs.Joined.{joined-none, weighed-none}
 use Rattle.rows.proofs.Fills.{front-end}
 use Rattle.mixture_softmax.proofs.Blocks.{block-of, shares-more, logs-more}
 use borrow.Author.Needs.{needs}
-use Rattle.mixture_softmax.proofs.soften.Statement.{statement}
-use Rattle.mixture_softmax.proofs.soften.Tie as tie
+use Rattle.mixture_softmax.proofs.log_softmax_rows.Statement.{statement}
+use Rattle.mixture_softmax.proofs.log_softmax_rows.Tie as tie
 
 abbrev Inv-loop : tie.InvT-loop
 Inv-loop rows₀ weights k m l₀ i₀ rows l i =
@@ -48,26 +48,26 @@ ends-in c =
     let e : length (l .rows) ≡ m * a .k = l .inv .1 ∙ s .pre .rows-long in
     (mul-le-mul-right (a .k) (omega (arith, r .ensures .0)), omega (arith, mul-le-mul-right (a .k) (r .ensures .1)), omega arith)
 
-mul-soften-block : tie.Need-mul-soften-block Inv-loop μ-loop
-mul-soften-block c = omega (arith, ends-in c)
+mul-log-softmax-block : tie.Need-mul-log-softmax-block Inv-loop μ-loop
+mul-log-softmax-block c = omega (arith, ends-in c)
 
-mul-soften-block-2 : tie.Need-mul-soften-block-2 Inv-loop μ-loop
-mul-soften-block-2 c = omega (arith, ends-in c)
+mul-log-softmax-block-2 : tie.Need-mul-log-softmax-block-2 Inv-loop μ-loop
+mul-log-softmax-block-2 c = omega (arith, ends-in c)
 
-mul-soften-block-3 : tie.Need-mul-soften-block-3 Inv-loop μ-loop
-mul-soften-block-3 c = omega (arith, ends-in c)
+mul-log-softmax-block-3 : tie.Need-mul-log-softmax-block-3 Inv-loop μ-loop
+mul-log-softmax-block-3 c = omega (arith, ends-in c)
 
-sub-soften-block : tie.Need-sub-soften-block Inv-loop μ-loop
-sub-soften-block c = omega (arith, ends-in c)
+sub-log-softmax-block : tie.Need-sub-log-softmax-block Inv-loop μ-loop
+sub-log-softmax-block c = omega (arith, ends-in c)
 
-part-soften-block-start : tie.Need-part-soften-block-start Inv-loop μ-loop
-part-soften-block-start c = omega (arith, ends-in c)
+part-log-softmax-block-start : tie.Need-part-log-softmax-block-start Inv-loop μ-loop
+part-log-softmax-block-start c = omega (arith, ends-in c)
 
-part-soften-block-end : tie.Need-part-soften-block-end Inv-loop μ-loop
-part-soften-block-end c = omega (arith, ends-in c)
+part-log-softmax-block-end : tie.Need-part-log-softmax-block-end Inv-loop μ-loop
+part-log-softmax-block-end c = omega (arith, ends-in c)
 
-soften-block-requires : tie.Need-soften-block-requires Inv-loop μ-loop
-soften-block-requires c κs =
+log-softmax-block-requires : tie.Need-log-softmax-block-requires Inv-loop μ-loop
+log-softmax-block-requires c κs =
     let l = c .before .before .before .before .loop in
     let r = c .before .before .block-end in
     let s = c .before .before .before .before .before .before .before in
@@ -84,7 +84,7 @@ start p = let q = p .before .before .before .before .before in q .before .before
 
 loop-again : tie.Need-loop-again Inv-loop μ-loop
 loop-again c =
-    let x = c .before .before .soften-block in
+    let x = c .before .before .log-softmax-block in
     let r = c .before .before .before .before .before .block-end in
     let l = c .before .before .before .before .before .before .before .loop in
     let s = start c in
@@ -111,25 +111,25 @@ returns c =
           ∙ front-end (sharesUpTo (a .k) (a .rows .now) m) (a .rows .now) (m * a .k) (c .before .before .before .before .pre .rows-long),
     )
 
-pub soften-spec : {M : Type 1} → statement M
-soften-spec =
+pub log-softmax-rows-spec : {M : Type 1} → statement M
+log-softmax-rows-spec =
     tie.close
     (tie.spec
     Inv-loop
     μ-loop
     loop-holds
     block-end-requires
-    mul-soften-block
-    mul-soften-block-2
-    mul-soften-block-3
-    sub-soften-block
-    part-soften-block-start
-    part-soften-block-end
+    mul-log-softmax-block
+    mul-log-softmax-block-2
+    mul-log-softmax-block-3
+    sub-log-softmax-block
+    part-log-softmax-block-start
+    part-log-softmax-block-end
     (λ c. search needs)
     (λ c. search needs)
     (λ c. search needs)
     (λ c. search needs)
-    soften-block-requires
+    log-softmax-block-requires
     loop-less
     loop-again
     same-length
