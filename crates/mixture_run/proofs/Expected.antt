@@ -13,7 +13,8 @@ use Rattle.rows.specs.Rows.{part, putPart, rowOf}
 use Rattle.vector.specs.Vectors.{dotOf}
 use Rattle.kmeans_nearest.specs.Nearest.{rowDots}
 use Rattle.rows.proofs.Rows.{row-within, put-more, part-cut}
-use Rattle.mixture_softmax.specs.Softmax.{logSumExp, logSumAt, sharesAt, joined, weighed, sharesUpTo, logsUpTo}
+use Rattle.mixture_softmax.specs.Softmax.{logSumExp}
+use Rattle.mixture_softmax.specs.Leaves.{logSumAt, sharesAt, joined, weighed, sharesUpTo, logsUpTo}
 use Rattle.mixture_softmax.proofs.Softmax.{shares-length}
 use Rattle.mixture_softmax.proofs.Joined.{joined-length, joined-row, joined-none, joined-turn, joined-same, weighed-same}
 use Rattle.rows.proofs.Fills.{front-end}

@@ -7,7 +7,7 @@ use lib.ListN.{length}
 use lib.Ieee.{Float}
 use Rattle.rows.specs.Rows.{part}
 use Rattle.rows.proofs.Rows.{row-within, length-part, part-cut}
-use Rattle.mixture_softmax.specs.Softmax.{LeafRows}
+use Rattle.mixture_softmax.specs.Leaves.{LeafRows}
 use Rattle.mixture_run.specs.Areas.{responsibilitiesAt, Area, LeafOf, GroupOf}
 
 pub area-of : (work work' m k d : ℕ) → work' ≡ work → Area work m k d → Area work' m k d

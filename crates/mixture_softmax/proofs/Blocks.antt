@@ -11,7 +11,9 @@ use lib.Ieee.{Float, nan}
 use Rattle.exponential.specs.Exponential.{expOf}
 use Rattle.rows.specs.Rows.{part, putPart, rowOf, Alike}
 use Rattle.rows.proofs.Rows.{row-within, length-part, part-take}
-use Rattle.mixture_softmax.specs.Softmax.{joined, weighed, sharesOf, logSumExp, logSumAt, sharesAt, sharesUpTo, logsUpTo, lessBy, fromGreatest, fromGreatestAt, fromGreatests, logSumOver, logOverAt, fromLogAt, fromLogs, logsOver, Block}
+use Rattle.mixture_softmax.specs.Softmax.{sharesOf, logSumExp}
+use Rattle.mixture_softmax.specs.Leaves.{joined, weighed, logSumAt, sharesAt, sharesUpTo, logsUpTo}
+use Rattle.mixture_softmax.specs.Blocks.{lessBy, fromGreatest, fromGreatestAt, fromGreatests, logSumOver, logOverAt, fromLogAt, fromLogs, logsOver, Block}
 use Rattle.mixture_softmax.proofs.Softmax.{less-length, map-length, shares-length, shares-by, log-sum-over}
 use Rattle.mixture_softmax.proofs.Joined.{joined-length, joined-row, joined-turn, joined-map, joined-same, joined-more, weighed-same, weighed-more}
 

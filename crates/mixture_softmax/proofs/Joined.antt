@@ -12,7 +12,7 @@ use lib.Ieee.{Float, nan, binary64, add, mul}
 use Rattle.float.proofs.Order.{lt-or-ge}
 use Rattle.rows.specs.Rows.{putPart, rowOf}
 use Rattle.rows.proofs.Rows.{row-within}
-use Rattle.mixture_softmax.specs.Softmax.{joined, weighed}
+use Rattle.mixture_softmax.specs.Leaves.{joined, weighed}
 
 -- ---- rows of k elements
 module _ (f : ℕ → List Float) (k : ℕ) where

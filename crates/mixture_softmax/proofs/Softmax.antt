@@ -13,7 +13,8 @@ use Rattle.exponential.specs.Exponential.{expOf}
 use Rattle.exponential.specs.Fours.{exponentials, eightOf}
 use Rattle.exponential.specs.declared.Eight.{Eight}
 use Rattle.rows.specs.Rows.{putPart}
-use Rattle.mixture_softmax.specs.Softmax.{greatestFrom, expSumFrom, sharesOf, lessBy, logSumExp, logSumOver, fromGreatest}
+use Rattle.mixture_softmax.specs.Softmax.{greatestFrom, expSumFrom, sharesOf, logSumExp}
+use Rattle.mixture_softmax.specs.Blocks.{lessBy, logSumOver, fromGreatest}
 
 -- ---- the greatest
 module _ (row : List Float) (j : ℕ) where

@@ -9,7 +9,9 @@ ghost use lib.Ieee.{inf, isNan};
 ghost use Rattle.float.specs.Arithmetic.{plusZero, maxOf};
 ghost use Rattle.exponential.specs.Exponential.{expOf};
 ghost use Rattle.rows.specs.Rows.{Alike, putPart, rowOf};
-ghost use Rattle.mixture_softmax.specs.Softmax.{greatestFrom, sharesUpTo, logsUpTo, lessBy, fromGreatest, logSumOver, logOverAt, fromGreatests, fromLogs, logsOver, LeafRows, Block, Beside};
+ghost use Rattle.mixture_softmax.specs.Softmax.{greatestFrom};
+ghost use Rattle.mixture_softmax.specs.Leaves.{sharesUpTo, logsUpTo, LeafRows};
+ghost use Rattle.mixture_softmax.specs.Blocks.{lessBy, fromGreatest, logSumOver, logOverAt, fromGreatests, fromLogs, logsOver, Block, Beside};
 
 // The greater of g and x, the first of equals. g is no NaN, so that one comparison is enough.
 fn greater(g: f64, x: f64) -> f64

@@ -5,7 +5,7 @@ use mathlib.Core.List.{_++_}
 use Prim.Native.Nat.{_≤_, _-_}
 use native.Mathlib.Omega.{arith}
 use lib.ListN.{length, take, drop, length-set}
-use Rattle.mixture_softmax.specs.Softmax.{lessBy}
+use Rattle.mixture_softmax.specs.Blocks.{lessBy}
 use Rattle.mixture_softmax.proofs.Softmax.{less-turn, less-end}
 use borrow.Author.Needs.{needs}
 use Rattle.mixture_softmax.proofs.less.Statement.{statement}

@@ -1,7 +1,7 @@
 -- `mixture_softmax::less_greatest` meets its contract, by what its two calls ensure. Assumes nothing.
 use mathlib.Core.Path.{ap, _∙_}
 use lib.Ieee.{Float}
-use Rattle.mixture_softmax.specs.Softmax.{lessBy}
+use Rattle.mixture_softmax.specs.Blocks.{lessBy}
 use borrow.Author.Needs.{needs}
 use Rattle.mixture_softmax.proofs.less_greatest.Statement.{statement}
 use Rattle.mixture_softmax.proofs.less_greatest.Tie as tie

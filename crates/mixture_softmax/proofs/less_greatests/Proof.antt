@@ -6,7 +6,7 @@ use Prim.Native.Nat.{ℕ, _+_, _*_, _-_, _≤_}
 use native.Mathlib.Omega.{arith}
 use lib.ListN.{length, drop}
 use Rattle.rows.proofs.Rows.{row-within}
-use Rattle.mixture_softmax.specs.Softmax.{fromGreatestAt, fromGreatests}
+use Rattle.mixture_softmax.specs.Blocks.{fromGreatestAt, fromGreatests}
 use Rattle.mixture_softmax.proofs.Joined.{joined-none}
 use Rattle.mixture_softmax.proofs.Blocks.{parts-alike, greatests-turn}
 use borrow.Author.Needs.{needs}

@@ -5,7 +5,7 @@ use mathlib.Core.List.{_++_}
 use Prim.Native.Nat.{ℕ, _+_, _*_, _-_, _≤_, _<_}
 use native.Mathlib.Omega.{arith}
 use lib.ListN.{length, drop}
-use Rattle.mixture_softmax.specs.Softmax.{logOverAt, fromLogAt, fromLogs, logsOver}
+use Rattle.mixture_softmax.specs.Blocks.{logOverAt, fromLogAt, fromLogs, logsOver}
 use Rattle.mixture_softmax.proofs.Joined.{joined-none, weighed-none, weighed-turn}
 use Rattle.mixture_softmax.proofs.Blocks.{log-row, logs-turn}
 use borrow.Author.Needs.{needs}

@@ -8,7 +8,7 @@ use native.Mathlib.Omega.{arith}
 use lib.ListN.{length, drop}
 use lib.Ieee.{ofBits}
 use Rattle.float.specs.Arithmetic.{plusZero}
-use Rattle.mixture_softmax.specs.Softmax.{logSumAt, sharesAt, sharesUpTo, logsUpTo}
+use Rattle.mixture_softmax.specs.Leaves.{logSumAt, sharesAt, sharesUpTo, logsUpTo}
 use Rattle.mixture_softmax.proofs.Joined.{joined-none, weighed-none}
 use Rattle.rows.proofs.Fills.{front-end}
 use Rattle.mixture_softmax.proofs.Blocks.{block-of, shares-more, logs-more}
