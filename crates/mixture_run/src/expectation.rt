@@ -1,13 +1,14 @@
-// The E-step: what a group adds to a leaf's log density, the log densities of each leaf, the responsibilities, and the log-likelihood.
+// The E-step: the log coefficient of each group, the log densities of each leaf, the responsibilities, and the
+// log-likelihood.
 ghost use mathlib.Core.Path.{_≡_};
 ghost use Prim.Native.Nat.{_+_, _*_, _<_, _≤_};
-ghost use lib.ListN.{length, getD, set};
-ghost use lib.Ieee.{nan, binary64, add, mul};
+ghost use lib.ListN.{length, set};
 ghost use Rattle.rows.specs.Rows.{putPart, rowOf};
 ghost use Rattle.bessel.specs.Start.{StartOf};
 ghost use Rattle.mixture_kappa.specs.Groups.{logNormOf};
 ghost use Rattle.mixture_run.specs.Mixture.{logCoefficients, logDensityAt, logDensities, expectUpTo};
-ghost use Rattle.mixture_run.specs.Areas.{partsIn, modelOf, withLogCoefficients, withResp, logDensitiesBy, fourLogDensities, Area, Leaves, LeafOf, GroupOf};
+ghost use Rattle.mixture_run.specs.Areas.{partsIn, modelOf, withLogCoefficients, withResp, logDensityBy, logDensitiesBy};
+ghost use Rattle.mixture_run.specs.Areas.{fourLogDensities, Area, Leaves, LeafOf, GroupOf};
 use super::layout;
 
 // That of a concentration after the last one, whose normalizer is `norm`; equal ones share it.
@@ -24,8 +25,9 @@ fn norm_for(kappa: f64, last: f64, norm: f64, d: usize, start: f64) -> f64
 // The log coefficient of each group. The table is read once for all.
 pub(crate) fn put_log_coefficients(work: &mut [f64], m: usize, k: usize, d: usize)
     requires { ⌜ Area (length (now work)) m k d ⌝ }
-    ensures { λ _. ⌜ partsIn m k d (now (work .exit))
-        ≡ withLogCoefficients (logCoefficients k d (modelOf (partsIn m k d (now (work .entry))))) (partsIn m k d (now (work .entry))) ⌝ }
+    ensures { λ _. ⌜ (let p = partsIn m k d (now (work .entry)) in
+        let q = partsIn m k d (now (work .exit)) in
+        q ≡ withLogCoefficients (logCoefficients k d (modelOf p)) p) ⌝ }
 {
     let start = gamma_table::ln_gamma_half(d);
     let weights = layout::weights_at(k, d);
@@ -46,7 +48,7 @@ pub(crate) fn put_log_coefficients(work: &mut [f64], m: usize, k: usize, d: usiz
 // The log density that a dot gives, by the log coefficient at place `coefficient` and the concentration at `kappa`.
 fn log_density_by(work: &[f64], coefficient: usize, kappa: usize, v: f64) -> f64
     requires { ⌜ (coefficient < length (now work)) × (kappa < length (now work)) ⌝ }
-    ensures { λ r. ⌜ r ≡ add binary64 (getD (now (work .entry)) coefficient nan) (mul binary64 (getD (now (work .entry)) kappa nan) v) ⌝ }
+    ensures { λ r. ⌜ r ≡ logDensityBy (now (work .entry)) coefficient kappa v ⌝ }
 {
     work[coefficient] + work[kappa] * v
 }
@@ -63,7 +65,8 @@ fn log_density(
 ) -> f64
     requires { ⌜ Area (length (now work)) m k d ⌝ }
     requires { ⌜ (length (now coords) ≡ m * d) × (LeafOf i m k d) × (GroupOf c k d) ⌝ }
-    ensures { λ r. ⌜ r ≡ logDensityAt d (partsIn m k d (now (work .entry)) .logCoefficients) (modelOf (partsIn m k d (now (work .entry)))) (rowOf (now (coords .entry)) d i) c ⌝ }
+    ensures { λ r. ⌜ (let p = partsIn m k d (now (work .entry)) in
+        r ≡ logDensityAt d (p .logCoefficients) (modelOf p) (rowOf (now (coords .entry)) d i) c) ⌝ }
 {
     let coefficient = layout::log_coefficients_at(k, d) + c;
     let kappa = layout::kappas_at(k, d) + c;
@@ -73,7 +76,8 @@ fn log_density(
     log_density_by(work, coefficient, kappa, v)
 }
 
-// The log densities that four dots give, by the four log coefficients from `coefficient` on and the four concentrations from `kappa` on.
+// The log densities that four dots give, by the four log coefficients from `coefficient` on and the four concentrations
+// from `kappa` on.
 fn log_densities_by(work: &[f64], coefficient: usize, kappa: usize, f: float::Four) -> float::Four
     requires { ⌜ (coefficient + 4 ≤ length (now work)) × (kappa + 4 ≤ length (now work)) ⌝ }
     ensures { λ r. ⌜ r ≡ logDensitiesBy (now (work .entry)) coefficient kappa f ⌝ }
@@ -98,7 +102,8 @@ fn four_log_densities(
 ) -> float::Four
     requires { ⌜ Area (length (now work)) m k d ⌝ }
     requires { ⌜ (length (now coords) ≡ m * d) × (LeafOf i m k d) × (c + 4 ≤ k) × ((c + 4) * d ≤ k * d) ⌝ }
-    ensures { λ r. ⌜ r ≡ fourLogDensities d (partsIn m k d (now (work .entry)) .logCoefficients) (modelOf (partsIn m k d (now (work .entry)))) (rowOf (now (coords .entry)) d i) c ⌝ }
+    ensures { λ r. ⌜ (let p = partsIn m k d (now (work .entry)) in
+        r ≡ fourLogDensities d (p .logCoefficients) (modelOf p) (rowOf (now (coords .entry)) d i) c) ⌝ }
 {
     let coefficient = layout::log_coefficients_at(k, d) + c;
     let kappa = layout::kappas_at(k, d) + c;
@@ -110,7 +115,8 @@ fn four_log_densities(
 // Four numbers stand from place `at` on.
 fn put_four(work: &mut [f64], at: usize, f: float::Four)
     requires { ⌜ at + 4 ≤ length (now work) ⌝ }
-    ensures { λ _. ⌜ now (work .exit) ≡ set (set (set (set (now (work .entry)) at (f .a)) (at + 1) (f .b)) (at + 2) (f .c)) (at + 3) (f .e) ⌝ }
+    ensures { λ _. ⌜ (let w = now (work .entry) in
+        now (work .exit) ≡ set (set (set (set w at (f .a)) (at + 1) (f .b)) (at + 2) (f .c)) (at + 3) (f .e)) ⌝ }
 {
     work[at] = f.a;
     work[at + 1] = f.b;
@@ -122,9 +128,10 @@ fn put_four(work: &mut [f64], at: usize, f: float::Four)
 fn put_log_densities(work: &mut [f64], coords: &[f64], i: usize, m: usize, k: usize, d: usize)
     requires { ⌜ Area (length (now work)) m k d ⌝ }
     requires { ⌜ (length (now coords) ≡ m * d) × (LeafOf i m k d) ⌝ }
-    ensures { λ _. ⌜ partsIn m k d (now (work .exit))
-        ≡ withResp (putPart (partsIn m k d (now (work .entry)) .resp) (i * k) k (logDensities k d (partsIn m k d (now (work .entry)) .logCoefficients) (modelOf (partsIn m k d (now (work .entry)))) (rowOf (now (coords .entry)) d i)))
-        (partsIn m k d (now (work .entry))) ⌝ }
+    ensures { λ _. ⌜ (let p = partsIn m k d (now (work .entry)) in
+        let q = partsIn m k d (now (work .exit)) in
+        let x = rowOf (now (coords .entry)) d i in
+        q ≡ withResp (putPart (p .resp) (i * k) k (logDensities k d (p .logCoefficients) (modelOf p) x)) p) ⌝ }
 {
     let row = layout::responsibilities_at(k, d) + i * k;
     let mut c = 0;
@@ -140,7 +147,7 @@ fn put_log_densities(work: &mut [f64], coords: &[f64], i: usize, m: usize, k: us
     }
 }
 
-// The E-step: all responsibilities, from the log densities that are written in their places first, and the log-likelihood.
+// All responsibilities, from the log densities that are written in their places first, and the log-likelihood.
 pub(crate) fn expect(
     work: &mut [f64],
     weights: &[f64],
@@ -151,10 +158,10 @@ pub(crate) fn expect(
 ) -> f64
     requires { ⌜ Area (length (now work)) m k d ⌝ }
     requires { ⌜ Leaves (length (now weights)) (length (now coords)) m d ⌝ }
-    ensures { λ r. ⌜ (r ≡ expectUpTo (now (weights .entry)) (now (coords .entry)) k d (partsIn m k d (now (work .entry)) .logCoefficients) (modelOf (partsIn m k d (now (work .entry)))) m .loglik)
-        × (partsIn m k d (now (work .exit))
-        ≡ withResp (expectUpTo (now (weights .entry)) (now (coords .entry)) k d (partsIn m k d (now (work .entry)) .logCoefficients) (modelOf (partsIn m k d (now (work .entry)))) m .resp)
-        (partsIn m k d (now (work .entry)))) ⌝ }
+    ensures { λ r. ⌜ (let p = partsIn m k d (now (work .entry)) in
+        let q = partsIn m k d (now (work .exit)) in
+        let e = expectUpTo (now (weights .entry)) (now (coords .entry)) k d (p .logCoefficients) (modelOf p) m in
+        (r ≡ e .loglik) × (q ≡ withResp (e .resp) p)) ⌝ }
 {
     let mut i = 0;
     while i < m {

@@ -1,8 +1,9 @@
-// The places of a work area: directions first, then resultants, then of each group its weight, concentration, log coefficient, whole weight
-// and length of resultant, then the responsibilities. Each is worked out here and nowhere else.
+// The places of a work area: directions first, then resultants, then of each group its weight, concentration, log
+// coefficient, whole weight and length of resultant, then the responsibilities. Each is worked out here, nowhere else.
 ghost use mathlib.Core.Path.{_≡_};
 ghost use Prim.Native.Nat.{_+_, _*_, _≤_};
-ghost use Rattle.mixture_run.specs.Areas.{weightsAt, kappasAt, logCoefficientsAt, totalsAt, normsAt, responsibilitiesAt};
+ghost use Rattle.mixture_run.specs.Areas.{weightsAt, kappasAt, logCoefficientsAt, totalsAt, normsAt};
+ghost use Rattle.mixture_run.specs.Areas.{responsibilitiesAt};
 
 // Where the weights start.
 pub fn weights_at(k: usize, d: usize) -> usize

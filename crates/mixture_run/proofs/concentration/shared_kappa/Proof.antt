@@ -1,6 +1,5 @@
 -- `mixture_run::concentration::shared_kappa` meets its contract: the concentrations are filled with the one by the sum of the lengths. Assumes nothing.
 use mathlib.Core.Path.{_≡_, refl, ap, _∙_}
-use Prim.Native.Nat.{_+_, _*_}
 use native.Mathlib.Omega.{arith}
 use lib.ListN.{replicate}
 use lib.Ieee.{Float}

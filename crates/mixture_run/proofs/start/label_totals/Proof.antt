@@ -1,6 +1,6 @@
 -- `mixture_run::start::label_totals` meets its contract. The loop's invariant: the totals are those of the first i leaves, beside the parts of the start. Assumes nothing.
 use mathlib.Core.Path.{_≡_, refl}
-use Prim.Native.Nat.{_+_, _*_, _≤_, _<_, _-_}
+use Prim.Native.Nat.{_≤_, _<_, _-_}
 use native.Mathlib.Omega.{arith}
 use lib.ListN.{length, getD, replicate}
 use lib.Ieee.{ofBits}
