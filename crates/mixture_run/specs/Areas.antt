@@ -118,7 +118,7 @@ withStatistics g p = withTotals (g .totals) (withSums (g .sums) p)
 abbrev pub emOf : Parts → Float → Em
 emOf p loglik = record { resp = p .resp; model = modelOf p; loglik = loglik }
 
--- what a dot comes to with the log coefficient at one place and the concentration at another, and four dots from there on
+-- what a dot comes to with the log coefficient at one place and the concentration at another; four dots from there on
 module _ (w : List Float) where
   abbrev pub logDensityBy : (coefficient kappa : ℕ) (dot : Float) → Float
   logDensityBy coefficient kappa dot = add binary64 (getD w coefficient nan) (mul binary64 (getD w kappa nan) dot)

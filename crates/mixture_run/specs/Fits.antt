@@ -1,5 +1,5 @@
--- Document 01, 'Mixture': one run of `movmf_once`, from its warm start to its log-likelihood, and what a fit makes of it.
--- Definitions only.
+-- Document 01, 'Mixture': one run of `movmf_once`, from its warm start to its log-likelihood, and what a fit makes of
+-- it. Definitions only.
 use mathlib.Core.List.{List}
 use mathlib.Core.Bool.{true}
 use Prim.Native.Nat.{ℕ, zero, suc, _*_}

@@ -41,7 +41,8 @@ logDensities k d coefficients p x = tabulate (logDensityAt d coefficients p x) k
 abbrev pub softmax : List Float → List Float
 softmax logr = sharesOf (logSumExp logr) logr
 
--- the responsibilities of the leaves so far, row by row, and the log-likelihood, summed with weights in leaf order from +0
+-- the responsibilities of the leaves so far, row by row, and the log-likelihood, summed with weights in leaf order
+-- from +0
 pub record Expected : Type 0 where
   pub resp : List Float
   pub loglik : Float
@@ -53,7 +54,8 @@ expectLeaf weight logr e =
 module _ (weights coords : List Float) (k d : ℕ) (coefficients : List Float) (p : Model) where
   unfoldable pub expectUpTo : ℕ → Expected
   expectUpTo zero = record { resp = []; loglik = plusZero }
-  expectUpTo (suc i) = expectLeaf (getD weights i nan) (logDensities k d coefficients p (rowOf coords d i)) (expectUpTo i)
+  expectUpTo (suc i) =
+      expectLeaf (getD weights i nan) (logDensities k d coefficients p (rowOf coords d i)) (expectUpTo i)
 
 -- ---- the M-step
 
@@ -77,7 +79,8 @@ module _ (d : ℕ) (weight : Float) (resp x : List Float) (g : Statistics) where
 module _ (weights coords resp : List Float) (k d : ℕ) where
   unfoldable pub statisticsUpTo : ℕ → Statistics
   statisticsUpTo zero = record { totals = replicate k plusZero; sums = replicate (k * d) plusZero }
-  statisticsUpTo (suc i) = accumulateLeaf d (getD weights i nan) (rowOf resp k i) (rowOf coords d i) (statisticsUpTo i) k
+  statisticsUpTo (suc i) =
+      accumulateLeaf d (getD weights i nan) (rowOf resp k i) (rowOf coords d i) (statisticsUpTo i) k
 
 -- a group's share of the whole weight; 1/k where that is not above 0
 abbrev pub evenWeight : (k : ℕ) → Float
@@ -123,12 +126,17 @@ tolerance = f64 0x3E7AD7F29ABCAF48
 
 -- after the first round: |new − old| ≤ 1e-7 · max(|old|, 1)
 abbrev pub stopsAt : (it : ℕ) (old new : Float) → Bool
-stopsAt it old new = ltb 0 it && le (absOf (sub binary64 new old)) (mul binary64 tolerance (maxOf (absOf old) (number 1)))
+stopsAt it old new =
+    ltb 0 it && le (absOf (sub binary64 new old)) (mul binary64 tolerance (maxOf (absOf old) (number 1)))
 
 module _ (kappa : Kappa) (weights coords : List Float) (m k d : ℕ) where
   abbrev pub roundBy : Model → Expected → Em
   roundBy p e =
-      record { resp = e .resp; model = maximize kappa k d p (statisticsUpTo weights coords (e .resp) k d m); loglik = e .loglik }
+      record {
+        resp = e .resp;
+        model = maximize kappa k d p (statisticsUpTo weights coords (e .resp) k d m);
+        loglik = e .loglik;
+      }
 
   abbrev pub emRound : Model → Em
   emRound p = roundBy p (expectUpTo weights coords k d (logCoefficients k d p) p m)

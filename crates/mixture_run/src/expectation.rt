@@ -7,8 +7,8 @@ ghost use Rattle.rows.specs.Rows.{putPart, rowOf};
 ghost use Rattle.bessel.specs.Start.{StartOf};
 ghost use Rattle.mixture_kappa.specs.Groups.{logNormOf};
 ghost use Rattle.mixture_run.specs.Mixture.{logCoefficients, logDensityAt, logDensities, expectUpTo};
-ghost use Rattle.mixture_run.specs.Areas.{partsIn, modelOf, withLogCoefficients, withResp, logDensityBy, logDensitiesBy};
-ghost use Rattle.mixture_run.specs.Areas.{fourLogDensities, Area, Leaves, LeafOf, GroupOf};
+ghost use Rattle.mixture_run.specs.Areas.{partsIn, modelOf, withLogCoefficients, withResp, logDensityBy};
+ghost use Rattle.mixture_run.specs.Areas.{logDensitiesBy, fourLogDensities, Area, Leaves, LeafOf, GroupOf};
 use super::layout;
 
 // That of a concentration after the last one, whose normalizer is `norm`; equal ones share it.
