@@ -1,6 +1,6 @@
 // The settings of a mixture fit, and the numbers of its groups that no work area is needed for (vmf.rs, KappaModel and
-// movmf_once; document 01, 'Leaves, settings, fit', 'Mixture' and 'Choosing the number of groups'): how many parameters k
-// groups have, the log normalizer of a concentration, and the log coefficient of a group.
+// movmf_once; document 01, 'Leaves, settings, fit', 'Mixture' and 'Choosing the number of groups'): how many parameters
+// k groups have, the log normalizer of a concentration, and the log coefficient of a group.
 ghost use mathlib.Core.Path.{_≡_};
 ghost use Prim.Native.Nat.{_*_, _≤_};
 ghost use lib.Ieee.{binary64, add};

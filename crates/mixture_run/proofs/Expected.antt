@@ -1,6 +1,6 @@
--- Laws of the E-step: what the calls on the area ensure is what specs/Mixture.antt defines. The log densities of a leaf are a row of the last region; those of the
--- first i leaves stand before what the region held; the log-softmax of the rows are the responsibilities. By the laws of the regions and of joined rows. Assumes
--- nothing.
+-- Laws of the E-step: what the calls on the area ensure is what specs/Mixture.antt defines. The log densities of a leaf are a row of the
+-- last region; those of the first i leaves stand before what the region held; the log-softmax of the rows are the responsibilities. By the
+-- laws of the regions and of joined rows. Assumes nothing.
 use mathlib.Core.Path.{_≡_, refl, ap, sym, _∙_}
 use mathlib.Core.List.{List, _++_}
 use Prim.Native.Nat.{ℕ, zero, suc, _+_, _*_, _-_, _≤_, _<_}
@@ -20,15 +20,41 @@ use Rattle.mixture_softmax.proofs.Joined.{joined-length, joined-row, joined-non
 use Rattle.rows.proofs.Fills.{front-end}
 use Rattle.mixture_kappa.specs.Kappas.{tabulate}
 use Rattle.mixture_run.specs.Mixture.{Model, logDensityAt, logDensities, softmax, expectUpTo}
-use Rattle.mixture_run.specs.Areas.{Parts, partsIn, kappasAt, logCoefficientsAt, responsibilitiesAt, total, modelOf, withResp, logDensitiesBy, fourLogDensities}
-use Rattle.mixture_run.proofs.Regions.{directionsR, kappasR, logCoefficientsR, respR, set-in, get-in, part-in, whole-in, put-whole-in, length-in, tabulate-length, tabulate-turn}
+use Rattle.mixture_run.specs.Areas.{
+  Parts,
+  partsIn,
+  kappasAt,
+  logCoefficientsAt,
+  responsibilitiesAt,
+  total,
+  modelOf,
+  withResp,
+  logDensitiesBy,
+  fourLogDensities,
+}
+use Rattle.mixture_run.proofs.Regions.{
+  directionsR,
+  kappasR,
+  logCoefficientsR,
+  respR,
+  set-in,
+  get-in,
+  part-in,
+  whole-in,
+  put-whole-in,
+  length-in,
+  tabulate-length,
+  tabulate-turn,
+}
 
 -- ---- the log densities of a leaf
 
 -- one of them, by what the code reads
-pub log-density-done : (m k d : ℕ) (w coords : List Float) (i c : ℕ) (v : Float) (coefficient kappa at n : ℕ) → coefficient ≡ logCoefficientsAt k d + c → kappa ≡ kappasAt k d + c
+pub log-density-done : (m k d : ℕ) (w coords : List Float) (i c : ℕ) (v : Float) (coefficient kappa at n : ℕ)
+    → coefficient ≡ logCoefficientsAt k d + c → kappa ≡ kappasAt k d + c
     → at ≡ c * d → n ≡ d → c < k → v ≡ dotOf (part coords (i * d) (i * d + d - i * d)) (part w at n)
-    → add binary64 (getD w coefficient nan) (mul binary64 (getD w kappa nan) v) ≡ logDensityAt d (partsIn m k d w .logCoefficients) (modelOf (partsIn m k d w)) (rowOf coords d i) c
+    → add binary64 (getD w coefficient nan) (mul binary64 (getD w kappa nan) v)
+    ≡ logDensityAt d (partsIn m k d w .logCoefficients) (modelOf (partsIn m k d w)) (rowOf coords d i) c
 log-density-done m k d w coords i c v coefficient kappa at n b q a f h e =
     let coefficient-in = get-in logCoefficientsR m k d w coefficient c nan (omega arith) h in
     let kappa-in = get-in kappasR m k d w kappa c nan (omega arith) h in
@@ -36,23 +62,31 @@ log-density-done m k d w coords i c v coefficient kappa at n b q a f h e =
     rw (coefficient-in, kappa-in, e, part-cut coords (i * d) d, f, row)
 
 -- four of them
-pub four-done : (m k d : ℕ) (w coords : List Float) (i c : ℕ) (f : Four) (coefficient kappa : ℕ) → coefficient ≡ logCoefficientsAt k d + c → kappa ≡ kappasAt k d + c
+pub four-done : (m k d : ℕ) (w coords : List Float) (i c : ℕ) (f : Four) (coefficient kappa : ℕ) → coefficient ≡ logCoefficientsAt k d + c
+    → kappa ≡ kappasAt k d + c
     → c + 4 ≤ k → f ≡ rowDots (part coords (i * d) (i * d + d - i * d)) w d c
     → _≡_ {A = Four} (logDensitiesBy w coefficient kappa f)
     (fourLogDensities d (partsIn m k d w .logCoefficients) (modelOf (partsIn m k d w)) (rowOf coords d i) c)
 four-done m k d w coords i c f coefficient kappa b q h is =
     let one = log-density-done m k d w coords i in
     let at-a = one c (f .a) coefficient kappa (c * d) d b q refl refl (omega arith) (ap (λ (g : Four). g .a) is) in
-    let at-b = one (c + 1) (f .b) (coefficient + 1) (kappa + 1) ((c + 1) * d) d (omega arith) (omega arith) refl refl (omega arith) (ap (λ (g : Four). g .b) is) in
-    let at-c = one (c + 2) (f .c) (coefficient + 2) (kappa + 2) ((c + 2) * d) d (omega arith) (omega arith) refl refl (omega arith) (ap (λ (g : Four). g .c) is) in
-    let at-e = one (c + 3) (f .e) (coefficient + 3) (kappa + 3) ((c + 3) * d) d (omega arith) (omega arith) refl refl (omega arith) (ap (λ (g : Four). g .e) is) in
+    let at-b =
+    one (c + 1) (f .b) (coefficient + 1) (kappa + 1) ((c + 1) * d) d (omega arith) (omega arith) refl refl (omega arith)
+    (ap (λ (g : Four). g .b) is) in
+    let at-c =
+    one (c + 2) (f .c) (coefficient + 2) (kappa + 2) ((c + 2) * d) d (omega arith) (omega arith) refl refl (omega arith)
+    (ap (λ (g : Four). g .c) is) in
+    let at-e =
+    one (c + 3) (f .e) (coefficient + 3) (kappa + 3) ((c + 3) * d) d (omega arith) (omega arith) refl refl (omega arith)
+    (ap (λ (g : Four). g .e) is) in
     rw (at-a, at-b, at-c, at-e)
 
 module _ (m k d : ℕ) (w₀ coords : List Float) (i : ℕ) where
   -- the first n, where the responsibilities will stand
   abbrev pub rowDone : ℕ → Parts
   rowDone n =
-      withResp (putPart (partsIn m k d w₀ .resp) (i * k) n (tabulate (logDensityAt d (partsIn m k d w₀ .logCoefficients) (modelOf (partsIn m k d w₀)) (rowOf coords d i)) n)) (partsIn m k d w₀)
+      withResp (putPart (partsIn m k d w₀ .resp) (i * k) n
+      (tabulate (logDensityAt d (partsIn m k d w₀ .logCoefficients) (modelOf (partsIn m k d w₀)) (rowOf coords d i)) n)) (partsIn m k d w₀)
 
   pub row-start : partsIn m k d w₀ ≡ rowDone 0
   unfolding tabulate
@@ -61,7 +95,8 @@ module _ (m k d : ℕ) (w₀ coords : List Float) (i : ℕ) where
   module _ (r : i * k + k ≤ m * k) (g : total m k d ≤ length w₀) where
     -- one stored
     row-store : (w : List Float) (at c n : ℕ) (v : Float) → at ≡ responsibilitiesAt k d + i * k + c → n ≡ c + 1 → c < k
-        → v ≡ logDensityAt d (partsIn m k d w₀ .logCoefficients) (modelOf (partsIn m k d w₀)) (rowOf coords d i) c → partsIn m k d w ≡ rowDone c → partsIn m k d (set w at v) ≡ rowDone n
+        → v ≡ logDensityAt d (partsIn m k d w₀ .logCoefficients) (modelOf (partsIn m k d w₀)) (rowOf coords d i) c
+        → partsIn m k d w ≡ rowDone c → partsIn m k d (set w at v) ≡ rowDone n
     row-store w at c n v a s h e f =
         let p₀ = partsIn m k d w₀ in
         let density = logDensityAt d (p₀ .logCoefficients) (modelOf p₀) (rowOf coords d i) in
@@ -69,10 +104,12 @@ module _ (m k d : ℕ) (w₀ coords : List Float) (i : ℕ) where
         rw s
         (set-in respR m k d w at (i * k + c) v (omega arith) (omega arith)
         ∙ ap (λ (p : Parts). withResp (set (p .resp) (i * k + c) v) p) f
-        ∙ ap (λ (l : List Float). withResp l p₀) (put-more (p₀ .resp) (tabulate density c) (i * k) c v nan (tabulate-length density c) inside)
+        ∙ ap (λ (l : List Float). withResp l p₀)
+        (put-more (p₀ .resp) (tabulate density c) (i * k) c v nan (tabulate-length density c) inside)
         ∙ ap (λ (l : List Float). withResp (putPart (p₀ .resp) (i * k) (c + 1) l) p₀) (tabulate-turn density c v e))
 
-    pub row-turn : (w : List Float) (at c : ℕ) (v : Float) → at ≡ responsibilitiesAt k d + i * k + c → c < k → v ≡ logDensityAt d (partsIn m k d w .logCoefficients) (modelOf (partsIn m k d w)) (rowOf coords d i) c
+    pub row-turn : (w : List Float) (at c : ℕ) (v : Float) → at ≡ responsibilitiesAt k d + i * k + c → c < k
+        → v ≡ logDensityAt d (partsIn m k d w .logCoefficients) (modelOf (partsIn m k d w)) (rowOf coords d i) c
         → partsIn m k d w ≡ rowDone c → partsIn m k d (set w at v) ≡ rowDone (c + 1)
     row-turn w at c v a h e f =
         row-store w at c (c + 1) v a refl h
@@ -81,7 +118,8 @@ module _ (m k d : ℕ) (w₀ coords : List Float) (i : ℕ) where
     -- four stored
     pub row-four : (w w' : List Float) (at c : ℕ) (v : Four) → at ≡ responsibilitiesAt k d + i * k + c → c + 4 ≤ k
         → v ≡ fourLogDensities d (partsIn m k d w .logCoefficients) (modelOf (partsIn m k d w)) (rowOf coords d i) c
-        → w' ≡ set (set (set (set w at (v .a)) (at + 1) (v .b)) (at + 2) (v .c)) (at + 3) (v .e) → partsIn m k d w ≡ rowDone c → partsIn m k d w' ≡ rowDone (c + 4)
+        → w' ≡ set (set (set (set w at (v .a)) (at + 1) (v .b)) (at + 2) (v .c)) (at + 3) (v .e) → partsIn m k d w ≡ rowDone c
+        → partsIn m k d w' ≡ rowDone (c + 4)
     row-four w w' at c v a h e s f =
         let is : v ≡ fourLogDensities d (partsIn m k d w₀ .logCoefficients) (modelOf (partsIn m k d w₀)) (rowOf coords d i) c =
         e ∙ ap (λ (p : Parts). fourLogDensities d (p .logCoefficients) (modelOf p) (rowOf coords d i) c) f in
@@ -91,12 +129,14 @@ module _ (m k d : ℕ) (w₀ coords : List Float) (i : ℕ) where
         let f₁ = row-store w at c (c + 1) (v .a) a refl (omega arith) (ap (λ (g : Four). g .a) is) f in
         let f₂ = row-store w₁ (at + 1) (c + 1) (c + 2) (v .b) (omega arith) (omega arith) (omega arith) (ap (λ (g : Four). g .b) is) f₁ in
         let f₃ = row-store w₂ (at + 2) (c + 2) (c + 3) (v .c) (omega arith) (omega arith) (omega arith) (ap (λ (g : Four). g .c) is) f₂ in
-        ap (partsIn m k d) s ∙ row-store w₃ (at + 3) (c + 3) (c + 4) (v .e) (omega arith) (omega arith) (omega arith) (ap (λ (g : Four). g .e) is) f₃
+        ap (partsIn m k d) s ∙ row-store w₃ (at + 3) (c + 3) (c + 4) (v .e) (omega arith) (omega arith) (omega arith)
+        (ap (λ (g : Four). g .e) is) f₃
 
 -- where the first c₀ of an area as long stand in u, the first n of it stand in w
 abbrev pub RowFrom : (m k d : ℕ) (u coords : List Float) (i c₀ : ℕ) (w : List Float) (n : ℕ) → Type 0
 RowFrom m k d u coords i c₀ w n =
-    (w₀ : List Float) → length u ≡ length w₀ → partsIn m k d u ≡ rowDone m k d w₀ coords i c₀ → partsIn m k d w ≡ rowDone m k d w₀ coords i n
+    (w₀ : List Float) → length u ≡ length w₀ → partsIn m k d u ≡ rowDone m k d w₀ coords i c₀
+    → partsIn m k d w ≡ rowDone m k d w₀ coords i n
 
 -- ---- all leaves
 module _ (coords : List Float) (k d : ℕ) (coefficients : List Float) (p : Model) where
@@ -111,15 +151,18 @@ module _ (coords : List Float) (k d : ℕ) (coefficients : List Float) (p : Mode
   softmax-length i = shares-length (logSumExp (densitiesOf i)) (densitiesOf i) ∙ densities-length i
 
   -- their softmax and their weighed log-sums are what is expected
-  expected-resp : (weights : List Float) (n : ℕ) → joined (λ (i : ℕ). softmax (densitiesOf i)) n ≡ expectUpTo weights coords k d coefficients p n .resp
+  expected-resp : (weights : List Float) (n : ℕ)
+      → joined (λ (i : ℕ). softmax (densitiesOf i)) n ≡ expectUpTo weights coords k d coefficients p n .resp
   unfolding joined expectUpTo
   expected-resp weights zero = refl
   expected-resp weights (suc n) = ap (λ (r : List Float). r ++ softmax (densitiesOf n)) (expected-resp weights n)
 
-  expected-loglik : (weights : List Float) (n : ℕ) → weighed (λ (i : ℕ). logSumExp (densitiesOf i)) weights plusZero n ≡ expectUpTo weights coords k d coefficients p n .loglik
+  expected-loglik : (weights : List Float) (n : ℕ)
+      → weighed (λ (i : ℕ). logSumExp (densitiesOf i)) weights plusZero n ≡ expectUpTo weights coords k d coefficients p n .loglik
   unfolding weighed expectUpTo
   expected-loglik weights zero = refl
-  expected-loglik weights (suc n) = ap (λ (l : Float). add binary64 l (mul binary64 (getD weights n nan) (logSumExp (densitiesOf n)))) (expected-loglik weights n)
+  expected-loglik weights (suc n) =
+      ap (λ (l : Float). add binary64 l (mul binary64 (getD weights n nan) (logSumExp (densitiesOf n)))) (expected-loglik weights n)
 
   -- so are the shares and the log-sums of all rows of log densities
   module _ (weights : List Float) (m : ℕ) where
@@ -127,15 +170,19 @@ module _ (coords : List Float) (k d : ℕ) (coefficients : List Float) (p : Mode
     row-is i h = joined-row densitiesOf k m i (λ j g. densities-length j) h
 
     shares-are : sharesUpTo k (joined densitiesOf m) m ≡ expectUpTo weights coords k d coefficients p m .resp
-    shares-are = joined-same (sharesAt k (joined densitiesOf m)) (λ (i : ℕ). softmax (densitiesOf i)) m (λ i h. ap softmax (row-is i h)) ∙ expected-resp weights m
+    shares-are =
+        joined-same (sharesAt k (joined densitiesOf m)) (λ (i : ℕ). softmax (densitiesOf i)) m (λ i h. ap softmax (row-is i h))
+        ∙ expected-resp weights m
 
     logs-are : logsUpTo k (joined densitiesOf m) weights plusZero m ≡ expectUpTo weights coords k d coefficients p m .loglik
     logs-are =
-        weighed-same (logSumAt k (joined densitiesOf m)) (λ (i : ℕ). logSumExp (densitiesOf i)) weights weights plusZero m (λ i h. ap logSumExp (row-is i h)) (λ i h. refl)
+        weighed-same (logSumAt k (joined densitiesOf m)) (λ (i : ℕ). logSumExp (densitiesOf i)) weights weights plusZero m
+        (λ i h. ap logSumExp (row-is i h)) (λ i h. refl)
         ∙ expected-loglik weights m
 
     resp-length : length (expectUpTo weights coords k d coefficients p m .resp) ≡ m * k
-    resp-length = ap length (sym (expected-resp weights m)) ∙ joined-length (λ (i : ℕ). softmax (densitiesOf i)) k m (λ i h. softmax-length i)
+    resp-length =
+        ap length (sym (expected-resp weights m)) ∙ joined-length (λ (i : ℕ). softmax (densitiesOf i)) k m (λ i h. softmax-length i)
 
 module _ (m k d : ℕ) (w₀ coords : List Float) where
   abbrev densities : ℕ → List Float
@@ -150,21 +197,26 @@ module _ (m k d : ℕ) (w₀ coords : List Float) where
 
   pub rows-turn : (w w' : List Float) (i : ℕ) → partsIn m k d w ≡ rowsDone i
       → partsIn m k d w'
-      ≡ withResp (putPart (partsIn m k d w .resp) (i * k) k (logDensities k d (partsIn m k d w .logCoefficients) (modelOf (partsIn m k d w)) (rowOf coords d i))) (partsIn m k d w)
+      ≡ withResp (putPart (partsIn m k d w .resp) (i * k) k
+      (logDensities k d (partsIn m k d w .logCoefficients) (modelOf (partsIn m k d w)) (rowOf coords d i))) (partsIn m k d w)
       → partsIn m k d w' ≡ rowsDone (i + 1)
   rows-turn w w' i f h =
       let p₀ = partsIn m k d w₀ in
-      h ∙ ap (λ (p : Parts). withResp (putPart (p .resp) (i * k) k (logDensities k d (p .logCoefficients) (modelOf p) (rowOf coords d i))) p) f
+      h ∙ ap (λ (p : Parts). withResp (putPart (p .resp) (i * k) k (logDensities k d (p .logCoefficients) (modelOf p) (rowOf coords d i)))
+      p) f
       ∙ ap (λ (l : List Float). withResp l p₀)
-      (joined-turn densities k i k (p₀ .resp) _ (densities i) (λ j g. densities-length coords k d (p₀ .logCoefficients) (modelOf p₀) j) refl refl refl)
+      (joined-turn densities k i k (p₀ .resp) _ (densities i) (λ j g. densities-length coords k d (p₀ .logCoefficients) (modelOf p₀) j)
+      refl refl refl)
 
   -- all of them, and their softmax in their places
-  module _ (weights w : List Float) (i at n : ℕ) (long : length weights ≡ m) (room : total m k d ≤ length w₀) (same : length w ≡ length w₀) (all : i ≡ m)
+  module _ (weights w : List Float) (i at n : ℕ) (long : length weights ≡ m) (room : total m k d ≤ length w₀) (same : length w ≡ length w₀)
+      (all : i ≡ m)
       (f : partsIn m k d w ≡ rowsDone i) (start : at ≡ responsibilitiesAt k d) (size : n ≡ m * k) where
     rows-all : partsIn m k d w ≡ withResp (joined densities m) (partsIn m k d w₀)
     rows-all =
         let p₀ = partsIn m k d w₀ in
-        f ∙ ap rowsDone all ∙ ap (λ (l : List Float). withResp l p₀) (front-end (joined densities m) (p₀ .resp) (m * k) (length-in respR m k d w₀ room))
+        f ∙ ap rowsDone all ∙ ap (λ (l : List Float). withResp l p₀)
+        (front-end (joined densities m) (p₀ .resp) (m * k) (length-in respR m k d w₀ room))
 
     rows-are : part w at n ≡ joined densities m
     rows-are = whole-in respR m k d w at n (omega arith) (omega arith) ∙ ap (λ (p : Parts). p .resp) rows-all
@@ -172,14 +224,19 @@ module _ (m k d : ℕ) (w₀ coords : List Float) where
     pub loglik-done : (l : Float) → l ≡ logsUpTo k (part w at n) weights plusZero (length weights)
         → l ≡ expectUpTo weights coords k d (partsIn m k d w₀ .logCoefficients) (modelOf (partsIn m k d w₀)) m .loglik
     loglik-done l e =
-        let read : logsUpTo k (part w at n) weights plusZero (length weights) ≡ logsUpTo k (joined densities m) weights plusZero m = rw (rows-are, long) in
+        let read : logsUpTo k (part w at n) weights plusZero (length weights) ≡ logsUpTo k (joined densities m) weights plusZero m =
+        rw (rows-are, long) in
         e ∙ read ∙ logs-are coords k d (partsIn m k d w₀ .logCoefficients) (modelOf (partsIn m k d w₀)) weights m
 
     pub resp-done : (v : List Float) → v ≡ sharesUpTo k (part w at n) (length weights)
-        → partsIn m k d (putPart w at n v) ≡ withResp (expectUpTo weights coords k d (partsIn m k d w₀ .logCoefficients) (modelOf (partsIn m k d w₀)) m .resp) (partsIn m k d w₀)
+        → partsIn m k d (putPart w at n v)
+        ≡ withResp (expectUpTo weights coords k d (partsIn m k d w₀ .logCoefficients) (modelOf (partsIn m k d w₀)) m .resp)
+        (partsIn m k d w₀)
     resp-done v e =
         let p₀ = partsIn m k d w₀ in
         let read : sharesUpTo k (part w at n) (length weights) ≡ sharesUpTo k (joined densities m) m = rw (rows-are, long) in
-        let is : v ≡ expectUpTo weights coords k d (p₀ .logCoefficients) (modelOf p₀) m .resp = e ∙ read ∙ shares-are coords k d (p₀ .logCoefficients) (modelOf p₀) weights m in
+        let is : v ≡ expectUpTo weights coords k d (p₀ .logCoefficients) (modelOf p₀) m .resp =
+        e ∙ read ∙ shares-are coords k d (p₀ .logCoefficients) (modelOf p₀) weights m in
         let full : length v ≡ n = ap length is ∙ resp-length coords k d (p₀ .logCoefficients) (modelOf p₀) weights m ∙ sym size in
-        put-whole-in respR m k d w at n v (omega arith) (omega arith) full (omega arith) ∙ ap (withResp v) rows-all ∙ ap (λ (l : List Float). withResp l p₀) is
+        put-whole-in respR m k d w at n v (omega arith) (omega arith) full (omega arith) ∙ ap (withResp v) rows-all
+        ∙ ap (λ (l : List Float). withResp l p₀) is

@@ -23,5 +23,11 @@ group-of c k d h = record { below = h; row = row-within c k d h }
 pub rows-of : (w weights : List Float) (m k d at : ℕ) → Area (length w) m k d → length weights ≡ m → at ≡ responsibilitiesAt k d
     → LeafRows (length (part w at (at + m * k - at))) (length weights) k
 rows-of w weights m k d at a e start =
-    let n : length (part w at (at + m * k - at)) ≡ m * k = ap length (part-cut w at (m * k)) ∙ length-part w at (m * k) (omega (arith, a .work-long)) in
-    record { k-some = a .sizes .k-some; k-small = a .sizes .k-small; weights-small = omega (arith, a .sizes .m-small); rows-long = rw (n, e) }
+    let n : length (part w at (at + m * k - at)) ≡ m * k =
+    ap length (part-cut w at (m * k)) ∙ length-part w at (m * k) (omega (arith, a .work-long)) in
+    record {
+      k-some = a .sizes .k-some;
+      k-small = a .sizes .k-small;
+      weights-small = omega (arith, a .sizes .m-small);
+      rows-long = rw (n, e);
+    }

@@ -1,6 +1,6 @@
-// The log-space softmax of many leaves (vmf.rs, the E-step of movmf_once; document 01, 'Mixture'), over lent rows of their
-// log densities in k groups. The exponentials of a block of leaves are worked out in one run, eight at a time across the
-// borders of the rows.
+// The log-space softmax of many leaves (vmf.rs, the E-step of movmf_once; document 01, 'Mixture'), over lent rows of
+// their log densities in k groups. The exponentials of a block of leaves are worked out in one run, eight at a time
+// across the borders of the rows.
 ghost use mathlib.Core.Path.{_≡_};
 ghost use mathlib.Core.Bool.{true, false};
 ghost use mathlib.Core.List.{_++_, map};
@@ -78,9 +78,9 @@ fn exp_eight(e: &mut [f64])
     e[7] = q.e;
 }
 
-// The first n elements become their exponentials, sixteen at a time; so do up to fifteen after them. In two calls a turn
-// `exp_eight` stays a function of its own: within the loop the compiler puts its four chains of divisions one after the
-// other, which takes a third longer.
+// The first n elements become their exponentials, sixteen at a time; so do up to fifteen after them. In two calls a
+// turn `exp_eight` stays a function of its own: within the loop the compiler puts its four chains of divisions one
+// after the other, which takes a third longer.
 fn exp_front(e: &mut [f64], n: usize)
     requires { ⌜ n + 15 ≤ length (now e) ⌝ }
     ensures { λ _. ⌜ take n (now (e .exit)) ≡ map expOf (take n (now (e .entry))) ⌝ }

@@ -1,4 +1,5 @@
--- `mixture_kappa::log_coefficient` meets its contract: the logarithm of the weight, which is kept from 0, and the normalizer. Assumes nothing.
+-- `mixture_kappa::log_coefficient` meets its contract: the logarithm of the weight, which is kept from 0, and the normalizer. Assumes
+-- nothing.
 use lib.Ieee.{ofBits}
 use borrow.Author.Needs.{needs}
 use Rattle.mixture_kappa.proofs.log_coefficient.Statement.{statement}

@@ -40,7 +40,8 @@ returns c =
     let e = c .before .before .before .before .before .before .expect in
     let x = c .before .before .maximize-model in
     round-done (a .kappa) (a .weights .now) (a .coords .now) (a .m) (a .k) (a .d) (partsIn (a .m) (a .k) (a .d) (a .work .now))
-    (partsIn (a .m) (a .k) (a .d) (b .last .0)) (partsIn (a .m) (a .k) (a .d) (e .last .0)) (partsIn (a .m) (a .k) (a .d) (x .last .0)) (e .result) (b .ensures) (e .ensures .0)
+    (partsIn (a .m) (a .k) (a .d) (b .last .0)) (partsIn (a .m) (a .k) (a .d) (e .last .0)) (partsIn (a .m) (a .k) (a .d) (x .last .0))
+    (e .result) (b .ensures) (e .ensures .0)
     (e .ensures .1) (x .ensures .0) (x .ensures .1)
 
 pub em-round-spec : {M : Type 1} → statement M

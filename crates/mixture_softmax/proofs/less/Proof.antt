@@ -1,5 +1,5 @@
--- `mixture_softmax::less` meets its contract. The loop's invariant: the elements passed, then what is left of the row less g, are the row less g. The measure is what is
--- left of the row. Assumes nothing.
+-- `mixture_softmax::less` meets its contract. The loop's invariant: the elements passed, then what is left of the row less g, are the row
+-- less g. The measure is what is left of the row. Assumes nothing.
 use mathlib.Core.Path.{_≡_, refl, sym, _∙_}
 use mathlib.Core.List.{_++_}
 use Prim.Native.Nat.{_≤_, _-_}

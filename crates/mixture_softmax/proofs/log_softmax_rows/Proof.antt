@@ -1,5 +1,5 @@
--- `mixture_softmax::log_softmax_rows` meets its contract. The loop's invariant: the rows of the first i leaves are their shares, what follows is as it was, and the log-likelihood is
--- that of these leaves. The measure is the leaves left. Assumes nothing.
+-- `mixture_softmax::log_softmax_rows` meets its contract. The loop's invariant: the rows of the first i leaves are their shares, what
+-- follows is as it was, and the log-likelihood is that of these leaves. The measure is the leaves left. Assumes nothing.
 use mathlib.Core.Path.{_≡_, refl, ap, _∙_}
 use mathlib.Core.List.{_++_}
 use Prim.Native.Nat.{ℕ, _+_, _*_, _-_, _≤_}
@@ -26,8 +26,12 @@ abbrev μ-loop : tie.MeasureT-loop
 loop-holds : tie.Need-loop-holds Inv-loop μ-loop
 unfolding ofBits
 loop-holds c =
-    let a = c .before .before .args in
-    (omega arith, refl, weighed-none (logSumAt (a .k) (a .rows .now)) (a .weights .now) plusZero, joined-none (sharesAt (a .k) (a .rows .now)) (a .k) (a .rows .now))
+    let a = c .before .before .args in (
+      omega arith,
+      refl,
+      weighed-none (logSumAt (a .k) (a .rows .now)) (a .weights .now) plusZero,
+      joined-none (sharesAt (a .k) (a .rows .now)) (a .k) (a .rows .now),
+    )
 
 block-end-requires : tie.Need-block-end-requires Inv-loop μ-loop
 block-end-requires c κs =
@@ -37,7 +41,8 @@ block-end-requires c κs =
 -- the block lies within the rows
 ends-in : (c : tie.After-block-end Inv-loop μ-loop) → let l = c .before .before .loop in
     let s = c .before .before .before .before .before in
-    let a = s .args in (l .i * a .k ≤ c .block-end .result * a .k) × (c .block-end .result * a .k ≤ length (l .rows)) × (length (l .rows) ≤ 262144)
+    let a =
+    s .args in (l .i * a .k ≤ c .block-end .result * a .k) × (c .block-end .result * a .k ≤ length (l .rows)) × (length (l .rows) ≤ 262144)
 ends-in c =
     let l = c .before .before .loop in
     let s = c .before .before .before .before .before in
@@ -72,11 +77,17 @@ log-softmax-block-requires c κs =
     let r = c .before .before .block-end in
     let s = c .before .before .before .before .before .before .before in
     let a = s .args in
-    block-of (a .k) (a .rows .now) (a .weights .now) (length (a .weights .now)) (s .pre .rows-long) (l .i) (r .result - l .i) (r .result) (omega (arith, r .ensures .0)) (r .ensures .1) refl (l .rows) (l .inv .1)
+    block-of (a .k) (a .rows .now) (a .weights .now) (length (a .weights .now)) (s .pre .rows-long) (l .i) (r .result - l .i) (r .result)
+    (omega (arith, r .ensures .0)) (r .ensures .1) refl (l .rows) (l .inv .1)
     (r .ensures .2)
 
 loop-less : tie.Need-loop-less Inv-loop μ-loop
-loop-less c = omega (arith, c .before .before .before .before .before .block-end .ensures .0, c .before .before .before .before .before .block-end .ensures .1)
+loop-less c =
+    omega (
+      arith,
+      c .before .before .before .before .before .block-end .ensures .0,
+      c .before .before .before .before .before .block-end .ensures .1,
+    )
 
 -- places, each from a later one
 abbrev start : tie.After-slice-known2 Inv-loop μ-loop → tie.Start Inv-loop μ-loop
@@ -93,8 +104,10 @@ loop-again c =
     let e : r .result ≡ l .i + (r .result - l .i) = omega (arith, r .ensures .0) in (
       r .ensures .1,
       search needs,
-      logs-more (a .k) (a .rows .now) (a .weights .now) m (s .pre .rows-long) (l .i) (r .result - l .i) (r .result) e (r .ensures .1) refl (l .rows) (l .inv .3) plusZero (l .l) (l .inv .2) (x .result) (x .ensures .0),
-      shares-more (a .k) (a .rows .now) (a .weights .now) m (s .pre .rows-long) (l .i) (r .result - l .i) (r .result) e (r .ensures .1) refl (l .rows) (l .inv .3) (x .last .0) (x .ensures .1),
+      logs-more (a .k) (a .rows .now) (a .weights .now) m (s .pre .rows-long) (l .i) (r .result - l .i) (r .result) e (r .ensures .1) refl
+          (l .rows) (l .inv .3) plusZero (l .l) (l .inv .2) (x .result) (x .ensures .0),
+      shares-more (a .k) (a .rows .now) (a .weights .now) m (s .pre .rows-long) (l .i) (r .result - l .i) (r .result) e (r .ensures .1) refl
+          (l .rows) (l .inv .3) (x .last .0) (x .ensures .1),
     )
 
 same-length : tie.Need-same-length Inv-loop μ-loop

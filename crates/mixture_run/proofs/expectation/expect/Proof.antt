@@ -1,5 +1,5 @@
--- `mixture_run::expectation::expect` meets its contract. The loop's invariant: the log densities of the first i leaves stand before what the region held; one call makes
--- their softmax. The measure is the leaves left. Assumes nothing.
+-- `mixture_run::expectation::expect` meets its contract. The loop's invariant: the log densities of the first i leaves stand before what
+-- the region held; one call makes their softmax. The measure is the leaves left. Assumes nothing.
 use mathlib.Core.Path.{_≡_, refl, _∙_}
 use Prim.Native.Nat.{_+_, _-_, _*_, _≤_}
 use native.Mathlib.Omega.{arith}
@@ -12,7 +12,8 @@ use Rattle.mixture_run.proofs.expectation.expect.Statement.{statement}
 use Rattle.mixture_run.proofs.expectation.expect.Tie as tie
 
 abbrev Inv-loop : tie.InvT-loop
-Inv-loop work₀ weights coords m k d i₀ work i = (i ≤ m) × (length work ≡ length work₀) × (partsIn m k d work ≡ rowsDone m k d work₀ coords i)
+Inv-loop work₀ weights coords m k d i₀ work i =
+    (i ≤ m) × (length work ≡ length work₀) × (partsIn m k d work ≡ rowsDone m k d work₀ coords i)
 
 abbrev μ-loop : tie.MeasureT-loop
 μ-loop work₀ weights coords m k d i₀ work i = m - i
@@ -57,7 +58,9 @@ log-softmax-rows-requires c κs =
     let l = r .before .before .loop in
     let s = start-2 r in
     let a = s .args in
-    rows-of (l .work) (a .weights .now) (a .m) (a .k) (a .d) _ (area-of (length (a .work .now)) (length (l .work)) (a .m) (a .k) (a .d) (l .inv .1) (s .pre .0)) (s .pre .1 .weights-long) (r .responsibilities-at .ensures)
+    rows-of (l .work) (a .weights .now) (a .m) (a .k) (a .d) _
+    (area-of (length (a .work .now)) (length (l .work)) (a .m) (a .k) (a .d) (l .inv .1) (s .pre .0)) (s .pre .1 .weights-long)
+    (r .responsibilities-at .ensures)
 
 returns : tie.Need-returns Inv-loop μ-loop
 returns c =

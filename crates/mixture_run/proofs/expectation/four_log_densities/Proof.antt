@@ -1,4 +1,5 @@
--- `mixture_run::expectation::four_log_densities` meets its contract, by what `row_dots` ensures of the leaf's row and four rows of directions. Assumes nothing.
+-- `mixture_run::expectation::four_log_densities` meets its contract, by what `row_dots` ensures of the leaf's row and four rows of
+-- directions. Assumes nothing.
 use mathlib.Core.Path.{_∙_}
 use Prim.Native.Nat.{_+_}
 use native.Mathlib.Omega.{arith}
@@ -22,7 +23,8 @@ returns c =
     let b = start (placed c) in
     let a = b .args in
     c .log-densities-by .ensures
-    ∙ four-done (a .m) (a .k) (a .d) (a .work .now) (a .coords .now) (a .i) (a .c) (f .result) (coefficient .result + a .c) (kappa .result + a .c)
+    ∙ four-done (a .m) (a .k) (a .d) (a .work .now) (a .coords .now) (a .i) (a .c) (f .result) (coefficient .result + a .c)
+    (kappa .result + a .c)
     (omega (arith, coefficient .ensures)) (omega (arith, kappa .ensures)) (b .pre .1 .2) (f .ensures)
 
 pub four-log-densities-spec : {M : Type 1} → statement M

@@ -5,7 +5,12 @@ use Rattle.mixture_run.proofs.expectation.log_densities_by.Tie as tie
 
 returns : tie.Need-returns
 returns c =
-    rw (← c .log-density-by4 .ensures, ← c .before .log-density-by3 .ensures, ← c .before .before .log-density-by2 .ensures, ← c .before .before .before .log-density-by .ensures)
+    rw (
+      ← c .log-density-by4 .ensures,
+      ← c .before .log-density-by3 .ensures,
+      ← c .before .before .log-density-by2 .ensures,
+      ← c .before .before .before .log-density-by .ensures,
+    )
 
 pub log-densities-by-spec : {M : Type 1} → statement M
 log-densities-by-spec =

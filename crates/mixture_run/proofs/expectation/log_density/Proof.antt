@@ -23,8 +23,10 @@ returns c =
     let a = b .args in
     let row = a .c * a .d in
     c .log-density-by .ensures
-    ∙ log-density-done (a .m) (a .k) (a .d) (a .work .now) (a .coords .now) (a .i) (a .c) (o .result) (coefficient .result + a .c) (kappa .result + a .c) row
-    (row + a .d - row) (omega (arith, coefficient .ensures)) (omega (arith, kappa .ensures)) refl (omega arith) (b .pre .1 .2 .below) (o .ensures)
+    ∙ log-density-done (a .m) (a .k) (a .d) (a .work .now) (a .coords .now) (a .i) (a .c) (o .result) (coefficient .result + a .c)
+    (kappa .result + a .c) row
+    (row + a .d - row) (omega (arith, coefficient .ensures)) (omega (arith, kappa .ensures)) refl (omega arith) (b .pre .1 .2 .below)
+    (o .ensures)
 
 pub log-density-spec : {M : Type 1} → statement M
 log-density-spec =

@@ -1,5 +1,5 @@
--- `mixture_run::expectation::put_log_coefficients` meets its contract. The loop's invariant: the log coefficients of the first c groups stand before what was there, and `norm` is
--- the normalizer of `last`. Assumes nothing.
+-- `mixture_run::expectation::put_log_coefficients` meets its contract. The loop's invariant: the log coefficients of the first c groups
+-- stand before what was there, and `norm` is the normalizer of `last`. Assumes nothing.
 use mathlib.Core.Path.{_≡_, refl, ap, ap₂, _∙_}
 use Prim.Native.Nat.{_+_, _-_, _≤_, _<_}
 use native.Mathlib.Omega.{arith}
@@ -34,8 +34,12 @@ start b = b .before .before .before .before .before
 loop-holds : tie.Need-loop-holds Inv-loop μ-loop
 loop-holds c =
     let a = start (placed c) .args in
-    let p = partsIn (a .m) (a .k) (a .d) (a .work .now) in
-    (omega arith, refl, c .log-norm-from .ensures, written-start logCoefficientsR (logCoefficientAt (a .d) (modelOf p)) (a .m) (a .k) (a .d) (a .work .now))
+    let p = partsIn (a .m) (a .k) (a .d) (a .work .now) in (
+      omega arith,
+      refl,
+      c .log-norm-from .ensures,
+      written-start logCoefficientsR (logCoefficientAt (a .d) (modelOf p)) (a .m) (a .k) (a .d) (a .work .now),
+    )
 
 loop-again : tie.Need-loop-again Inv-loop μ-loop
 loop-again c =
@@ -59,7 +63,9 @@ loop-again c =
     let e : c .log-coefficient .result ≡ f (l .c) = c .log-coefficient .ensures ∙ norm ∙ ap₂ (logCoefficient (a .d)) r₁ r₂ in
     let at : coefficient .result + l .c ≡ logCoefficientsAt (a .k) (a .d) + l .c = omega (arith, coefficient .ensures) in
     let long = b .pre .work-long in
-    let more = written-turn logCoefficientsR f (a .m) (a .k) (a .d) old (l .work) (coefficient .result + l .c) (l .c) (c .log-coefficient .result) (omega (arith, at)) h long e o in
+    let more =
+    written-turn logCoefficientsR f (a .m) (a .k) (a .d) old (l .work) (coefficient .result + l .c) (l .c) (c .log-coefficient .result)
+    (omega (arith, at)) h long e o in
     (omega arith, search needs, n .ensures, more)
 
 returns : tie.Need-returns Inv-loop μ-loop

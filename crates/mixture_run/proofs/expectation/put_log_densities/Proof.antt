@@ -1,5 +1,5 @@
--- `mixture_run::expectation::put_log_densities` meets its contract. The loops' invariant: the first c log densities of leaf i stand at the front of its row of the responsibilities; of the
--- second loop, where the first ones stood there when it began. Assumes nothing.
+-- `mixture_run::expectation::put_log_densities` meets its contract. The loops' invariant: the first c log densities of leaf i stand at the
+-- front of its row of the responsibilities; of the second loop, where the first ones stood there when it began. Assumes nothing.
 use mathlib.Core.Path.{_≡_, refl, ap, _∙_}
 use Prim.Native.Nat.{ℕ, _+_, _*_, _≤_, _-_}
 use native.Mathlib.Nat.{mul-le-mul-right}
@@ -51,7 +51,15 @@ put-four-requires c κs =
     let l = c .before .before .before .before .loop in
     let r = c .before .before .before .before .before in
     let b = start r in
-    omega (arith, r .responsibilities-at .ensures, c .before .before .before .loop-test .taken, l .inv .0, l .inv .1, b .pre .1 .1 .shares, b .pre .0 .work-long)
+    omega (
+      arith,
+      r .responsibilities-at .ensures,
+      c .before .before .before .loop-test .taken,
+      l .inv .0,
+      l .inv .1,
+      b .pre .1 .1 .shares,
+      b .pre .0 .work-long,
+    )
 
 loop-again : tie.Need-loop-again Inv-loop μ-loop Inv-loop2 μ-loop2
 loop-again c =
@@ -94,7 +102,8 @@ loop2-again c =
       search needs,
       λ w₀ e f. row-turn (a .m) (a .k) (a .d) w₀ (a .coords .now) (a .i) (b .pre .1 .1 .shares)
           (omega (arith, b .pre .0 .work-long, u .inv .1, e)) (l .work) (r .responsibilities-at .result + a .i * a .k + l .c) (l .c)
-          (c .log-density .result) (omega (arith, r .responsibilities-at .ensures)) (omega arith) (c .log-density .ensures) (l .inv .2 w₀ e f),
+          (c .log-density .result) (omega (arith, r .responsibilities-at .ensures)) (omega arith) (c .log-density .ensures)
+          (l .inv .2 w₀ e f),
     )
 
 returns : tie.Need-returns Inv-loop μ-loop Inv-loop2 μ-loop2
@@ -103,7 +112,8 @@ returns c =
     let u = c .before .before .before .loop in
     let a = start (placed (c .before .before)) .args in
     let e : l .c ≡ a .k = omega arith in
-    l .inv .2 (a .work .now) (u .inv .1) (u .inv .2) ∙ ap (λ (n : ℕ). rowDone (a .m) (a .k) (a .d) (a .work .now) (a .coords .now) (a .i) n) e
+    l .inv .2 (a .work .now) (u .inv .1) (u .inv .2)
+    ∙ ap (λ (n : ℕ). rowDone (a .m) (a .k) (a .d) (a .work .now) (a .coords .now) (a .i) n) e
 
 pub put-log-densities-spec : {M : Type 1} → statement M
 put-log-densities-spec =

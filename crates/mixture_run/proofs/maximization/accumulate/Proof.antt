@@ -1,5 +1,5 @@
--- `mixture_run::maximization::accumulate` meets its contract. The sums and the whole weights are cleared; the loop's invariant: the parts are those where the loop begins, with what the
--- first i leaves gave. The measure is the leaves left. Assumes nothing.
+-- `mixture_run::maximization::accumulate` meets its contract. The sums and the whole weights are cleared; the loop's invariant: the parts
+-- are those where the loop begins, with what the first i leaves gave. The measure is the leaves left. Assumes nothing.
 use mathlib.Core.Path.{_≡_, refl, _∙_}
 use mathlib.Core.List.{List}
 use Prim.Native.Nat.{_≤_, _-_}
@@ -36,7 +36,8 @@ same-at f = f .fill-at2 .kept .0 ∙ f .before .before .before .before .before .
 
 -- there the sums and the whole weights are cleared
 cleared-at : (f : tie.After-fill-at2 Inv-loop μ-loop) → let a = start f .args in
-    partsIn (a .m) (a .k) (a .d) (begun f) ≡ leavesDone (a .weights .now) (a .coords .now) (a .k) (a .d) (partsIn (a .m) (a .k) (a .d) (a .work .now)) 0
+    partsIn (a .m) (a .k) (a .d) (begun f)
+    ≡ leavesDone (a .weights .now) (a .coords .now) (a .k) (a .d) (partsIn (a .m) (a .k) (a .d) (a .work .now)) 0
 unfolding ofBits
 cleared-at f =
     let t = f .before .totals-at in
@@ -72,7 +73,8 @@ loop-again c =
     let p = partsIn (a .m) (a .k) (a .d) in (
       omega (arith, c .before .before .before .before .loop-test .taken),
       g .accumulate-leaf .kept .0 ∙ l .inv .1,
-      leaves-turn (a .weights .now) (a .coords .now) (a .k) (a .d) (p (begun f)) (p (l .work)) (p (g .accumulate-leaf .last .0)) (l .i) (l .inv .2) (g .accumulate-leaf .ensures),
+      leaves-turn (a .weights .now) (a .coords .now) (a .k) (a .d) (p (begun f)) (p (l .work)) (p (g .accumulate-leaf .last .0)) (l .i)
+          (l .inv .2) (g .accumulate-leaf .ensures),
     )
 
 same-length : tie.Need-same-length Inv-loop μ-loop
@@ -84,7 +86,8 @@ returns c =
     let f = c .before .before .before .before in
     let a = start f .args in
     let p = partsIn (a .m) (a .k) (a .d) in
-    leaves-end (a .weights .now) (a .coords .now) (a .k) (a .d) (p (a .work .now)) (p (begun f)) (cleared-at f) (p (l .work)) (l .i) (a .m) (omega (arith, c .loop-test .left)) (l .inv .2)
+    leaves-end (a .weights .now) (a .coords .now) (a .k) (a .d) (p (a .work .now)) (p (begun f)) (cleared-at f) (p (l .work)) (l .i) (a .m)
+    (omega (arith, c .loop-test .left)) (l .inv .2)
 
 pub accumulate-spec : {M : Type 1} → statement M
 accumulate-spec =

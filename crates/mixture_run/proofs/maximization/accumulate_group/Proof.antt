@@ -1,5 +1,5 @@
--- `mixture_run::maximization::accumulate_group` meets its contract: the law of one store among the whole weights and of one row among the sums, by what add_row ensures.
--- Assumes nothing.
+-- `mixture_run::maximization::accumulate_group` meets its contract: the law of one store among the whole weights and of one row among the
+-- sums, by what add_row ensures. Assumes nothing.
 use Prim.Native.Nat.{_+_, _*_}
 use native.Mathlib.Omega.{arith}
 use lib.ListN.{length-set}
@@ -29,7 +29,8 @@ same-length c =
     let total = r .before .totals-at in
     let share = r .responsibilities-at in
     group-length (a .m) (a .k) (a .d) (a .work .now) (a .coords .now) (a .weight) (a .i) (a .c) (s .pre .0) (s .pre .1 .1) (s .pre .1 .2)
-    (total .result + a .c) (share .result + a .i * a .k + a .c) (omega (arith, total .ensures)) (omega (arith, share .ensures)) (g .add-row .last .0) (g .add-row .kept .0)
+    (total .result + a .c) (share .result + a .i * a .k + a .c) (omega (arith, total .ensures)) (omega (arith, share .ensures))
+    (g .add-row .last .0) (g .add-row .kept .0)
 
 returns : tie.Need-returns
 returns c =
@@ -40,7 +41,8 @@ returns c =
     let total = r .before .totals-at in
     let share = r .responsibilities-at in
     group-done (a .m) (a .k) (a .d) (a .work .now) (a .coords .now) (a .weight) (a .i) (a .c) (s .pre .0) (s .pre .1 .1) (s .pre .1 .2)
-    (total .result + a .c) (share .result + a .i * a .k + a .c) (omega (arith, total .ensures)) (omega (arith, share .ensures)) (g .add-row .last .0) (g .add-row .ensures)
+    (total .result + a .c) (share .result + a .i * a .k + a .c) (omega (arith, total .ensures)) (omega (arith, share .ensures))
+    (g .add-row .last .0) (g .add-row .ensures)
 
 pub accumulate-group-spec : {M : Type 1} → statement M
 accumulate-group-spec =

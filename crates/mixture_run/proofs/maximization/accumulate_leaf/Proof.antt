@@ -1,5 +1,5 @@
--- `mixture_run::maximization::accumulate_leaf` meets its contract. The loop's invariant: the parts are those of the start, where the first c groups have gained the leaf. The measure is
--- the groups left. Assumes nothing.
+-- `mixture_run::maximization::accumulate_leaf` meets its contract. The loop's invariant: the parts are those of the start, where the first
+-- c groups have gained the leaf. The measure is the groups left. Assumes nothing.
 use mathlib.Core.Path.{_≡_, refl, ap, _∙_}
 use Prim.Native.Nat.{ℕ, _≤_, _-_}
 use native.Mathlib.Omega.{arith}
@@ -23,8 +23,12 @@ abbrev μ-loop : tie.MeasureT-loop
 loop-holds : tie.Need-loop-holds Inv-loop μ-loop
 loop-holds c =
     let a = c .before .before .before .before .args in
-    let p = partsIn (a .m) (a .k) (a .d) in
-    (omega arith, refl, leaf-start (a .k) (a .d) (a .i) (getD (a .weights .now) (a .i) nan) (rowOf (a .coords .now) (a .d) (a .i)) (p (a .work .now)))
+    let p = partsIn (a .m) (a .k) (a .d) in (
+      omega arith,
+      refl,
+      leaf-start (a .k) (a .d) (a .i) (getD (a .weights .now) (a .i) nan) (rowOf (a .coords .now) (a .d) (a .i))
+          (p (a .work .now)),
+    )
 
 accumulate-group-requires : tie.Need-accumulate-group-requires Inv-loop μ-loop
 accumulate-group-requires c κs =
@@ -47,7 +51,8 @@ loop-again c =
     let p = partsIn (a .m) (a .k) (a .d) in (
       omega (arith, c .before .before .before .before .loop-test .taken),
       g .accumulate-group .kept .0 ∙ l .inv .1,
-      leaf-turn (a .k) (a .d) (a .i) (getD (a .weights .now) (a .i) nan) (rowOf (a .coords .now) (a .d) (a .i)) (p (a .work .now)) (p (l .work))
+      leaf-turn (a .k) (a .d) (a .i) (getD (a .weights .now) (a .i) nan) (rowOf (a .coords .now) (a .d) (a .i)) (p (a .work .now))
+          (p (l .work))
           (p (g .accumulate-group .last .0)) (l .c) (l .inv .2) (g .accumulate-group .ensures),
     )
 
@@ -57,7 +62,8 @@ returns c =
     let a = c .before .before .before .before .before .before .args in
     let p = partsIn (a .m) (a .k) (a .d) (a .work .now) in
     let e : l .c ≡ a .k = omega (arith, c .loop-test .left) in
-    l .inv .2 ∙ ap (λ (n : ℕ). leafDone (a .k) (a .d) (a .i) (getD (a .weights .now) (a .i) nan) (rowOf (a .coords .now) (a .d) (a .i)) p n) e
+    l .inv .2 ∙ ap (λ (n : ℕ). leafDone (a .k) (a .d) (a .i) (getD (a .weights .now) (a .i) nan) (rowOf (a .coords .now) (a .d) (a .i)) p n)
+    e
 
 pub accumulate-leaf-spec : {M : Type 1} → statement M
 accumulate-leaf-spec =

@@ -1,4 +1,5 @@
--- `mixture_run::maximization::maximize_model` meets its contract, by what its six calls ensure: a law over the parts between them. Assumes nothing.
+-- `mixture_run::maximization::maximize_model` meets its contract, by what its six calls ensure: a law over the parts between them. Assumes
+-- nothing.
 use mathlib.Core.Path.{_≡_, refl, ap, _∙_}
 use native.Mathlib.Omega.{arith}
 use Rattle.float.specs.Arithmetic.{minusZero, sumFrom}
@@ -36,7 +37,8 @@ redirect-requires c κs =
     let p = partsIn (a .m) (a .k) (a .d) (a .work .now) in
     let found = statisticsUpTo (a .weights .now) (a .coords .now) (p .resp) (a .k) (a .d) (a .m) in (
       area-of _ _ (a .m) (a .k) (a .d) (w .put-weights .kept .0 ∙ n .put-norms .kept .0 ∙ g .accumulate .kept .0) (s .pre .0),
-      norms-stay (a .kappa) (a .k) (a .d) p _ _ _ found (u .sum .result) (g .accumulate .ensures) (n .put-norms .ensures) (w .put-weights .ensures),
+      norms-stay (a .kappa) (a .k) (a .d) p _ _ _ found (u .sum .result) (g .accumulate .ensures) (n .put-norms .ensures)
+          (w .put-weights .ensures),
     )
 
 returns : tie.Need-returns
@@ -53,7 +55,8 @@ returns c =
     let found = statisticsUpTo (a .weights .now) (a .coords .now) (p .resp) (a .k) (a .d) (a .m) in
     let place : totals .result ≡ totalsAt (a .k) (a .d) = totals .ensures in
     let cut = region-cut totalsR (a .m) (a .k) (a .d) (n .put-norms .last .0) (totals .result) (a .k) (omega (arith, place)) refl in
-    maximized (a .kappa) (a .k) (a .d) p _ _ _ found (u .sum .result) (g .accumulate .ensures) (n .put-norms .ensures) (w .put-weights .ensures) _ _
+    maximized (a .kappa) (a .k) (a .d) p _ _ _ found (u .sum .result) (g .accumulate .ensures) (n .put-norms .ensures)
+    (w .put-weights .ensures) _ _
     (u .sum .ensures ∙ ap (sumFrom minusZero) cut) (r .redirect .ensures) (t .concentrate .ensures)
 
 pub maximize-model-spec : {M : Type 1} → statement M
