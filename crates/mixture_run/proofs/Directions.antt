@@ -21,19 +21,8 @@ use Rattle.kmeans_sums.proofs.Sums.{norms-length}
 use Rattle.rows.proofs.Rows.{put-same}
 use Rattle.mixture_run.specs.Mixture.{directionsUpTo}
 use Rattle.mixture_run.specs.Areas.{Parts, partsIn, normsAt, withDirections, withNorms, total}
-use Rattle.mixture_run.proofs.Regions.{
-  directionsR,
-  sumsR,
-  normsR,
-  frontIn,
-  get-in,
-  part-in,
-  put-in,
-  length-in,
-  front-in-start,
-  front-in-turn,
-  front-in-end,
-}
+use Rattle.mixture_run.proofs.Regions.{directionsR, sumsR, normsR, frontIn, get-in, part-in, put-in, length-in, front-in-start}
+use Rattle.mixture_run.proofs.Regions.{front-in-turn, front-in-end}
 
 -- ---- the norms of the rows
 module _ (rows : List Float) (d : ℕ) where

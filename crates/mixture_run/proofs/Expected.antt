@@ -19,33 +19,27 @@ use Rattle.mixture_softmax.proofs.Softmax.{shares-length}
 use Rattle.mixture_softmax.proofs.Joined.{joined-length, joined-row, joined-none, joined-turn, joined-same, weighed-same}
 use Rattle.rows.proofs.Fills.{front-end}
 use Rattle.mixture_kappa.specs.Kappas.{tabulate}
-use Rattle.mixture_run.specs.Mixture.{Model, logDensityAt, logDensities, softmax, expectUpTo}
-use Rattle.mixture_run.specs.Areas.{
-  Parts,
-  partsIn,
-  kappasAt,
-  logCoefficientsAt,
-  responsibilitiesAt,
-  total,
-  modelOf,
-  withResp,
-  logDensitiesBy,
-  fourLogDensities,
-}
-use Rattle.mixture_run.proofs.Regions.{
-  directionsR,
-  kappasR,
-  logCoefficientsR,
-  respR,
-  set-in,
-  get-in,
-  part-in,
-  whole-in,
-  put-whole-in,
-  length-in,
-  tabulate-length,
-  tabulate-turn,
-}
+use Rattle.mixture_run.specs.Mixture.{Model, Expected, logDensityAt, logDensities, softmax, expectUpTo}
+use Rattle.mixture_run.specs.Areas.{Parts, partsIn, kappasAt, logCoefficientsAt, responsibilitiesAt, total, modelOf, withResp}
+use Rattle.mixture_run.specs.Areas.{logDensitiesBy, fourLogDensities}
+use Rattle.mixture_run.proofs.Regions.{directionsR, kappasR, logCoefficientsR, respR, set-in, get-in, part-in, whole-in}
+use Rattle.mixture_run.proofs.Regions.{put-whole-in, length-in, tabulate-length, tabulate-turn}
+
+-- ---- what the parts of an area give
+
+-- the log densities of leaf x: in group c, in four groups from c on, in all k
+abbrev densityIn : (d : ℕ) → Parts → (x : List Float) (c : ℕ) → Float
+densityIn d p = logDensityAt d (p .logCoefficients) (modelOf p)
+
+abbrev fourIn : (d : ℕ) → Parts → (x : List Float) (c : ℕ) → Four
+fourIn d p = fourLogDensities d (p .logCoefficients) (modelOf p)
+
+abbrev densitiesIn : (k d : ℕ) → Parts → (x : List Float) → List Float
+densitiesIn k d p = logDensities k d (p .logCoefficients) (modelOf p)
+
+-- the responsibilities and the log-likelihood of m leaves
+abbrev expectedIn : (weights coords : List Float) (m k d : ℕ) → Parts → Expected
+expectedIn weights coords m k d p = expectUpTo weights coords k d (p .logCoefficients) (modelOf p) m
 
 -- ---- the log densities of a leaf
 
@@ -54,7 +48,7 @@ pub log-density-done : (m k d : ℕ) (w coords : List Float) (i c : ℕ) (v : Fl
     → coefficient ≡ logCoefficientsAt k d + c → kappa ≡ kappasAt k d + c
     → at ≡ c * d → n ≡ d → c < k → v ≡ dotOf (part coords (i * d) (i * d + d - i * d)) (part w at n)
     → add binary64 (getD w coefficient nan) (mul binary64 (getD w kappa nan) v)
-    ≡ logDensityAt d (partsIn m k d w .logCoefficients) (modelOf (partsIn m k d w)) (rowOf coords d i) c
+    ≡ densityIn d (partsIn m k d w) (rowOf coords d i) c
 log-density-done m k d w coords i c v coefficient kappa at n b q a f h e =
     let coefficient-in = get-in logCoefficientsR m k d w coefficient c nan (omega arith) h in
     let kappa-in = get-in kappasR m k d w kappa c nan (omega arith) h in
@@ -62,11 +56,11 @@ log-density-done m k d w coords i c v coefficient kappa at n b q a f h e =
     rw (coefficient-in, kappa-in, e, part-cut coords (i * d) d, f, row)
 
 -- four of them
-pub four-done : (m k d : ℕ) (w coords : List Float) (i c : ℕ) (f : Four) (coefficient kappa : ℕ) → coefficient ≡ logCoefficientsAt k d + c
-    → kappa ≡ kappasAt k d + c
-    → c + 4 ≤ k → f ≡ rowDots (part coords (i * d) (i * d + d - i * d)) w d c
+pub four-done : (m k d : ℕ) (w coords : List Float) (i c : ℕ) (f : Four) (coefficient kappa : ℕ)
+    → coefficient ≡ logCoefficientsAt k d + c → kappa ≡ kappasAt k d + c → c + 4 ≤ k
+    → f ≡ rowDots (part coords (i * d) (i * d + d - i * d)) w d c
     → _≡_ {A = Four} (logDensitiesBy w coefficient kappa f)
-    (fourLogDensities d (partsIn m k d w .logCoefficients) (modelOf (partsIn m k d w)) (rowOf coords d i) c)
+    (fourIn d (partsIn m k d w) (rowOf coords d i) c)
 four-done m k d w coords i c f coefficient kappa b q h is =
     let one = log-density-done m k d w coords i in
     let at-a = one c (f .a) coefficient kappa (c * d) d b q refl refl (omega arith) (ap (λ (g : Four). g .a) is) in
@@ -85,8 +79,8 @@ module _ (m k d : ℕ) (w₀ coords : List Float) (i : ℕ) where
   -- the first n, where the responsibilities will stand
   abbrev pub rowDone : ℕ → Parts
   rowDone n =
-      withResp (putPart (partsIn m k d w₀ .resp) (i * k) n
-      (tabulate (logDensityAt d (partsIn m k d w₀ .logCoefficients) (modelOf (partsIn m k d w₀)) (rowOf coords d i)) n)) (partsIn m k d w₀)
+      let p₀ = partsIn m k d w₀ in
+      withResp (putPart (p₀ .resp) (i * k) n (tabulate (densityIn d p₀ (rowOf coords d i)) n)) p₀
 
   pub row-start : partsIn m k d w₀ ≡ rowDone 0
   unfolding tabulate
@@ -95,11 +89,11 @@ module _ (m k d : ℕ) (w₀ coords : List Float) (i : ℕ) where
   module _ (r : i * k + k ≤ m * k) (g : total m k d ≤ length w₀) where
     -- one stored
     row-store : (w : List Float) (at c n : ℕ) (v : Float) → at ≡ responsibilitiesAt k d + i * k + c → n ≡ c + 1 → c < k
-        → v ≡ logDensityAt d (partsIn m k d w₀ .logCoefficients) (modelOf (partsIn m k d w₀)) (rowOf coords d i) c
+        → v ≡ densityIn d (partsIn m k d w₀) (rowOf coords d i) c
         → partsIn m k d w ≡ rowDone c → partsIn m k d (set w at v) ≡ rowDone n
     row-store w at c n v a s h e f =
         let p₀ = partsIn m k d w₀ in
-        let density = logDensityAt d (p₀ .logCoefficients) (modelOf p₀) (rowOf coords d i) in
+        let density = densityIn d p₀ (rowOf coords d i) in
         let inside : i * k + c < length (p₀ .resp) = omega (arith, length-in respR m k d w₀ g) in
         rw s
         (set-in respR m k d w at (i * k + c) v (omega arith) (omega arith)
@@ -109,20 +103,20 @@ module _ (m k d : ℕ) (w₀ coords : List Float) (i : ℕ) where
         ∙ ap (λ (l : List Float). withResp (putPart (p₀ .resp) (i * k) (c + 1) l) p₀) (tabulate-turn density c v e))
 
     pub row-turn : (w : List Float) (at c : ℕ) (v : Float) → at ≡ responsibilitiesAt k d + i * k + c → c < k
-        → v ≡ logDensityAt d (partsIn m k d w .logCoefficients) (modelOf (partsIn m k d w)) (rowOf coords d i) c
+        → v ≡ densityIn d (partsIn m k d w) (rowOf coords d i) c
         → partsIn m k d w ≡ rowDone c → partsIn m k d (set w at v) ≡ rowDone (c + 1)
     row-turn w at c v a h e f =
         row-store w at c (c + 1) v a refl h
-        (e ∙ ap (λ (p : Parts). logDensityAt d (p .logCoefficients) (modelOf p) (rowOf coords d i) c) f) f
+        (e ∙ ap (λ (p : Parts). densityIn d p (rowOf coords d i) c) f) f
 
     -- four stored
     pub row-four : (w w' : List Float) (at c : ℕ) (v : Four) → at ≡ responsibilitiesAt k d + i * k + c → c + 4 ≤ k
-        → v ≡ fourLogDensities d (partsIn m k d w .logCoefficients) (modelOf (partsIn m k d w)) (rowOf coords d i) c
+        → v ≡ fourIn d (partsIn m k d w) (rowOf coords d i) c
         → w' ≡ set (set (set (set w at (v .a)) (at + 1) (v .b)) (at + 2) (v .c)) (at + 3) (v .e) → partsIn m k d w ≡ rowDone c
         → partsIn m k d w' ≡ rowDone (c + 4)
     row-four w w' at c v a h e s f =
-        let is : v ≡ fourLogDensities d (partsIn m k d w₀ .logCoefficients) (modelOf (partsIn m k d w₀)) (rowOf coords d i) c =
-        e ∙ ap (λ (p : Parts). fourLogDensities d (p .logCoefficients) (modelOf p) (rowOf coords d i) c) f in
+        let is : v ≡ fourIn d (partsIn m k d w₀) (rowOf coords d i) c =
+        e ∙ ap (λ (p : Parts). fourIn d p (rowOf coords d i) c) f in
         let w₁ = set w at (v .a) in
         let w₂ = set w₁ (at + 1) (v .b) in
         let w₃ = set w₂ (at + 2) (v .c) in
@@ -197,21 +191,18 @@ module _ (m k d : ℕ) (w₀ coords : List Float) where
 
   pub rows-turn : (w w' : List Float) (i : ℕ) → partsIn m k d w ≡ rowsDone i
       → partsIn m k d w'
-      ≡ withResp (putPart (partsIn m k d w .resp) (i * k) k
-      (logDensities k d (partsIn m k d w .logCoefficients) (modelOf (partsIn m k d w)) (rowOf coords d i))) (partsIn m k d w)
+      ≡ withResp (putPart (partsIn m k d w .resp) (i * k) k (densitiesIn k d (partsIn m k d w) (rowOf coords d i))) (partsIn m k d w)
       → partsIn m k d w' ≡ rowsDone (i + 1)
   rows-turn w w' i f h =
       let p₀ = partsIn m k d w₀ in
-      h ∙ ap (λ (p : Parts). withResp (putPart (p .resp) (i * k) k (logDensities k d (p .logCoefficients) (modelOf p) (rowOf coords d i)))
-      p) f
+      h ∙ ap (λ (p : Parts). withResp (putPart (p .resp) (i * k) k (densitiesIn k d p (rowOf coords d i))) p) f
       ∙ ap (λ (l : List Float). withResp l p₀)
       (joined-turn densities k i k (p₀ .resp) _ (densities i) (λ j g. densities-length coords k d (p₀ .logCoefficients) (modelOf p₀) j)
       refl refl refl)
 
   -- all of them, and their softmax in their places
   module _ (weights w : List Float) (i at n : ℕ) (long : length weights ≡ m) (room : total m k d ≤ length w₀) (same : length w ≡ length w₀)
-      (all : i ≡ m)
-      (f : partsIn m k d w ≡ rowsDone i) (start : at ≡ responsibilitiesAt k d) (size : n ≡ m * k) where
+      (all : i ≡ m) (f : partsIn m k d w ≡ rowsDone i) (start : at ≡ responsibilitiesAt k d) (size : n ≡ m * k) where
     rows-all : partsIn m k d w ≡ withResp (joined densities m) (partsIn m k d w₀)
     rows-all =
         let p₀ = partsIn m k d w₀ in
@@ -222,7 +213,7 @@ module _ (m k d : ℕ) (w₀ coords : List Float) where
     rows-are = whole-in respR m k d w at n (omega arith) (omega arith) ∙ ap (λ (p : Parts). p .resp) rows-all
 
     pub loglik-done : (l : Float) → l ≡ logsUpTo k (part w at n) weights plusZero (length weights)
-        → l ≡ expectUpTo weights coords k d (partsIn m k d w₀ .logCoefficients) (modelOf (partsIn m k d w₀)) m .loglik
+        → l ≡ expectedIn weights coords m k d (partsIn m k d w₀) .loglik
     loglik-done l e =
         let read : logsUpTo k (part w at n) weights plusZero (length weights) ≡ logsUpTo k (joined densities m) weights plusZero m =
         rw (rows-are, long) in
@@ -230,12 +221,11 @@ module _ (m k d : ℕ) (w₀ coords : List Float) where
 
     pub resp-done : (v : List Float) → v ≡ sharesUpTo k (part w at n) (length weights)
         → partsIn m k d (putPart w at n v)
-        ≡ withResp (expectUpTo weights coords k d (partsIn m k d w₀ .logCoefficients) (modelOf (partsIn m k d w₀)) m .resp)
-        (partsIn m k d w₀)
+        ≡ withResp (expectedIn weights coords m k d (partsIn m k d w₀) .resp) (partsIn m k d w₀)
     resp-done v e =
         let p₀ = partsIn m k d w₀ in
         let read : sharesUpTo k (part w at n) (length weights) ≡ sharesUpTo k (joined densities m) m = rw (rows-are, long) in
-        let is : v ≡ expectUpTo weights coords k d (p₀ .logCoefficients) (modelOf p₀) m .resp =
+        let is : v ≡ expectedIn weights coords m k d p₀ .resp =
         e ∙ read ∙ shares-are coords k d (p₀ .logCoefficients) (modelOf p₀) weights m in
         let full : length v ≡ n = ap length is ∙ resp-length coords k d (p₀ .logCoefficients) (modelOf p₀) weights m ∙ sym size in
         put-whole-in respR m k d w at n v (omega arith) (omega arith) full (omega arith) ∙ ap (withResp v) rows-all

@@ -11,21 +11,8 @@ use Rattle.rows.specs.Rows.{part, putPart, cut, startOf}
 use Rattle.rows.proofs.Rows.{cut-set, cut-put, cut-whole, cut-length, cut-put-whole, cut-get, cut-part}
 use Rattle.rows.proofs.Fills.{front-turn, front-end}
 use Rattle.mixture_kappa.specs.Kappas.{tabulate}
-use Rattle.mixture_run.specs.Areas.{
-  Parts,
-  lengths,
-  total,
-  named,
-  partsIn,
-  withDirections,
-  withSums,
-  withWeights,
-  withKappas,
-  withLogCoefficients,
-  withTotals,
-  withNorms,
-  withResp,
-}
+use Rattle.mixture_run.specs.Areas.{Parts, lengths, total, named, partsIn, withDirections, withSums, withWeights, withKappas}
+use Rattle.mixture_run.specs.Areas.{withLogCoefficients, withTotals, withNorms, withResp}
 
 -- ---- a region: its number, and how its part is read and replaced
 pub record Region : Type 0 where

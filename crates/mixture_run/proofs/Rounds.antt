@@ -2,38 +2,16 @@
 -- are, end as all of them do from the start. Over plain lists and parts. Assumes nothing.
 use mathlib.Core.Path.{_≡_, ap, sym, _∙_}
 use mathlib.Core.List.{List}
-use mathlib.Core.Bool.{true, false}
+use mathlib.Core.Bool.{Bool, true, false}
 use Prim.Native.Nat.{ℕ, suc, _+_}
 use lib.Ieee.{Float}
 use Rattle.float.specs.Arithmetic.{minusZero, sumFrom}
 use Rattle.kmeans_sums.specs.Sums.{normsUpTo}
 use Rattle.mixture_kappa.specs.Kappas.{tabulate, kappasOf}
-use Rattle.mixture_run.specs.Mixture.{
-  Statistics,
-  Em,
-  weightAt,
-  directionsUpTo,
-  maximize,
-  maximizeBy,
-  logCoefficients,
-  expectUpTo,
-  statisticsUpTo,
-  emRound,
-  stopsAt,
-  emFrom,
-}
-use Rattle.mixture_run.specs.Areas.{
-  Parts,
-  modelOf,
-  emOf,
-  withStatistics,
-  withNorms,
-  withWeights,
-  withDirections,
-  withKappas,
-  withLogCoefficients,
-  withResp,
-}
+use Rattle.mixture_run.specs.Mixture.{Statistics, Em, weightAt, directionsUpTo, maximize, maximizeBy, logCoefficients, expectUpTo}
+use Rattle.mixture_run.specs.Mixture.{statisticsUpTo, emRound, stopsAt, emFrom}
+use Rattle.mixture_run.specs.Areas.{Parts, modelOf, emOf, withStatistics, withNorms, withWeights, withDirections, withKappas}
+use Rattle.mixture_run.specs.Areas.{withLogCoefficients, withResp}
 use Rattle.mixture_kappa.specs.declared.Kappa.{Kappa}
 
 -- ---- the M-step
@@ -69,24 +47,25 @@ round-done kappa weights coords m k d p₀ p₁ p₂ p₃ r placed likely expect
 
 -- ---- the rounds
 module _ (kappa : Kappa) (weights coords : List Float) (m k d : ℕ) where
+  -- whether a round is the last, said of what it leaves
+  stops-same : (it : ℕ) (s s' : Em) (b : Bool) → s' ≡ emRound kappa weights coords m k d (s .model)
+      → stopsAt it (s .loglik) (s' .loglik) ≡ b → stopsAt it (s .loglik) (emRound kappa weights coords m k d (s .model) .loglik) ≡ b
+  stops-same it s s' b r f = ap (λ (x : Em). stopsAt it (s .loglik) (x .loglik)) (sym r) ∙ f
+
   -- one more, which is the last or is not
   pub em-turn : (n n' it : ℕ) (s s' : Em) → n ≡ suc n' → s' ≡ emRound kappa weights coords m k d (s .model)
       → stopsAt it (s .loglik) (s' .loglik) ≡ false
       → emFrom kappa weights coords m k d n' (it + 1) s' ≡ emFrom kappa weights coords m k d n it s
   unfolding emFrom
   em-turn n n' it s s' e r f =
-      let g : stopsAt it (s .loglik) (emRound kappa weights coords m k d (s .model) .loglik) ≡ false =
-      ap (λ (x : Em). stopsAt it (s .loglik) (x .loglik)) (sym r) ∙ f in
-      rw (e, g) (ap (emFrom kappa weights coords m k d n' (it + 1)) r)
+      rw (e, stops-same it s s' false r f) (ap (emFrom kappa weights coords m k d n' (it + 1)) r)
 
   pub em-stop : (n n' it : ℕ) (s s' : Em) → n ≡ suc n' → s' ≡ emRound kappa weights coords m k d (s .model)
       → stopsAt it (s .loglik) (s' .loglik) ≡ true
       → s' ≡ emFrom kappa weights coords m k d n it s
   unfolding emFrom
   em-stop n n' it s s' e r f =
-      let g : stopsAt it (s .loglik) (emRound kappa weights coords m k d (s .model) .loglik) ≡ true =
-      ap (λ (x : Em). stopsAt it (s .loglik) (x .loglik)) (sym r) ∙ f in
-      rw (e, g) r
+      rw (e, stops-same it s s' true r f) r
 
   pub em-end : (n it : ℕ) (s : Em) → n ≡ 0 → s ≡ emFrom kappa weights coords m k d n it s
   unfolding emFrom

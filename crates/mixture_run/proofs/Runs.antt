@@ -18,19 +18,8 @@ use Rattle.kmeans_layout.proofs.Regions.{centers-are, labels-are}
 use Rattle.mixture_kappa.specs.Kappas.{kappasOf}
 use Rattle.mixture_run.specs.Mixture.{evenWeight, emFrom}
 use Rattle.mixture_run.specs.Fits.{labelTotalsUpTo, startKappasBy, startFrom, warmOf, onceOf}
-use Rattle.mixture_run.specs.Areas.{
-  Parts,
-  partsIn,
-  emOf,
-  withTotals,
-  withNorms,
-  withKappas,
-  withResp,
-  withWeights,
-  Labels,
-  Runnable,
-  RunDone,
-}
+use Rattle.mixture_run.specs.Areas.{Parts, partsIn, emOf, withTotals, withNorms, withKappas, withResp, withWeights, Labels, Runnable}
+use Rattle.mixture_run.specs.Areas.{RunDone}
 use Rattle.mixture_kappa.specs.declared.Kappa.{Kappa}
 use Rattle.mixture_kappa.specs.declared.Settings.{Settings}
 use Rattle.mixture_run.proofs.Regions.{directionsR, sumsR, whole-in}

@@ -14,20 +14,8 @@ use Rattle.vector.specs.Vectors.{addScaled}
 use Rattle.rows.proofs.Rows.{length-part}
 use Rattle.vector.proofs.Vectors.{add-scaled-length}
 use Rattle.mixture_run.specs.Mixture.{accumulateGroup, accumulateLeaf, statisticsUpTo}
-use Rattle.mixture_run.specs.Areas.{
-  Parts,
-  partsIn,
-  totalsAt,
-  responsibilitiesAt,
-  statisticsOf,
-  withSums,
-  withTotals,
-  withStatistics,
-  Area,
-  LeafOf,
-  GroupOf,
-  total,
-}
+use Rattle.mixture_run.specs.Areas.{Parts, partsIn, totalsAt, responsibilitiesAt, statisticsOf, withSums, withTotals, withStatistics}
+use Rattle.mixture_run.specs.Areas.{Area, LeafOf, GroupOf, total}
 use Rattle.mixture_run.proofs.Regions.{sumsR, totalsR, respR, set-in, get-in, part-in, put-in, length-in}
 use Rattle.mixture_run.proofs.Groups.{fill-in}
 

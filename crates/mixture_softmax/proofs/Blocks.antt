@@ -13,29 +13,11 @@ use Rattle.rows.specs.Rows.{part, putPart, rowOf, Alike}
 use Rattle.rows.proofs.Rows.{row-within, length-part, part-take}
 use Rattle.mixture_softmax.specs.Softmax.{sharesOf, logSumExp}
 use Rattle.mixture_softmax.specs.Leaves.{joined, weighed, logSumAt, sharesAt, sharesUpTo, logsUpTo}
-use Rattle.mixture_softmax.specs.Blocks.{
-  lessBy,
-  fromGreatest,
-  fromGreatestAt,
-  fromGreatests,
-  logSumOver,
-  logOverAt,
-  fromLogAt,
-  fromLogs,
-  logsOver,
-  Block,
-}
+use Rattle.mixture_softmax.specs.Blocks.{lessBy, fromGreatest, fromGreatestAt, fromGreatests, logSumOver, logOverAt, fromLogAt}
+use Rattle.mixture_softmax.specs.Blocks.{fromLogs, logsOver, Block}
 use Rattle.mixture_softmax.proofs.Softmax.{less-length, map-length, shares-length, shares-by, log-sum-over}
-use Rattle.mixture_softmax.proofs.Joined.{
-  joined-length,
-  joined-row,
-  joined-turn,
-  joined-map,
-  joined-same,
-  joined-more,
-  weighed-same,
-  weighed-more,
-}
+use Rattle.mixture_softmax.proofs.Joined.{joined-length, joined-row, joined-turn, joined-map, joined-same, joined-more, weighed-same}
+use Rattle.mixture_softmax.proofs.Joined.{weighed-more}
 
 -- two parts of one length, as the code cuts them
 pub parts-alike : (a b : List Float) (at k : ℕ) → at + k ≤ length a → at + k ≤ length b
