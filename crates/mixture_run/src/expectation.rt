@@ -11,7 +11,7 @@ ghost use Rattle.mixture_run.specs.Areas.{partsIn, modelOf, withLogCoeff
 ghost use Rattle.mixture_run.specs.Areas.{logDensitiesBy, fourLogDensities, Area, Leaves, LeafOf, GroupOf};
 use super::layout;
 
-// That of a concentration after the last one, whose normalizer is `norm`; equal ones share it.
+// The log normalizer of a concentration after the last one, whose own is `norm`; equal ones share it.
 fn norm_for(kappa: f64, last: f64, norm: f64, d: usize, start: f64) -> f64
     requires { ⌜ (StartOf d start) × (norm ≡ logNormOf d last) ⌝ }
     ensures { λ r. ⌜ r ≡ logNormOf d kappa ⌝ }
