@@ -10,9 +10,9 @@ use Rattle.bessel.specs.Normalizer.{logVmfNormOf}
 abbrev pub weightFloor : Float
 weightFloor = f64 0x01A56E1FC2F8F359
 
-abbrev pub logNormOf : ℕ → Float → Float
+abbrev pub logNormOf : (d : ℕ) (kappa : Float) → Float
 logNormOf d kappa = logVmfNormOf d (maxOf kappa kappaMin)
 
--- ln weight + log normalizer
-abbrev pub baseOf : ℕ → Float → Float → Float
-baseOf d weight kappa = add binary64 (lnOf (maxOf weight weightFloor)) (logNormOf d kappa)
+-- the log coefficient of a group: ln weight + log normalizer
+abbrev pub logCoefficient : (d : ℕ) (weight kappa : Float) → Float
+logCoefficient d weight kappa = add binary64 (lnOf (maxOf weight weightFloor)) (logNormOf d kappa)

@@ -1,5 +1,6 @@
--- Document 01, 'Mixture' and 'Choosing the number of groups': all that hangs on Kappa. The concentrations of k groups, from the lengths and the weights of their
--- resultants, at the start of a run and after each of its rounds; and the number of parameters. Definitions only.
+-- Document 01, 'Mixture' and 'Choosing the number of groups': all that hangs on Kappa. The concentrations of k groups,
+-- from the lengths and the weights of their resultants, at the start of a run and after each of its rounds; and the
+-- number of parameters. Definitions only.
 use mathlib.Core.List.{List, [], _∷_, _++_}
 use mathlib.Core.Bool.{cond}
 use Prim.Native.Nat.{ℕ, zero, suc, _+_, _-_, _*_}
@@ -16,23 +17,23 @@ tabulate f zero = []
 tabulate f (suc n) = tabulate f n ++ (f n ∷ [])
 
 -- the mean resultant length; 0 where the weight is not above 0
-abbrev pub meanLength : Float → Float → Float
-meanLength length weight = cond (lt plusZero weight) (div binary64 length weight) plusZero
+abbrev pub meanLength : (resultant weight : Float) → Float
+meanLength resultant weight = cond (lt plusZero weight) (div binary64 resultant weight) plusZero
 
 -- the concentration of group c by its own length and weight
-abbrev pub kappaAt : ℕ → List Float → List Float → ℕ → Float
+abbrev pub kappaAt : (d : ℕ) (lengths totals : List Float) (c : ℕ) → Float
 kappaAt d lengths totals c = estimateOf d (meanLength (getD lengths c nan) (getD totals c nan))
 
 -- `shared_kappa`: the one concentration by the pooled length, which is added from +0
-abbrev pub sharedKappa : ℕ → Float → Float → Float
+abbrev pub sharedKappa : (d : ℕ) (pooled weight : Float) → Float
 sharedKappa d pooled weight = estimateOf d (meanLength pooled weight)
 
 -- Free: each group its own. Shared: one for all (Hornik and Grün 2014).
-abbrev pub kappasOf : Kappa → ℕ → ℕ → List Float → List Float → Float → List Float
+abbrev pub kappasOf : Kappa → (k d : ℕ) (lengths totals : List Float) (weight : Float) → List Float
 kappasOf Free k d lengths totals weight = tabulate (kappaAt d lengths totals) k
 kappasOf Shared k d lengths totals weight = replicate k (sharedKappa d (sumFrom plusZero lengths) weight)
 
 -- p: k·d + k − 1 for Free, k·d for Shared
-abbrev pub parametersOf : Kappa → ℕ → ℕ → ℕ
+abbrev pub parametersOf : Kappa → (k d : ℕ) → ℕ
 parametersOf Free k d = k * d + k - 1
 parametersOf Shared k d = k * d

@@ -1,5 +1,6 @@
-// The settings of a mixture fit, and the numbers of its groups that no work area is needed for (vmf.rs, KappaModel and movmf_once; document 01, 'Leaves, settings, fit',
-// 'Mixture' and 'Choosing the number of groups'): how many parameters k groups have, the log normalizer of a concentration, and a group's ln weight with it.
+// The settings of a mixture fit, and the numbers of its groups that no work area is needed for (vmf.rs, KappaModel and
+// movmf_once; document 01, 'Leaves, settings, fit', 'Mixture' and 'Choosing the number of groups'): how many parameters
+// k groups have, the log normalizer of a concentration, and the log coefficient of a group.
 ghost use mathlib.Core.Path.{_≡_};
 ghost use Prim.Native.Nat.{_*_, _≤_};
 ghost use lib.Ieee.{binary64, add};
@@ -50,8 +51,8 @@ pub fn log_norm(kappa: f64, d: usize) -> f64
     log_norm_from(kappa, d, gamma_table::ln_gamma_half(d))
 }
 
-// ln weight + log normalizer of a group.
-pub fn base(weight: f64, norm: f64) -> f64
+// The log coefficient of a group, ln weight + log normalizer; `norm` is the log normalizer.
+pub fn log_coefficient(weight: f64, norm: f64) -> f64
     ensures { λ r. ⌜ r ≡ add binary64 (lnOf (maxOf weight weightFloor)) norm ⌝ }
 {
     logarithm::ln(float::max(weight, 1e-300)) + norm

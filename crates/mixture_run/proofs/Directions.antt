@@ -1,5 +1,5 @@
--- Laws of the lengths of the resultants and of the directions, over plain lists and the parts of an area: a part divided into an earlier one, and each definition
--- grows by one group a turn. By the laws of the regions. Assumes nothing.
+-- Laws of the lengths of the resultants and of the directions, over plain lists and the parts of an area: a part divided into an earlier
+-- one, and each definition grows by one group a turn. By the laws of the regions. Assumes nothing.
 use mathlib.Core.Path.{_≡_, refl, ap, sym, _∙_}
 use mathlib.Core.List.{List, [], _∷_, _++_, append-assoc}
 use mathlib.Core.Bool.{true, false}
@@ -21,7 +21,8 @@ use Rattle.kmeans_sums.proofs.Sums.{norms-length}
 use Rattle.rows.proofs.Rows.{put-same}
 use Rattle.mixture_run.specs.Mixture.{directionsUpTo}
 use Rattle.mixture_run.specs.Areas.{Parts, partsIn, normsAt, withDirections, withNorms, total}
-use Rattle.mixture_run.proofs.Regions.{directionsR, sumsR, normsR, frontIn, get-in, part-in, put-in, length-in, front-in-start, front-in-turn, front-in-end}
+use Rattle.mixture_run.proofs.Regions.{directionsR, sumsR, normsR, frontIn, get-in, part-in, put-in, length-in, front-in-start}
+use Rattle.mixture_run.proofs.Regions.{front-in-turn, front-in-end}
 
 -- ---- the norms of the rows
 module _ (rows : List Float) (d : ℕ) where
@@ -30,8 +31,10 @@ module _ (rows : List Float) (d : ℕ) where
   norms-at zero c h = absurd (omega arith)
   norms-at (suc n) c h =
       ⊎-elim
-      (λ (g : c < n). List·getD-append (normsUpTo rows d n) (normOf (rowOf rows d n) ∷ []) nan c (omega (arith, norms-length rows d n)) ∙ norms-at n c g)
-      (λ (g : n ≤ c). let e : c ≡ n = omega arith in rw e (getD-at (normsUpTo rows d n) (normOf (rowOf rows d n)) [] nan n (norms-length rows d n)))
+      (λ (g : c < n). List·getD-append (normsUpTo rows d n) (normOf (rowOf rows d n) ∷ []) nan c (omega (arith, norms-length rows d n))
+      ∙ norms-at n c g)
+      (λ (g : n ≤ c). let e : c
+      ≡ n = omega arith in rw e (getD-at (normsUpTo rows d n) (normOf (rowOf rows d n)) [] nan n (norms-length rows d n)))
       (lt-or-ge c n)
 
 module _ (m k d : ℕ) (w₀ : List Float) where
@@ -85,7 +88,13 @@ module _ (w₀ : List Float) (x : Float) (to from n : ℕ) where
       let long : length (drop from w₀) ≡ length w₀ - from = length-drop from w₀ in
       let ls : length s ≡ length (drop from w₀) = divide-length x (drop from w₀) in
       let at : getD w (from + j) nan ≡ getD (drop from w₀) j nan =
-      rw (e, getD-drop from w₀ j nan, f, ← getD-drop (to + j) (paste w₀ to s j) (from - to) nan, drop-paste w₀ to s j (omega arith) (omega arith))
+      rw (
+        e,
+        getD-drop from w₀ j nan,
+        f,
+        ← getD-drop (to + j) (paste w₀ to s j) (from - to) nan,
+        drop-paste w₀ to s j (omega arith) (omega arith),
+      )
       (getD-drop (to + j) w₀ (from - to) nan) in
       let new : div binary64 (getD w (from + j) nan) x ≡ getD s j nan =
       ap (λ (y : Float). div binary64 y x) at ∙ sym (divided-at x (drop from w₀) j (omega arith)) in
@@ -103,7 +112,8 @@ module _ (d : ℕ) (p₀ : Parts) where
   unfolding directionsUpTo
   directions-start = refl
 
-module _ (m k d : ℕ) (p₀ : Parts) (w : List Float) (c : ℕ) (h : c < k) (long : total m k d ≤ length w) (norms : p₀ .norms ≡ normsUpTo (p₀ .sums) d k)
+module _ (m k d : ℕ) (p₀ : Parts) (w : List Float) (c : ℕ) (h : c < k) (long : total m k d ≤ length w)
+    (norms : p₀ .norms ≡ normsUpTo (p₀ .sums) d k)
     (f : partsIn m k d w ≡ directionsDone d p₀ c) (normAt : ℕ) (place : normAt ≡ normsAt k d + c) where
   -- the norm that a turn reads, and the row it divides
   norm-is : getD w normAt nan ≡ normOf (rowOf (p₀ .sums) d c)
@@ -114,7 +124,8 @@ module _ (m k d : ℕ) (p₀ : Parts) (w : List Float) (c : ℕ) (h : c < k) (lo
   row-is : part w (k * d + c * d) d ≡ rowOf (p₀ .sums) d c
   row-is = part-in sumsR m k d w (k * d + c * d) (c * d) d (omega arith) (row-within c k d h) ∙ ap (λ (q : Parts). rowOf (q .sums) d c) f
 
-  pub directed : (w' : List Float) → lt plusZero (getD w normAt nan) ≡ true → w' ≡ putPart w (c * d) d (dividedBy (getD w normAt nan) (part w (k * d + c * d) d))
+  pub directed : (w' : List Float) → lt plusZero (getD w normAt nan) ≡ true
+      → w' ≡ putPart w (c * d) d (dividedBy (getD w normAt nan) (part w (k * d + c * d) d))
       → partsIn m k d w' ≡ directionsDone d p₀ (c + 1)
   unfolding directionsUpTo
   directed w' t e =
@@ -128,7 +139,8 @@ module _ (m k d : ℕ) (p₀ : Parts) (w : List Float) (c : ℕ) (h : c < k) (lo
       let t₁ : lt plusZero (normOf row) ≡ true = rw (← norm-is) t in
       let is : v ≡ centerBy row (rowOf old d c) = rw t₁ in
       rw (e₁, add-one)
-      (put-in directionsR m k d w (c * d) (c * d) d v lv (omega arith) within long ∙ ap (λ (q : Parts). withDirections (putPart (q .directions) (c * d) d v) q) f
+      (put-in directionsR m k d w (c * d) (c * d) d v lv (omega arith) within long
+      ∙ ap (λ (q : Parts). withDirections (putPart (q .directions) (c * d) d v) q) f
       ∙ ap (λ (x : List Float). withDirections (putPart old (c * d) d x) p₀) is)
 
   pub direction-kept : (w' : List Float) → lt plusZero (getD w normAt nan) ≡ false → w' ≡ w → partsIn m k d w' ≡ directionsDone d p₀ (c + 1)
@@ -138,5 +150,6 @@ module _ (m k d : ℕ) (p₀ : Parts) (w : List Float) (c : ℕ) (h : c < k) (lo
       let old = directionsUpTo d (p₀ .sums) (p₀ .directions) c in
       let t₁ : lt plusZero (normOf row) ≡ false = rw (← norm-is) t in
       let is : centerBy row (rowOf old d c) ≡ rowOf old d c = rw t₁ in
-      let same : putPart old (c * d) d (centerBy row (rowOf old d c)) ≡ old = ap (λ (x : List Float). putPart old (c * d) d x) is ∙ put-same old (c * d) d in
+      let same : putPart old (c * d) d (centerBy row (rowOf old d c)) ≡ old =
+      ap (λ (x : List Float). putPart old (c * d) d x) is ∙ put-same old (c * d) d in
       rw (e, add-one) (f ∙ ap (λ (x : List Float). withDirections x p₀) (sym same))

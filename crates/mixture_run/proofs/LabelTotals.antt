@@ -1,8 +1,8 @@
--- Laws of the weights of labelled groups, which stand in the totals of an area: none where they are cleared, one leaf more, and the end. By the laws of the regions.
--- Assumes nothing.
+-- Laws of the weights of labelled groups, which stand in the totals of an area: none where they are cleared, one leaf more, and the end. By
+-- the laws of the regions. Assumes nothing.
 use mathlib.Core.Path.{_≡_, ap, sym, _∙_}
 use mathlib.Core.List.{List}
-use Prim.Native.Nat.{ℕ, _+_, _*_, _<_}
+use Prim.Native.Nat.{ℕ, _+_, _<_}
 use native.Mathlib.Numerals.{add-one}
 use native.Mathlib.Omega.{arith}
 use lib.ListN.{getD, take, set, replicate}
@@ -18,7 +18,8 @@ module _ (m k d : ℕ) (w₀ weights : List Float) (marks : List ℕ) where
   abbrev pub totalled : ℕ → Parts
   totalled i = withTotals (labelTotalsUpTo weights (take m marks) k i) (partsIn m k d w₀)
 
-  pub totals-start : (w : List Float) → partsIn m k d w₀ ≡ withTotals (replicate k plusZero) (partsIn m k d w) → partsIn m k d w₀ ≡ totalled 0
+  pub totals-start : (w : List Float) → partsIn m k d w₀ ≡ withTotals (replicate k plusZero) (partsIn m k d w)
+      → partsIn m k d w₀ ≡ totalled 0
   unfolding labelTotalsUpTo
   totals-start w e = e ∙ ap (withTotals (replicate k plusZero)) (sym e)
 
@@ -30,12 +31,14 @@ module _ (m k d : ℕ) (w₀ weights : List Float) (marks : List ℕ) where
       let t = labelTotalsUpTo weights (take m marks) k i in
       let v = add binary64 (getD w at nan) (getD weights i nan) in
       let e : v ≡ add binary64 (getD t c nan) (getD weights i nan) =
-      ap (λ (x : Float). add binary64 x (getD weights i nan)) (get-in totalsR m k d w at c nan (omega arith) b ∙ ap (λ (p : Parts). getD (p .totals) c nan) f) in
+      ap (λ (x : Float). add binary64 x (getD weights i nan))
+      (get-in totalsR m k d w at c nan (omega arith) b ∙ ap (λ (p : Parts). getD (p .totals) c nan) f) in
       rw (add-one, getD-take m marks i 0 h)
       (set-in totalsR m k d w at c v (omega arith) b
       ∙ ap (λ (p : Parts). withTotals (set (p .totals) c v) p) f
       ∙ ap (λ (x : Float). withTotals (set t c x) (partsIn m k d w₀)) e)
 
-  pub totals-end : (w w' : List Float) (i : ℕ) → i ≡ m → partsIn m k d w₀ ≡ withTotals (replicate k plusZero) (partsIn m k d w) → partsIn m k d w' ≡ totalled i
+  pub totals-end : (w w' : List Float) (i : ℕ) → i ≡ m → partsIn m k d w₀ ≡ withTotals (replicate k plusZero) (partsIn m k d w)
+      → partsIn m k d w' ≡ totalled i
       → partsIn m k d w' ≡ withTotals (labelTotalsUpTo weights (take m marks) k m) (partsIn m k d w)
   totals-end w w' i e z f = f ∙ ap totalled e ∙ ap (withTotals (labelTotalsUpTo weights (take m marks) k m)) z

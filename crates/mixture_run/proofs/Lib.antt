@@ -3,7 +3,7 @@ pub mod Sizes
 pub mod Regions
 pub mod Groups
 pub mod Expected
-pub mod Gathered
+pub mod Statistics
 pub mod Directions
 pub mod LabelTotals
 pub mod Rounds

@@ -18,13 +18,15 @@ use Rattle.kmeans_layout.proofs.Regions.{centers-are, labels-are}
 use Rattle.mixture_kappa.specs.Kappas.{kappasOf}
 use Rattle.mixture_run.specs.Mixture.{evenWeight, emFrom}
 use Rattle.mixture_run.specs.Fits.{labelTotalsUpTo, startKappasBy, startFrom, warmOf, onceOf}
-use Rattle.mixture_run.specs.Areas.{Parts, partsIn, emOf, withTotals, withNorms, withKappas, withResp, withWeights, Labels, Runnable, RunDone}
+use Rattle.mixture_run.specs.Areas.{Parts, partsIn, emOf, withTotals, withNorms, withKappas, withResp, withWeights, Labels, Runnable}
+use Rattle.mixture_run.specs.Areas.{RunDone}
 use Rattle.mixture_kappa.specs.declared.Kappa.{Kappa}
 use Rattle.mixture_kappa.specs.declared.Settings.{Settings}
 use Rattle.mixture_run.proofs.Regions.{directionsR, sumsR, whole-in}
 
 -- ---- the concentrations at the start
-pub kappas-started : (kappa : Kappa) (k d : ℕ) (totals : List Float) (whole : Float) (p₀ p₁ p₂ p₃ : Parts) → p₁ ≡ withTotals totals p₀ → p₂ ≡ withNorms (normsUpTo (p₁ .sums) d k) p₁
+pub kappas-started : (kappa : Kappa) (k d : ℕ) (totals : List Float) (whole : Float) (p₀ p₁ p₂ p₃ : Parts) → p₁ ≡ withTotals totals p₀
+    → p₂ ≡ withNorms (normsUpTo (p₁ .sums) d k) p₁
     → whole ≡ sumFrom plusZero (p₂ .totals) → p₃ ≡ withKappas (kappasOf kappa k d (p₂ .norms) (p₂ .totals) whole) p₂
     → (p₃ .directions ≡ p₀ .directions) × (p₃ .kappas ≡ startKappasBy kappa k d (p₀ .sums) totals)
 kappas-started kappa k d totals whole p₀ p₁ p₂ p₃ totalled normed summed concentrated =
@@ -32,7 +34,8 @@ kappas-started kappa k d totals whole p₀ p₁ p₂ p₃ totalled normed summed
     (rw (concentrated, normed, totalled), rw (concentrated, normed, totalled, sum))
 
 -- ---- what the warm start asks, and what it leaves where the rounds begin
-pub warm-sized : (work marks weights coords m k d rounds : ℕ) → Runnable work marks weights coords m k d rounds → lloyd.Runnable work marks weights coords m k d 50
+pub warm-sized : (work marks weights coords m k d rounds : ℕ) → Runnable work marks weights coords m k d rounds
+    → lloyd.Runnable work marks weights coords m k d 50
 warm-sized work marks weights coords m k d rounds r =
     record {
       sized =
@@ -54,7 +57,8 @@ module _ (weights coords : List Float) (m k d : ℕ) (w : List Float) (u : List 
       sym (whole-in sumsR m k d w (k * d) (k * d) (omega arith) refl) ∙ l .sums ∙ ap (λ (x : List ℕ). sumsUpTo weights coords x k d m) e
 
 -- ---- a whole run
-pub run-done : (s : Settings) (weights coords : List Float) (m k d : ℕ) (w₁ w₂ w₃ w₄ : List Float) (u : List ℕ) (x : warm-end.RunEnd) (r : Float)
+pub run-done : (s : Settings) (weights coords : List Float) (m k d : ℕ) (w₁ w₂ w₃ w₄ : List Float) (u : List ℕ) (x : warm-end.RunEnd)
+    (r : Float)
     → lloyd.RunDone (warmOf weights coords m k d (s .seed)) (stateIn m k d w₁ u) x → RunLeft weights coords m k d w₁ u
     → partsIn m k d w₂ .directions ≡ partsIn m k d w₁ .directions
     → partsIn m k d w₂ .kappas ≡ startKappasBy (s .kappa) k d (partsIn m k d w₁ .sums) (labelTotalsUpTo weights (take m u) k m)
@@ -66,8 +70,10 @@ run-done s weights coords m k d w₁ w₂ w₃ w₄ u x r done left directed con
     let warm = warmOf weights coords m k d (s .seed) in
     let dirs : partsIn m k d w₂ .directions ≡ warm .centers = directed ∙ directions-warm weights coords m k d w₁ u warm (done .centers) in
     let labels : take m u ≡ warm .labels = labels-are m k d w₁ u ∙ done .labels in
-    let sums : partsIn m k d w₁ .sums ≡ sumsUpTo weights coords (warm .labels) k d m = sums-warm weights coords m k d w₁ u warm (done .labels) left in
-    let kappas : partsIn m k d w₂ .kappas ≡ startKappasBy (s .kappa) k d (sumsUpTo weights coords (warm .labels) k d m) (labelTotalsUpTo weights (warm .labels) k m) =
+    let sums : partsIn m k d w₁ .sums ≡ sumsUpTo weights coords (warm .labels) k d m =
+    sums-warm weights coords m k d w₁ u warm (done .labels) left in
+    let kappas : partsIn m k d w₂ .kappas
+    ≡ startKappasBy (s .kappa) k d (sumsUpTo weights coords (warm .labels) k d m) (labelTotalsUpTo weights (warm .labels) k m) =
     concentrated ∙ rw (sums, labels) in
     let start : emOf (partsIn m k d w₃) (inf true) ≡ startFrom (s .kappa) weights coords m k d warm = rw (cleared, dirs, kappas) in
     record {

@@ -7,8 +7,8 @@ use lib.ListN.{length}
 use lib.Ieee.{Float}
 use Rattle.rows.specs.Rows.{part}
 use Rattle.rows.proofs.Rows.{row-within, length-part, part-cut}
-use Rattle.mixture_softmax.specs.Softmax.{LeafRows}
-use Rattle.mixture_run.specs.Areas.{respAt, Area, LeafOf, GroupOf}
+use Rattle.mixture_softmax.specs.Leaves.{LeafRows}
+use Rattle.mixture_run.specs.Areas.{responsibilitiesAt, Area, LeafOf, GroupOf}
 
 pub area-of : (work work' m k d : ℕ) → work' ≡ work → Area work m k d → Area work' m k d
 area-of work work' m k d e a = rw e a
@@ -19,9 +19,15 @@ leaf-of i m k d h = record { below = h; row = row-within i m d h; shares = row-w
 pub group-of : (c k d : ℕ) → c < k → GroupOf c k d
 group-of c k d h = record { below = h; row = row-within c k d h }
 
--- of the responsibilities that are softened
-pub rows-of : (w weights : List Float) (m k d at : ℕ) → Area (length w) m k d → length weights ≡ m → at ≡ respAt k d
+-- of the rows of log densities
+pub rows-of : (w weights : List Float) (m k d at : ℕ) → Area (length w) m k d → length weights ≡ m → at ≡ responsibilitiesAt k d
     → LeafRows (length (part w at (at + m * k - at))) (length weights) k
 rows-of w weights m k d at a e start =
-    let n : length (part w at (at + m * k - at)) ≡ m * k = ap length (part-cut w at (m * k)) ∙ length-part w at (m * k) (omega (arith, a .work-long)) in
-    record { k-some = a .sizes .k-some; k-small = a .sizes .k-small; weights-small = omega (arith, a .sizes .m-small); rows-long = rw (n, e) }
+    let n : length (part w at (at + m * k - at)) ≡ m * k =
+    ap length (part-cut w at (m * k)) ∙ length-part w at (m * k) (omega (arith, a .work-long)) in
+    record {
+      k-some = a .sizes .k-some;
+      k-small = a .sizes .k-small;
+      weights-small = omega (arith, a .sizes .m-small);
+      rows-long = rw (n, e);
+    }

@@ -1,4 +1,5 @@
--- Document 01, 'Mixture': one run of `movmf_once`, from its warm start to its log-likelihood, and what a fit makes of it. Definitions only.
+-- Document 01, 'Mixture': one run of `movmf_once`, from its warm start to its log-likelihood, and what a fit makes of
+-- it. Definitions only.
 use mathlib.Core.List.{List}
 use mathlib.Core.Bool.{true}
 use Prim.Native.Nat.{ℕ, zero, suc, _*_}
@@ -18,22 +19,24 @@ use Rattle.mixture_kappa.specs.declared.Kappa.{Kappa}
 use Rattle.mixture_kappa.specs.declared.Settings.{Settings}
 
 -- ---- `init_kappas`: the weights of the groups that the first n labels make
-unfoldable pub labelTotalsUpTo : List Float → List ℕ → ℕ → ℕ → List Float
-labelTotalsUpTo weights labels k zero = replicate k plusZero
-labelTotalsUpTo weights labels k (suc i) =
-    set (labelTotalsUpTo weights labels k i) (getD labels i 0)
-    (add binary64 (getD (labelTotalsUpTo weights labels k i) (getD labels i 0) nan) (getD weights i nan))
+module _ (weights : List Float) (labels : List ℕ) (k : ℕ) where
+  unfoldable pub labelTotalsUpTo : ℕ → List Float
+  labelTotalsUpTo zero = replicate k plusZero
+  labelTotalsUpTo (suc i) =
+      let done = labelTotalsUpTo i in
+      let c = getD labels i 0 in
+      set done c (add binary64 (getD done c nan) (getD weights i nan))
 
 -- the concentrations of labelled groups, the whole weight being added from +0
-abbrev pub startKappasBy : Kappa → ℕ → ℕ → List Float → List Float → List Float
+abbrev pub startKappasBy : Kappa → (k d : ℕ) (sums totals : List Float) → List Float
 startKappasBy kappa k d sums totals = kappasOf kappa k d (normsUpTo sums d k) totals (sumFrom plusZero totals)
 
-abbrev pub startKappas : Kappa → List Float → List Float → List ℕ → ℕ → ℕ → ℕ → List Float
+abbrev pub startKappas : Kappa → (weights coords : List Float) (labels : List ℕ) (m k d : ℕ) → List Float
 startKappas kappa weights coords labels m k d =
     startKappasBy kappa k d (sumsUpTo weights coords labels k d m) (labelTotalsUpTo weights labels k m)
 
 -- before the first round: no responsibilities, weights 1/k, the warm start's directions, log-likelihood −infinity
-abbrev pub startFrom : Kappa → List Float → List Float → ℕ → ℕ → ℕ → Result → Em
+abbrev pub startFrom : Kappa → (weights coords : List Float) (m k d : ℕ) → Result → Em
 startFrom kappa weights coords m k d warm =
     record {
       resp = replicate (m * k) plusZero;
@@ -50,7 +53,7 @@ startFrom kappa weights coords m k d warm =
 abbrev pub warmRounds : ℕ
 warmRounds = 50
 
-abbrev pub warmOf : List Float → List Float → ℕ → ℕ → ℕ → ℕ → Result
+abbrev pub warmOf : (weights coords : List Float) (m k d seed : ℕ) → Result
 warmOf weights coords m k d seed = resultOf weights coords m k d warmRounds seed
 
 -- ---- one run: what the rounds leave, and the counts of its warm start
@@ -58,26 +61,27 @@ pub record Once : Type 0 where
   pub em : Em
   pub counts : Counts
 
-abbrev pub onceFrom : Settings → List Float → List Float → ℕ → ℕ → ℕ → Result → Once
-onceFrom s weights coords m k d warm =
-    record {
-      em = emFrom (s .kappa) weights coords m k d (s .rounds) 0 (startFrom (s .kappa) weights coords m k d warm);
-      counts = warm .counts;
-    }
+module _ (s : Settings) (weights coords : List Float) (m k d : ℕ) where
+  abbrev pub onceFrom : Result → Once
+  onceFrom warm =
+      record {
+        em = emFrom (s .kappa) weights coords m k d (s .rounds) 0 (startFrom (s .kappa) weights coords m k d warm);
+        counts = warm .counts;
+      }
 
-unfoldable pub onceOf : Settings → List Float → List Float → ℕ → ℕ → ℕ → Once
-onceOf s weights coords m k d = onceFrom s weights coords m k d (warmOf weights coords m k d (s .seed))
+  unfoldable pub onceOf : Once
+  onceOf = onceFrom (warmOf weights coords m k d (s .seed))
 
 -- ---- what a fit makes of a run: labels, the first greatest responsibility of each leaf, and logw
-abbrev pub labelsOf : List Float → ℕ → ℕ → List ℕ
+abbrev pub labelsOf : (resp : List Float) (m k : ℕ) → List ℕ
 labelsOf resp m k = tabulate (λ (i : ℕ). argmaxOf (rowOf resp k i)) m
 
 -- `ln_weight`, with its own floor 2^−1022
-abbrev pub lnWeight : Float → Float
+abbrev pub lnWeight : (weight : Float) → Float
 lnWeight weight = lnOf (maxOf weight (f64 0x0010000000000000))
 
-abbrev pub logwAt : ℕ → Model → ℕ → Float
+abbrev pub logwAt : (d : ℕ) → Model → (c : ℕ) → Float
 logwAt d p c = add binary64 (lnWeight (getD (p .weights) c nan)) (logNormOf d (getD (p .kappas) c nan))
 
-abbrev pub logwOf : ℕ → ℕ → Model → List Float
+abbrev pub logwOf : (k d : ℕ) → Model → List Float
 logwOf k d p = tabulate (logwAt d p) k

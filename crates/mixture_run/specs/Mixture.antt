@@ -10,7 +10,7 @@ use Rattle.rows.specs.Rows.{rowOf, putPart}
 use Rattle.vector.specs.Vectors.{dotOf}
 use Rattle.kmeans_sums.specs.Sums.{addLeaf, normsUpTo, centerBy}
 use Rattle.mixture_softmax.specs.Softmax.{logSumExp, sharesOf}
-use Rattle.mixture_kappa.specs.Groups.{baseOf}
+use Rattle.mixture_kappa.specs.Groups.{logCoefficient}
 use Rattle.mixture_kappa.specs.Kappas.{tabulate, kappasOf}
 use Rattle.mixture_kappa.specs.declared.Kappa.{Kappa}
 
@@ -20,90 +20,99 @@ pub record Model : Type 0 where
   pub directions : List Float
   pub kappas : List Float
 
--- ---- ln weight + log normalizer, of group c and of all k
-abbrev pub baseAt : ℕ → Model → ℕ → Float
-baseAt d p c = baseOf d (getD (p .weights) c nan) (getD (p .kappas) c nan)
+-- ---- the log coefficient, ln weight + log normalizer, of group c and of all k
+abbrev pub logCoefficientAt : (d : ℕ) → Model → (c : ℕ) → Float
+logCoefficientAt d p c = logCoefficient d (getD (p .weights) c nan) (getD (p .kappas) c nan)
 
-abbrev pub basesOf : ℕ → ℕ → Model → List Float
-basesOf k d p = tabulate (baseAt d p) k
+abbrev pub logCoefficients : (k d : ℕ) → Model → List Float
+logCoefficients k d p = tabulate (logCoefficientAt d p) k
 
 -- ---- the E-step
 
--- log r of leaf x and group c: its base + concentration · dot
-abbrev pub likenessAt : ℕ → List Float → Model → List Float → ℕ → Float
-likenessAt d bases p x c =
-    add binary64 (getD bases c nan) (mul binary64 (getD (p .kappas) c nan) (dotOf x (rowOf (p .directions) d c)))
+-- logr of leaf x and group c, its log density there: log coefficient + concentration · dot
+abbrev pub logDensityAt : (d : ℕ) (coefficients : List Float) → Model → (x : List Float) (c : ℕ) → Float
+logDensityAt d coefficients p x c =
+    add binary64 (getD coefficients c nan) (mul binary64 (getD (p .kappas) c nan) (dotOf x (rowOf (p .directions) d c)))
 
-abbrev pub likenesses : ℕ → ℕ → List Float → Model → List Float → List Float
-likenesses k d bases p x = tabulate (likenessAt d bases p x) k
+abbrev pub logDensities : (k d : ℕ) (coefficients : List Float) → Model → (x : List Float) → List Float
+logDensities k d coefficients p x = tabulate (logDensityAt d coefficients p x) k
 
--- the responsibilities of a leaf, by its likenesses
+-- the responsibilities of a leaf, by its log densities
 abbrev pub softmax : List Float → List Float
 softmax logr = sharesOf (logSumExp logr) logr
 
--- the responsibilities of the leaves so far, row by row, and the log-likelihood, summed with weights in leaf order from +0
+-- the responsibilities of the leaves so far, row by row, and the log-likelihood, summed with weights in leaf order
+-- from +0
 pub record Expected : Type 0 where
   pub resp : List Float
   pub loglik : Float
 
-abbrev pub expectLeaf : Float → List Float → Expected → Expected
-expectLeaf weight logr e = record { resp = e .resp ++ softmax logr; loglik = add binary64 (e .loglik) (mul binary64 weight (logSumExp logr)) }
+abbrev pub expectLeaf : (weight : Float) (logr : List Float) → Expected → Expected
+expectLeaf weight logr e =
+    record { resp = e .resp ++ softmax logr; loglik = add binary64 (e .loglik) (mul binary64 weight (logSumExp logr)) }
 
-unfoldable pub expectUpTo : List Float → List Float → ℕ → ℕ → List Float → Model → ℕ → Expected
-expectUpTo weights coords k d bases p zero = record { resp = []; loglik = plusZero }
-expectUpTo weights coords k d bases p (suc i) =
-    expectLeaf (getD weights i nan) (likenesses k d bases p (rowOf coords d i)) (expectUpTo weights coords k d bases p i)
+module _ (weights coords : List Float) (k d : ℕ) (coefficients : List Float) (p : Model) where
+  unfoldable pub expectUpTo : ℕ → Expected
+  expectUpTo zero = record { resp = []; loglik = plusZero }
+  expectUpTo (suc i) =
+      expectLeaf (getD weights i nan) (logDensities k d coefficients p (rowOf coords d i)) (expectUpTo i)
 
 -- ---- the M-step
 
--- the groups' weights and resultants
-pub record Gathered : Type 0 where
+-- the sufficient statistics of the groups: whole weights and resultants
+pub record Statistics : Type 0 where
   pub totals : List Float
   pub sums : List Float
 
 -- group c gains leaf x with this weight
-abbrev pub gatherGroup : ℕ → Float → List Float → ℕ → Gathered → Gathered
-gatherGroup d w x c g =
+abbrev pub accumulateGroup : (d : ℕ) (w : Float) (x : List Float) (c : ℕ) → Statistics → Statistics
+accumulateGroup d w x c g =
     record { totals = set (g .totals) c (add binary64 (getD (g .totals) c nan) w); sums = addLeaf (g .sums) d c w x }
 
--- the first n groups gain leaf i, each its weight times its responsibility
-unfoldable pub gatherLeaf : ℕ → Float → List Float → List Float → Gathered → ℕ → Gathered
-gatherLeaf d weight resp x g zero = g
-gatherLeaf d weight resp x g (suc c) = gatherGroup d (mul binary64 weight (getD resp c nan)) x c (gatherLeaf d weight resp x g c)
+-- the first n groups gain leaf x, each its weight times its responsibility
+module _ (d : ℕ) (weight : Float) (resp x : List Float) (g : Statistics) where
+  unfoldable pub accumulateLeaf : ℕ → Statistics
+  accumulateLeaf zero = g
+  accumulateLeaf (suc c) = accumulateGroup d (mul binary64 weight (getD resp c nan)) x c (accumulateLeaf c)
 
 -- of the first n leaves
-unfoldable pub gatherUpTo : List Float → List Float → List Float → ℕ → ℕ → ℕ → Gathered
-gatherUpTo weights coords resp k d zero = record { totals = replicate k plusZero; sums = replicate (k * d) plusZero }
-gatherUpTo weights coords resp k d (suc i) =
-    gatherLeaf d (getD weights i nan) (rowOf resp k i) (rowOf coords d i) (gatherUpTo weights coords resp k d i) k
+module _ (weights coords resp : List Float) (k d : ℕ) where
+  unfoldable pub statisticsUpTo : ℕ → Statistics
+  statisticsUpTo zero = record { totals = replicate k plusZero; sums = replicate (k * d) plusZero }
+  statisticsUpTo (suc i) =
+      accumulateLeaf d (getD weights i nan) (rowOf resp k i) (rowOf coords d i) (statisticsUpTo i) k
 
 -- a group's share of the whole weight; 1/k where that is not above 0
-abbrev pub evenWeight : ℕ → Float
+abbrev pub evenWeight : (k : ℕ) → Float
 evenWeight k = div binary64 (number 1) (number k)
 
-abbrev pub weightBy : ℕ → Float → Float → Float
-weightBy k whole total = cond (lt plusZero whole) (div binary64 total whole) (evenWeight k)
+module _ (k : ℕ) (whole : Float) where
+  abbrev pub weightBy : (total : Float) → Float
+  weightBy total = cond (lt plusZero whole) (div binary64 total whole) (evenWeight k)
 
-abbrev pub weightAt : ℕ → Float → List Float → ℕ → Float
-weightAt k whole totals c = weightBy k whole (getD totals c nan)
+  abbrev pub weightAt : (totals : List Float) (c : ℕ) → Float
+  weightAt totals c = weightBy (getD totals c nan)
 
 -- the first n directions: the resultant over its length, where that is above 0
-unfoldable pub directionsUpTo : ℕ → List Float → List Float → ℕ → List Float
-directionsUpTo d sums old zero = old
-directionsUpTo d sums old (suc c) =
-    putPart (directionsUpTo d sums old c) (c * d) d (centerBy (rowOf sums d c) (rowOf (directionsUpTo d sums old c) d c))
+module _ (d : ℕ) (sums old : List Float) where
+  unfoldable pub directionsUpTo : ℕ → List Float
+  directionsUpTo zero = old
+  directionsUpTo (suc c) =
+      let done = directionsUpTo c in
+      putPart done (c * d) d (centerBy (rowOf sums d c) (rowOf done d c))
 
--- the whole weight is summed from −0
-abbrev pub maximizeBy : Kappa → ℕ → ℕ → Model → Gathered → Float → Model
-maximizeBy kappa k d p g whole =
-    record {
-      weights = tabulate (weightAt k whole (g .totals)) k;
-      directions = directionsUpTo d (g .sums) (p .directions) k;
-      kappas = kappasOf kappa k d (normsUpTo (g .sums) d k) (g .totals) whole;
-    }
+module _ (kappa : Kappa) (k d : ℕ) (p : Model) (g : Statistics) where
+  abbrev pub maximizeBy : (whole : Float) → Model
+  maximizeBy whole =
+      record {
+        weights = tabulate (weightAt k whole (g .totals)) k;
+        directions = directionsUpTo d (g .sums) (p .directions) k;
+        kappas = kappasOf kappa k d (normsUpTo (g .sums) d k) (g .totals) whole;
+      }
 
-abbrev pub maximize : Kappa → ℕ → ℕ → Model → Gathered → Model
-maximize kappa k d p g = maximizeBy kappa k d p g (sumFrom minusZero (g .totals))
+  -- the whole weight is summed from −0
+  abbrev pub maximize : Model
+  maximize = maximizeBy (sumFrom minusZero (g .totals))
 
 -- ---- the rounds: the responsibilities, the groups and the log-likelihood
 pub record Em : Type 0 where
@@ -111,25 +120,30 @@ pub record Em : Type 0 where
   pub model : Model
   pub loglik : Float
 
-abbrev pub roundBy : Kappa → List Float → List Float → ℕ → ℕ → ℕ → Model → Expected → Em
-roundBy kappa weights coords m k d p e =
-    record { resp = e .resp; model = maximize kappa k d p (gatherUpTo weights coords (e .resp) k d m); loglik = e .loglik }
-
-abbrev pub emRound : Kappa → List Float → List Float → ℕ → ℕ → ℕ → Model → Em
-emRound kappa weights coords m k d p = roundBy kappa weights coords m k d p (expectUpTo weights coords k d (basesOf k d p) p m)
-
 -- 1e-7
 abbrev pub tolerance : Float
 tolerance = f64 0x3E7AD7F29ABCAF48
 
 -- after the first round: |new − old| ≤ 1e-7 · max(|old|, 1)
-abbrev pub stopsAt : ℕ → Float → Float → Bool
-stopsAt it old new = ltb 0 it && le (absOf (sub binary64 new old)) (mul binary64 tolerance (maxOf (absOf old) (number 1)))
+abbrev pub stopsAt : (it : ℕ) (old new : Float) → Bool
+stopsAt it old new =
+    ltb 0 it && le (absOf (sub binary64 new old)) (mul binary64 tolerance (maxOf (absOf old) (number 1)))
 
--- n rounds more at most, from round `it` on
-unfoldable pub emFrom : Kappa → List Float → List Float → ℕ → ℕ → ℕ → ℕ → ℕ → Em → Em
-emFrom kappa weights coords m k d zero it s = s
-emFrom kappa weights coords m k d (suc n) it s =
-    cond (stopsAt it (s .loglik) (emRound kappa weights coords m k d (s .model) .loglik))
-    (emRound kappa weights coords m k d (s .model))
-    (emFrom kappa weights coords m k d n (it + 1) (emRound kappa weights coords m k d (s .model)))
+module _ (kappa : Kappa) (weights coords : List Float) (m k d : ℕ) where
+  abbrev pub roundBy : Model → Expected → Em
+  roundBy p e =
+      record {
+        resp = e .resp;
+        model = maximize kappa k d p (statisticsUpTo weights coords (e .resp) k d m);
+        loglik = e .loglik;
+      }
+
+  abbrev pub emRound : Model → Em
+  emRound p = roundBy p (expectUpTo weights coords k d (logCoefficients k d p) p m)
+
+  -- n rounds more at most, from round `it` on
+  unfoldable pub emFrom : (n it : ℕ) → Em → Em
+  emFrom zero it s = s
+  emFrom (suc n) it s =
+      let next = emRound (s .model) in
+      cond (stopsAt it (s .loglik) (next .loglik)) next (emFrom n (it + 1) next)

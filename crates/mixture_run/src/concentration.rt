@@ -1,6 +1,6 @@
 // The concentrations of the groups, each by its own resultant or one by the pooled lengths: all that hangs on Kappa.
 ghost use mathlib.Core.Path.{_≡_};
-ghost use Prim.Native.Nat.{_+_, _*_, _<_};
+ghost use Prim.Native.Nat.{_+_, _<_};
 ghost use lib.ListN.{length, replicate};
 ghost use Rattle.float.specs.Arithmetic.{plusZero, sumFrom};
 ghost use Rattle.bessel.specs.Concentration.{Dimension, estimateOf};
@@ -9,12 +9,12 @@ ghost use Rattle.mixture_run.specs.Areas.{partsIn, withKappas, Area};
 use super::layout;
 
 // The concentration by a resultant's length and weight.
-fn kappa_by(length: f64, weight: f64, d: usize) -> f64
+fn kappa_by(resultant: f64, weight: f64, d: usize) -> f64
     requires { ⌜ Dimension d ⌝ }
-    ensures { λ r. ⌜ r ≡ estimateOf d (meanLength length weight) ⌝ }
+    ensures { λ r. ⌜ r ≡ estimateOf d (meanLength resultant weight) ⌝ }
 {
     if weight > 0.0 {
-        return bessel::estimate_kappa(length / weight, d);
+        return bessel::estimate_kappa(resultant / weight, d);
     }
     bessel::estimate_kappa(0.0, d)
 }
@@ -23,7 +23,8 @@ fn kappa_by(length: f64, weight: f64, d: usize) -> f64
 fn free_kappas(work: &mut [f64], m: usize, k: usize, d: usize)
     requires { ⌜ Area (length (now work)) m k d ⌝ }
     ensures { λ _. ⌜ (let p = partsIn m k d (now (work .entry)) in
-        partsIn m k d (now (work .exit)) ≡ withKappas (tabulate (kappaAt d (p .norms) (p .totals)) k) p) ⌝ }
+        let q = partsIn m k d (now (work .exit)) in
+        q ≡ withKappas (tabulate (kappaAt d (p .norms) (p .totals)) k) p) ⌝ }
 {
     let kappas = layout::kappas_at(k, d);
     let totals = layout::totals_at(k, d);
@@ -38,8 +39,9 @@ fn free_kappas(work: &mut [f64], m: usize, k: usize, d: usize)
 // One concentration for all, by the pooled length.
 fn shared_kappa(work: &mut [f64], whole: f64, m: usize, k: usize, d: usize)
     requires { ⌜ Area (length (now work)) m k d ⌝ }
-    ensures { λ _. ⌜ partsIn m k d (now (work .exit))
-        ≡ withKappas (replicate k (sharedKappa d (sumFrom plusZero (partsIn m k d (now (work .entry)) .norms)) whole)) (partsIn m k d (now (work .entry))) ⌝ }
+    ensures { λ _. ⌜ (let p = partsIn m k d (now (work .entry)) in
+        let q = partsIn m k d (now (work .exit)) in
+        q ≡ withKappas (replicate k (sharedKappa d (sumFrom plusZero (p .norms)) whole)) p) ⌝ }
 {
     let kappas = layout::kappas_at(k, d);
     let norms = layout::norms_at(k, d);
@@ -58,8 +60,9 @@ pub(crate) fn concentrate(
     d: usize,
 )
     requires { ⌜ Area (length (now work)) m k d ⌝ }
-    ensures { λ _. ⌜ partsIn m k d (now (work .exit))
-        ≡ withKappas (kappasOf kappa k d (partsIn m k d (now (work .entry)) .norms) (partsIn m k d (now (work .entry)) .totals) whole) (partsIn m k d (now (work .entry))) ⌝ }
+    ensures { λ _. ⌜ (let p = partsIn m k d (now (work .entry)) in
+        let q = partsIn m k d (now (work .exit)) in
+        q ≡ withKappas (kappasOf kappa k d (p .norms) (p .totals) whole) p) ⌝ }
 {
     match kappa {
         mixture_kappa::Kappa::Free => free_kappas(work, m, k, d),

@@ -1,16 +1,17 @@
-// The E-step: what a group adds to a leaf's log density, the log densities of each leaf, the responsibilities, and the log-likelihood.
+// The E-step: the log coefficient of each group, the log densities of each leaf, the responsibilities, and the
+// log-likelihood.
 ghost use mathlib.Core.Path.{_≡_};
 ghost use Prim.Native.Nat.{_+_, _*_, _<_, _≤_};
-ghost use lib.ListN.{length, getD, set};
-ghost use lib.Ieee.{nan, binary64, add, mul};
+ghost use lib.ListN.{length, set};
 ghost use Rattle.rows.specs.Rows.{putPart, rowOf};
 ghost use Rattle.bessel.specs.Start.{StartOf};
 ghost use Rattle.mixture_kappa.specs.Groups.{logNormOf};
-ghost use Rattle.mixture_run.specs.Mixture.{basesOf, likenessAt, likenesses, expectUpTo};
-ghost use Rattle.mixture_run.specs.Areas.{partsIn, modelOf, withBases, withResp, basedFour, fourLikenesses, Area, Leaves, LeafOf, GroupOf};
+ghost use Rattle.mixture_run.specs.Mixture.{logCoefficients, logDensityAt, logDensities, expectUpTo};
+ghost use Rattle.mixture_run.specs.Areas.{partsIn, modelOf, withLogCoefficients, withResp, logDensityBy};
+ghost use Rattle.mixture_run.specs.Areas.{logDensitiesBy, fourLogDensities, Area, Leaves, LeafOf, GroupOf};
 use super::layout;
 
-// That of a concentration after the last one, whose normalizer is `norm`; equal ones share it.
+// The log normalizer of a concentration after the last one, whose own is `norm`; equal ones share it.
 fn norm_for(kappa: f64, last: f64, norm: f64, d: usize, start: f64) -> f64
     requires { ⌜ (StartOf d start) × (norm ≡ logNormOf d last) ⌝ }
     ensures { λ r. ⌜ r ≡ logNormOf d kappa ⌝ }
@@ -21,16 +22,17 @@ fn norm_for(kappa: f64, last: f64, norm: f64, d: usize, start: f64) -> f64
     mixture_kappa::log_norm_from(kappa, d, start)
 }
 
-// The base of each group. The table is read once for all.
-pub(crate) fn put_bases(work: &mut [f64], m: usize, k: usize, d: usize)
+// The log coefficient of each group. The table is read once for all.
+pub(crate) fn put_log_coefficients(work: &mut [f64], m: usize, k: usize, d: usize)
     requires { ⌜ Area (length (now work)) m k d ⌝ }
-    ensures { λ _. ⌜ partsIn m k d (now (work .exit))
-        ≡ withBases (basesOf k d (modelOf (partsIn m k d (now (work .entry))))) (partsIn m k d (now (work .entry))) ⌝ }
+    ensures { λ _. ⌜ (let p = partsIn m k d (now (work .entry)) in
+        let q = partsIn m k d (now (work .exit)) in
+        q ≡ withLogCoefficients (logCoefficients k d (modelOf p)) p) ⌝ }
 {
     let start = gamma_table::ln_gamma_half(d);
     let weights = layout::weights_at(k, d);
     let kappas = layout::kappas_at(k, d);
-    let bases = layout::bases_at(k, d);
+    let coefficients = layout::log_coefficients_at(k, d);
     let mut last = work[kappas];
     let mut norm = mixture_kappa::log_norm_from(last, d, start);
     let mut c = 0;
@@ -38,48 +40,58 @@ pub(crate) fn put_bases(work: &mut [f64], m: usize, k: usize, d: usize)
         let kappa = work[kappas + c];
         norm = norm_for(kappa, last, norm, d, start);
         last = kappa;
-        work[bases + c] = mixture_kappa::base(work[weights + c], norm);
+        work[coefficients + c] = mixture_kappa::log_coefficient(work[weights + c], norm);
         c += 1;
     }
 }
 
-// The likeness that a dot gives, by the base at place `base` and the concentration at `kappa`.
-fn based_at(work: &[f64], base: usize, kappa: usize, v: f64) -> f64
-    requires { ⌜ (base < length (now work)) × (kappa < length (now work)) ⌝ }
-    ensures { λ r. ⌜ r ≡ add binary64 (getD (now (work .entry)) base nan) (mul binary64 (getD (now (work .entry)) kappa nan) v) ⌝ }
+// The log density that a dot gives, by the log coefficient at place `coefficient` and the concentration at `kappa`.
+fn log_density_by(work: &[f64], coefficient: usize, kappa: usize, v: f64) -> f64
+    requires { ⌜ (coefficient < length (now work)) × (kappa < length (now work)) ⌝ }
+    ensures { λ r. ⌜ r ≡ logDensityBy (now (work .entry)) coefficient kappa v ⌝ }
 {
-    work[base] + work[kappa] * v
+    work[coefficient] + work[kappa] * v
 }
 
-// The likeness of leaf i to group c.
-fn likeness(work: &[f64], coords: &[f64], i: usize, c: usize, m: usize, k: usize, d: usize) -> f64
+// The log density of leaf i in group c.
+fn log_density(
+    work: &[f64],
+    coords: &[f64],
+    i: usize,
+    c: usize,
+    m: usize,
+    k: usize,
+    d: usize,
+) -> f64
     requires { ⌜ Area (length (now work)) m k d ⌝ }
     requires { ⌜ (length (now coords) ≡ m * d) × (LeafOf i m k d) × (GroupOf c k d) ⌝ }
-    ensures { λ r. ⌜ r ≡ likenessAt d (partsIn m k d (now (work .entry)) .bases) (modelOf (partsIn m k d (now (work .entry)))) (rowOf (now (coords .entry)) d i) c ⌝ }
+    ensures { λ r. ⌜ (let p = partsIn m k d (now (work .entry)) in
+        r ≡ logDensityAt d (p .logCoefficients) (modelOf p) (rowOf (now (coords .entry)) d i) c) ⌝ }
 {
-    let base = layout::bases_at(k, d) + c;
+    let coefficient = layout::log_coefficients_at(k, d) + c;
     let kappa = layout::kappas_at(k, d) + c;
     let at = i * d;
     let row = c * d;
     let v = vector::dot(&coords[at..at + d], &work[row..row + d]);
-    based_at(work, base, kappa, v)
+    log_density_by(work, coefficient, kappa, v)
 }
 
-// The likenesses that four dots give, by the four bases from `base` on and the four concentrations from `kappa` on.
-fn based(work: &[f64], base: usize, kappa: usize, f: float::Four) -> float::Four
-    requires { ⌜ (base + 4 ≤ length (now work)) × (kappa + 4 ≤ length (now work)) ⌝ }
-    ensures { λ r. ⌜ r ≡ basedFour (now (work .entry)) base kappa f ⌝ }
+// The log densities that four dots give, by the four log coefficients from `coefficient` on and the four concentrations
+// from `kappa` on.
+fn log_densities_by(work: &[f64], coefficient: usize, kappa: usize, f: float::Four) -> float::Four
+    requires { ⌜ (coefficient + 4 ≤ length (now work)) × (kappa + 4 ≤ length (now work)) ⌝ }
+    ensures { λ r. ⌜ r ≡ logDensitiesBy (now (work .entry)) coefficient kappa f ⌝ }
 {
     float::Four {
-        a: based_at(work, base, kappa, f.a),
-        b: based_at(work, base + 1, kappa + 1, f.b),
-        c: based_at(work, base + 2, kappa + 2, f.c),
-        e: based_at(work, base + 3, kappa + 3, f.e),
+        a: log_density_by(work, coefficient, kappa, f.a),
+        b: log_density_by(work, coefficient + 1, kappa + 1, f.b),
+        c: log_density_by(work, coefficient + 2, kappa + 2, f.c),
+        e: log_density_by(work, coefficient + 3, kappa + 3, f.e),
     }
 }
 
-// The likenesses of leaf i to groups c to c + 3, by four dots at once.
-fn four_likenesses(
+// The log densities of leaf i in groups c to c + 3, by four dots at once.
+fn four_log_densities(
     work: &[f64],
     coords: &[f64],
     i: usize,
@@ -90,19 +102,21 @@ fn four_likenesses(
 ) -> float::Four
     requires { ⌜ Area (length (now work)) m k d ⌝ }
     requires { ⌜ (length (now coords) ≡ m * d) × (LeafOf i m k d) × (c + 4 ≤ k) × ((c + 4) * d ≤ k * d) ⌝ }
-    ensures { λ r. ⌜ r ≡ fourLikenesses d (partsIn m k d (now (work .entry)) .bases) (modelOf (partsIn m k d (now (work .entry)))) (rowOf (now (coords .entry)) d i) c ⌝ }
+    ensures { λ r. ⌜ (let p = partsIn m k d (now (work .entry)) in
+        r ≡ fourLogDensities d (p .logCoefficients) (modelOf p) (rowOf (now (coords .entry)) d i) c) ⌝ }
 {
-    let base = layout::bases_at(k, d) + c;
+    let coefficient = layout::log_coefficients_at(k, d) + c;
     let kappa = layout::kappas_at(k, d) + c;
     let at = i * d;
     let f = kmeans_nearest::row_dots(&coords[at..at + d], work, c, d);
-    based(work, base, kappa, f)
+    log_densities_by(work, coefficient, kappa, f)
 }
 
 // Four numbers stand from place `at` on.
 fn put_four(work: &mut [f64], at: usize, f: float::Four)
     requires { ⌜ at + 4 ≤ length (now work) ⌝ }
-    ensures { λ _. ⌜ now (work .exit) ≡ set (set (set (set (now (work .entry)) at (f .a)) (at + 1) (f .b)) (at + 2) (f .c)) (at + 3) (f .e) ⌝ }
+    ensures { λ _. ⌜ (let w = now (work .entry) in
+        now (work .exit) ≡ set (set (set (set w at (f .a)) (at + 1) (f .b)) (at + 2) (f .c)) (at + 3) (f .e)) ⌝ }
 {
     work[at] = f.a;
     work[at + 1] = f.b;
@@ -110,29 +124,30 @@ fn put_four(work: &mut [f64], at: usize, f: float::Four)
     work[at + 3] = f.e;
 }
 
-// The likenesses of leaf i stand where its responsibilities will: by fours, then singly.
-fn put_likenesses(work: &mut [f64], coords: &[f64], i: usize, m: usize, k: usize, d: usize)
+// The log densities of leaf i stand where its responsibilities will: by fours, then singly.
+fn put_log_densities(work: &mut [f64], coords: &[f64], i: usize, m: usize, k: usize, d: usize)
     requires { ⌜ Area (length (now work)) m k d ⌝ }
     requires { ⌜ (length (now coords) ≡ m * d) × (LeafOf i m k d) ⌝ }
-    ensures { λ _. ⌜ partsIn m k d (now (work .exit))
-        ≡ withResp (putPart (partsIn m k d (now (work .entry)) .resp) (i * k) k (likenesses k d (partsIn m k d (now (work .entry)) .bases) (modelOf (partsIn m k d (now (work .entry)))) (rowOf (now (coords .entry)) d i)))
-        (partsIn m k d (now (work .entry))) ⌝ }
+    ensures { λ _. ⌜ (let p = partsIn m k d (now (work .entry)) in
+        let q = partsIn m k d (now (work .exit)) in
+        let x = rowOf (now (coords .entry)) d i in
+        q ≡ withResp (putPart (p .resp) (i * k) k (logDensities k d (p .logCoefficients) (modelOf p) x)) p) ⌝ }
 {
     let row = layout::responsibilities_at(k, d) + i * k;
     let mut c = 0;
     while 4 <= k - c {
-        let f = four_likenesses(work, coords, i, c, m, k, d);
+        let f = four_log_densities(work, coords, i, c, m, k, d);
         put_four(work, row + c, f);
         c += 4;
     }
     while c < k {
-        let v = likeness(work, coords, i, c, m, k, d);
+        let v = log_density(work, coords, i, c, m, k, d);
         work[row + c] = v;
         c += 1;
     }
 }
 
-// The E-step: all responsibilities, from the likenesses that are written in their places first, and the log-likelihood.
+// All responsibilities, from the log densities that are written in their places first, and the log-likelihood.
 pub(crate) fn expect(
     work: &mut [f64],
     weights: &[f64],
@@ -143,16 +158,16 @@ pub(crate) fn expect(
 ) -> f64
     requires { ⌜ Area (length (now work)) m k d ⌝ }
     requires { ⌜ Leaves (length (now weights)) (length (now coords)) m d ⌝ }
-    ensures { λ r. ⌜ (r ≡ expectUpTo (now (weights .entry)) (now (coords .entry)) k d (partsIn m k d (now (work .entry)) .bases) (modelOf (partsIn m k d (now (work .entry)))) m .loglik)
-        × (partsIn m k d (now (work .exit))
-        ≡ withResp (expectUpTo (now (weights .entry)) (now (coords .entry)) k d (partsIn m k d (now (work .entry)) .bases) (modelOf (partsIn m k d (now (work .entry)))) m .resp)
-        (partsIn m k d (now (work .entry)))) ⌝ }
+    ensures { λ r. ⌜ (let p = partsIn m k d (now (work .entry)) in
+        let q = partsIn m k d (now (work .exit)) in
+        let e = expectUpTo (now (weights .entry)) (now (coords .entry)) k d (p .logCoefficients) (modelOf p) m in
+        (r ≡ e .loglik) × (q ≡ withResp (e .resp) p)) ⌝ }
 {
     let mut i = 0;
     while i < m {
-        put_likenesses(work, coords, i, m, k, d);
+        put_log_densities(work, coords, i, m, k, d);
         i += 1;
     }
     let resp = layout::responsibilities_at(k, d);
-    mixture_softmax::soften(&mut work[resp..resp + m * k], weights, k)
+    mixture_softmax::log_softmax_rows(&mut work[resp..resp + m * k], weights, k)
 }

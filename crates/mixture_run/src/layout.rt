@@ -1,8 +1,9 @@
-// The places of a work area: directions first, then resultants, then of each group its weight, concentration, log coefficient, whole weight
-// and length of resultant, then the responsibilities. Each is worked out here and nowhere else.
+// The places of a work area: directions first, then resultants, then of each group its weight, concentration, log
+// coefficient, whole weight and length of resultant, then the responsibilities. Each is worked out here, nowhere else.
 ghost use mathlib.Core.Path.{_≡_};
 ghost use Prim.Native.Nat.{_+_, _*_, _≤_};
-ghost use Rattle.mixture_run.specs.Areas.{weightsAt, kappasAt, basesAt, totalsAt, normsAt, respAt};
+ghost use Rattle.mixture_run.specs.Areas.{weightsAt, kappasAt, logCoefficientsAt, totalsAt, normsAt};
+ghost use Rattle.mixture_run.specs.Areas.{responsibilitiesAt};
 
 // Where the weights start.
 pub fn weights_at(k: usize, d: usize) -> usize
@@ -22,9 +23,9 @@ pub fn kappas_at(k: usize, d: usize) -> usize
 }
 
 // The log coefficients.
-pub fn bases_at(k: usize, d: usize) -> usize
+pub fn log_coefficients_at(k: usize, d: usize) -> usize
     requires { ⌜ (k ≤ 64) × (k * d ≤ 16384) ⌝ }
-    ensures { λ r. ⌜ r ≡ basesAt k d ⌝ }
+    ensures { λ r. ⌜ r ≡ logCoefficientsAt k d ⌝ }
 {
     kappas_at(k, d) + k
 }
@@ -34,7 +35,7 @@ pub fn totals_at(k: usize, d: usize) -> usize
     requires { ⌜ (k ≤ 64) × (k * d ≤ 16384) ⌝ }
     ensures { λ r. ⌜ r ≡ totalsAt k d ⌝ }
 {
-    bases_at(k, d) + k
+    log_coefficients_at(k, d) + k
 }
 
 // The lengths of the resultants.
@@ -48,7 +49,7 @@ pub fn norms_at(k: usize, d: usize) -> usize
 // The responsibilities.
 pub fn responsibilities_at(k: usize, d: usize) -> usize
     requires { ⌜ (k ≤ 64) × (k * d ≤ 16384) ⌝ }
-    ensures { λ r. ⌜ r ≡ respAt k d ⌝ }
+    ensures { λ r. ⌜ r ≡ responsibilitiesAt k d ⌝ }
 {
     norms_at(k, d) + k
 }

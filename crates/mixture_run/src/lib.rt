@@ -1,9 +1,9 @@
-// One run of the mixture of von Mises-Fisher distributions in a lent work area (vmf.rs, movmf_once; document 01, 'Mixture'): the warm start, then
-// rounds of E-step and M-step. The area holds directions, resultants, five numbers a group and the responsibilities, side by side;
-// specs/Areas.antt names the places. m leaves of d coordinates, k groups.
+// One run of the mixture of von Mises-Fisher distributions in a lent work area (vmf.rs, movmf_once; document 01,
+// 'Mixture'): the warm start, then rounds of E-step and M-step. The area holds directions, resultants, five numbers a
+// group and the responsibilities, side by side; specs/Areas.antt names the places. m leaves of d coordinates, k groups.
 ghost use mathlib.Core.Path.{_≡_};
 ghost use mathlib.Core.Bool.{true};
-ghost use Prim.Native.Nat.{_+_, _*_, _<_, _≤_};
+ghost use Prim.Native.Nat.{_*_, _<_, _≤_};
 ghost use lib.ListN.{length};
 ghost use lib.Ieee.{inf};
 ghost use Rattle.mixture_run.specs.Mixture.{emRound, stopsAt, emFrom};
@@ -28,9 +28,11 @@ fn em_round(
 ) -> f64
     requires { ⌜ Area (length (now work)) m k d ⌝ }
     requires { ⌜ Leaves (length (now weights)) (length (now coords)) m d ⌝ }
-    ensures { λ r. ⌜ emOf (partsIn m k d (now (work .exit))) r ≡ emRound kappa (now (weights .entry)) (now (coords .entry)) m k d (modelOf (partsIn m k d (now (work .entry)))) ⌝ }
+    ensures { λ r. ⌜ (let p = partsIn m k d (now (work .entry)) in
+        let q = partsIn m k d (now (work .exit)) in
+        emOf q r ≡ emRound kappa (now (weights .entry)) (now (coords .entry)) m k d (modelOf p)) ⌝ }
 {
-    expectation::put_bases(work, m, k, d);
+    expectation::put_log_coefficients(work, m, k, d);
     let loglik = expectation::expect(work, weights, coords, m, k, d);
     maximization::maximize_model(work, weights, coords, kappa, m, k, d);
     loglik
@@ -56,7 +58,9 @@ fn em(
 ) -> f64
     requires { ⌜ (Area (length (now work)) m k d) × (rounds ≤ 10000) ⌝ }
     requires { ⌜ Leaves (length (now weights)) (length (now coords)) m d ⌝ }
-    ensures { λ r. ⌜ emOf (partsIn m k d (now (work .exit))) r ≡ emFrom kappa (now (weights .entry)) (now (coords .entry)) m k d rounds 0 (emOf (partsIn m k d (now (work .entry))) (inf true)) ⌝ }
+    ensures { λ r. ⌜ (let p = partsIn m k d (now (work .entry)) in
+        let q = partsIn m k d (now (work .exit)) in
+        emOf q r ≡ emFrom kappa (now (weights .entry)) (now (coords .entry)) m k d rounds 0 (emOf p (inf true))) ⌝ }
 {
     let mut loglik = -1.0 / 0.0;
     let mut it = 0;
@@ -89,8 +93,10 @@ pub fn movmf_once(
     k: usize,
     d: usize,
 ) -> RunEnd
-    requires { ⌜ Runnable (length (now work)) (length (now marks)) (length (now weights)) (length (now coords)) m k d (s .rounds) ⌝ }
-    ensures { λ r. ⌜ RunDone (onceOf s (now (weights .entry)) (now (coords .entry)) m k d) (partsIn m k d (now (work .exit))) r ⌝ }
+    requires { ⌜ Runnable (length (now work)) (length (now marks)) (length (now weights)) (length (now coords)) m k d
+        (s .rounds) ⌝ }
+    ensures { λ r. ⌜ (let once = onceOf s (now (weights .entry)) (now (coords .entry)) m k d in
+        RunDone once (partsIn m k d (now (work .exit))) r) ⌝ }
 {
     let warm = kmeans_lloyd::run(work, marks, weights, coords, s.seed, m, k, d, 50);
     let kappa = s.kappa;

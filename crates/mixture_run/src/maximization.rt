@@ -1,4 +1,5 @@
-// The M-step: the groups' weights and resultants from the responsibilities, and from them weights, directions and concentrations.
+// The M-step: the sufficient statistics of the groups from the responsibilities, and from them weights, directions and
+// concentrations.
 ghost use mathlib.Core.Path.{_≡_};
 ghost use Prim.Native.Nat.{_+_, _*_, _<_, _≤_};
 ghost use lib.ListN.{length, getD};
@@ -7,21 +8,24 @@ ghost use Rattle.rows.specs.Rows.{Apart, part, putPart, rowOf};
 ghost use Rattle.vector.specs.Vectors.{addScaled, dividedBy};
 ghost use Rattle.kmeans_sums.specs.Sums.{normsUpTo};
 ghost use Rattle.mixture_kappa.specs.Kappas.{tabulate};
-ghost use Rattle.mixture_run.specs.Mixture.{gatherGroup, gatherLeaf, gatherUpTo, evenWeight, weightBy, weightAt, directionsUpTo, maximize};
-ghost use Rattle.mixture_run.specs.Areas.{partsIn, modelOf, gatheredOf, withDirections, withWeights, withNorms, withGathered, Area, Leaves, LeafOf, GroupOf};
+ghost use Rattle.mixture_run.specs.Mixture.{accumulateGroup, accumulateLeaf, statisticsUpTo, evenWeight};
+ghost use Rattle.mixture_run.specs.Mixture.{weightBy, weightAt, directionsUpTo, maximize};
+ghost use Rattle.mixture_run.specs.Areas.{partsIn, modelOf, statisticsOf, withDirections, withWeights};
+ghost use Rattle.mixture_run.specs.Areas.{withNorms, withStatistics, Area, Leaves, LeafOf, GroupOf};
 use super::concentration;
 use super::layout;
 
 // The row at `to` gains w times the row of coordinates at `from`.
 fn add_row(work: &mut [f64], coords: &[f64], w: f64, to: usize, from: usize, d: usize)
     requires { ⌜ (to + d ≤ length (now work)) × (from + d ≤ length (now coords)) ⌝ }
-    ensures { λ _. ⌜ now (work .exit) ≡ putPart (now (work .entry)) to d (addScaled w (part (now (work .entry)) to d) (part (now (coords .entry)) from d)) ⌝ }
+    ensures { λ _. ⌜ (let old = now (work .entry) in
+        now (work .exit) ≡ putPart old to d (addScaled w (part old to d) (part (now (coords .entry)) from d))) ⌝ }
 {
     vector::add_scaled(&mut work[to..to + d], w, &coords[from..from + d]);
 }
 
 // Group c gains leaf i, of this weight, times its responsibility.
-fn gather_group(
+fn accumulate_group(
     work: &mut [f64],
     coords: &[f64],
     weight: f64,
@@ -33,9 +37,10 @@ fn gather_group(
 )
     requires { ⌜ Area (length (now work)) m k d ⌝ }
     requires { ⌜ (length (now coords) ≡ m * d) × (LeafOf i m k d) × (GroupOf c k d) ⌝ }
-    ensures { λ _. ⌜ partsIn m k d (now (work .exit))
-        ≡ withGathered (gatherGroup d (mul binary64 weight (getD (rowOf (partsIn m k d (now (work .entry)) .resp) k i) c nan)) (rowOf (now (coords .entry)) d i) c (gatheredOf (partsIn m k d (now (work .entry)))))
-        (partsIn m k d (now (work .entry))) ⌝ }
+    ensures { λ _. ⌜ (let p = partsIn m k d (now (work .entry)) in
+        let q = partsIn m k d (now (work .exit)) in
+        let w = mul binary64 weight (getD (rowOf (p .resp) k i) c nan) in
+        q ≡ withStatistics (accumulateGroup d w (rowOf (now (coords .entry)) d i) c (statisticsOf p)) p) ⌝ }
 {
     let at = layout::totals_at(k, d) + c;
     let share = layout::responsibilities_at(k, d) + i * k + c;
@@ -45,7 +50,7 @@ fn gather_group(
 }
 
 // Every group gains leaf i.
-fn gather_leaf(
+fn accumulate_leaf(
     work: &mut [f64],
     weights: &[f64],
     coords: &[f64],
@@ -56,31 +61,34 @@ fn gather_leaf(
 )
     requires { ⌜ Area (length (now work)) m k d ⌝ }
     requires { ⌜ (Leaves (length (now weights)) (length (now coords)) m d) × (LeafOf i m k d) ⌝ }
-    ensures { λ _. ⌜ partsIn m k d (now (work .exit))
-        ≡ withGathered (gatherLeaf d (getD (now (weights .entry)) i nan) (rowOf (partsIn m k d (now (work .entry)) .resp) k i) (rowOf (now (coords .entry)) d i) (gatheredOf (partsIn m k d (now (work .entry)))) k)
-        (partsIn m k d (now (work .entry))) ⌝ }
+    ensures { λ _. ⌜ (let p = partsIn m k d (now (work .entry)) in
+        let q = partsIn m k d (now (work .exit)) in
+        let w = getD (now (weights .entry)) i nan in
+        let x = rowOf (now (coords .entry)) d i in
+        q ≡ withStatistics (accumulateLeaf d w (rowOf (p .resp) k i) x (statisticsOf p) k) p) ⌝ }
 {
     let weight = weights[i];
     let mut c = 0;
     while c < k {
-        gather_group(work, coords, weight, i, c, m, k, d);
+        accumulate_group(work, coords, weight, i, c, m, k, d);
         c += 1;
     }
 }
 
-// The weights and the resultants of the groups, from nothing.
-fn gather(work: &mut [f64], weights: &[f64], coords: &[f64], m: usize, k: usize, d: usize)
+// The sufficient statistics of the groups: their whole weights and resultants, from nothing.
+fn accumulate(work: &mut [f64], weights: &[f64], coords: &[f64], m: usize, k: usize, d: usize)
     requires { ⌜ Area (length (now work)) m k d ⌝ }
     requires { ⌜ Leaves (length (now weights)) (length (now coords)) m d ⌝ }
-    ensures { λ _. ⌜ partsIn m k d (now (work .exit))
-        ≡ withGathered (gatherUpTo (now (weights .entry)) (now (coords .entry)) (partsIn m k d (now (work .entry)) .resp) k d m) (partsIn m k d (now (work .entry))) ⌝ }
+    ensures { λ _. ⌜ (let p = partsIn m k d (now (work .entry)) in
+        let q = partsIn m k d (now (work .exit)) in
+        q ≡ withStatistics (statisticsUpTo (now (weights .entry)) (now (coords .entry)) (p .resp) k d m) p) ⌝ }
 {
     let kd = k * d;
     kmeans_layout::fill_at(work, kd, kd, 0.0);
     kmeans_layout::fill_at(work, layout::totals_at(k, d), k, 0.0);
     let mut i = 0;
     while i < m {
-        gather_leaf(work, weights, coords, i, m, k, d);
+        accumulate_leaf(work, weights, coords, i, m, k, d);
         i += 1;
     }
 }
@@ -88,7 +96,9 @@ fn gather(work: &mut [f64], weights: &[f64], coords: &[f64], m: usize, k: usize,
 // The length of each resultant.
 pub(crate) fn put_norms(work: &mut [f64], m: usize, k: usize, d: usize)
     requires { ⌜ Area (length (now work)) m k d ⌝ }
-    ensures { λ _. ⌜ partsIn m k d (now (work .exit)) ≡ withNorms (normsUpTo (partsIn m k d (now (work .entry)) .sums) d k) (partsIn m k d (now (work .entry))) ⌝ }
+    ensures { λ _. ⌜ (let p = partsIn m k d (now (work .entry)) in
+        let q = partsIn m k d (now (work .exit)) in
+        q ≡ withNorms (normsUpTo (p .sums) d k) p) ⌝ }
 {
     let sums = k * d;
     let norms = layout::norms_at(k, d);
@@ -124,8 +134,9 @@ fn weight_by(total: f64, whole: f64, k: usize) -> f64
 // The weight of each group.
 fn put_weights(work: &mut [f64], whole: f64, m: usize, k: usize, d: usize)
     requires { ⌜ Area (length (now work)) m k d ⌝ }
-    ensures { λ _. ⌜ partsIn m k d (now (work .exit))
-        ≡ withWeights (tabulate (weightAt k whole (partsIn m k d (now (work .entry)) .totals)) k) (partsIn m k d (now (work .entry))) ⌝ }
+    ensures { λ _. ⌜ (let p = partsIn m k d (now (work .entry)) in
+        let q = partsIn m k d (now (work .exit)) in
+        q ≡ withWeights (tabulate (weightAt k whole (p .totals)) k) p) ⌝ }
 {
     let weights = layout::weights_at(k, d);
     let totals = layout::totals_at(k, d);
@@ -152,8 +163,9 @@ fn divide_within(w: &mut [f64], from: usize, to: usize, n: usize, x: f64)
 fn redirect(work: &mut [f64], m: usize, k: usize, d: usize)
     requires { ⌜ Area (length (now work)) m k d ⌝ }
     requires { ⌜ partsIn m k d (now work) .norms ≡ normsUpTo (partsIn m k d (now work) .sums) d k ⌝ }
-    ensures { λ _. ⌜ partsIn m k d (now (work .exit))
-        ≡ withDirections (directionsUpTo d (partsIn m k d (now (work .entry)) .sums) (partsIn m k d (now (work .entry)) .directions) k) (partsIn m k d (now (work .entry))) ⌝ }
+    ensures { λ _. ⌜ (let p = partsIn m k d (now (work .entry)) in
+        let q = partsIn m k d (now (work .exit)) in
+        q ≡ withDirections (directionsUpTo d (p .sums) (p .directions) k) p) ⌝ }
 {
     let sums = k * d;
     let norms = layout::norms_at(k, d);
@@ -180,11 +192,12 @@ pub(crate) fn maximize_model(
 )
     requires { ⌜ Area (length (now work)) m k d ⌝ }
     requires { ⌜ Leaves (length (now weights)) (length (now coords)) m d ⌝ }
-    ensures { λ _. ⌜ (partsIn m k d (now (work .exit)) .resp ≡ partsIn m k d (now (work .entry)) .resp)
-        × (modelOf (partsIn m k d (now (work .exit)))
-        ≡ maximize kappa k d (modelOf (partsIn m k d (now (work .entry)))) (gatherUpTo (now (weights .entry)) (now (coords .entry)) (partsIn m k d (now (work .entry)) .resp) k d m)) ⌝ }
+    ensures { λ _. ⌜ (let p = partsIn m k d (now (work .entry)) in
+        let q = partsIn m k d (now (work .exit)) in
+        let g = statisticsUpTo (now (weights .entry)) (now (coords .entry)) (p .resp) k d m in
+        (q .resp ≡ p .resp) × (modelOf q ≡ maximize kappa k d (modelOf p) g)) ⌝ }
 {
-    gather(work, weights, coords, m, k, d);
+    accumulate(work, weights, coords, m, k, d);
     put_norms(work, m, k, d);
     let totals = layout::totals_at(k, d);
     let s = &work[..];

@@ -14,7 +14,9 @@ use super::maximization;
 fn label_totals(work: &mut [f64], marks: &[u32], weights: &[f64], m: usize, k: usize, d: usize)
     requires { ⌜ (Area (length (now work)) m k d) × (length (now weights) ≡ m) × (m ≤ length (now marks)) ⌝ }
     requires { ⌜ Labels m k (now marks) ⌝ }
-    ensures { λ _. ⌜ partsIn m k d (now (work .exit)) ≡ withTotals (labelTotalsUpTo (now (weights .entry)) (take m (now (marks .entry))) k m) (partsIn m k d (now (work .entry))) ⌝ }
+    ensures { λ _. ⌜ (let p = partsIn m k d (now (work .entry)) in
+        let q = partsIn m k d (now (work .exit)) in
+        q ≡ withTotals (labelTotalsUpTo (now (weights .entry)) (take m (now (marks .entry))) k m) p) ⌝ }
 {
     let totals = layout::totals_at(k, d);
     kmeans_layout::fill_at(work, totals, k, 0.0);
@@ -38,8 +40,10 @@ pub(crate) fn init_kappas(
 )
     requires { ⌜ (Area (length (now work)) m k d) × (length (now weights) ≡ m) × (m ≤ length (now marks)) ⌝ }
     requires { ⌜ Labels m k (now marks) ⌝ }
-    ensures { λ _. ⌜ (partsIn m k d (now (work .exit)) .directions ≡ partsIn m k d (now (work .entry)) .directions)
-        × (partsIn m k d (now (work .exit)) .kappas ≡ startKappasBy kappa k d (partsIn m k d (now (work .entry)) .sums) (labelTotalsUpTo (now (weights .entry)) (take m (now (marks .entry))) k m)) ⌝ }
+    ensures { λ _. ⌜ (let p = partsIn m k d (now (work .entry)) in
+        let q = partsIn m k d (now (work .exit)) in
+        let totals = labelTotalsUpTo (now (weights .entry)) (take m (now (marks .entry))) k m in
+        (q .directions ≡ p .directions) × (q .kappas ≡ startKappasBy kappa k d (p .sums) totals)) ⌝ }
 {
     label_totals(work, marks, weights, m, k, d);
     maximization::put_norms(work, m, k, d);
@@ -52,7 +56,9 @@ pub(crate) fn init_kappas(
 // Weights 1 / k, and no responsibilities.
 pub(crate) fn clear(work: &mut [f64], m: usize, k: usize, d: usize)
     requires { ⌜ Area (length (now work)) m k d ⌝ }
-    ensures { λ _. ⌜ partsIn m k d (now (work .exit)) ≡ withResp (replicate (m * k) plusZero) (withWeights (replicate k (evenWeight k)) (partsIn m k d (now (work .entry)))) ⌝ }
+    ensures { λ _. ⌜ (let p = partsIn m k d (now (work .entry)) in
+        let q = partsIn m k d (now (work .exit)) in
+        q ≡ withResp (replicate (m * k) plusZero) (withWeights (replicate k (evenWeight k)) p)) ⌝ }
 {
     kmeans_layout::fill_at(
         work,

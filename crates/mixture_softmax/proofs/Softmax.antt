@@ -1,5 +1,5 @@
--- Laws of one row (specs/Softmax.antt): for each loop a turn and its end; eight exponentials; the sum and the shares of a row by the exponentials of what it is less
--- a number. Assumes nothing.
+-- Laws of one row (specs/Softmax.antt): for each loop a turn and its end; eight exponentials; the sum and the shares of a row by the
+-- exponentials of what it is less a number. Assumes nothing.
 use mathlib.Core.Path.{_≡_, refl, ap, _∙_}
 use mathlib.Core.List.{List, [], _∷_, _++_, map, map-append, append-assoc, append-nil}
 use Prim.Native.Nat.{ℕ, zero, suc, _+_, _≤_, _<_}
@@ -13,11 +13,13 @@ use Rattle.exponential.specs.Exponential.{expOf}
 use Rattle.exponential.specs.Fours.{exponentials, eightOf}
 use Rattle.exponential.specs.declared.Eight.{Eight}
 use Rattle.rows.specs.Rows.{putPart}
-use Rattle.mixture_softmax.specs.Softmax.{greatestFrom, expSumFrom, sharesOf, lessBy, logSumExp, logSumOver, fromGreatest}
+use Rattle.mixture_softmax.specs.Softmax.{greatestFrom, expSumFrom, sharesOf, logSumExp}
+use Rattle.mixture_softmax.specs.Blocks.{lessBy, logSumOver, fromGreatest}
 
 -- ---- the greatest
 module _ (row : List Float) (j : ℕ) where
-  pub greatest-turn : (g v : Float) → j < length row → v ≡ maxOf g (getD row j nan) → greatestFrom v (drop (j + 1) row) ≡ greatestFrom g (drop j row)
+  pub greatest-turn : (g v : Float) → j < length row → v ≡ maxOf g (getD row j nan)
+      → greatestFrom v (drop (j + 1) row) ≡ greatestFrom g (drop j row)
   greatest-turn g v h e = rw (e, add-one, drop-cons row j nan)
 
   pub greatest-end : (g : Float) → length row ≤ j → greatestFrom g (drop j row) ≡ g
@@ -25,7 +27,8 @@ module _ (row : List Float) (j : ℕ) where
 
 -- ---- a row less g
 module _ (e row : List Float) (j : ℕ) (g : Float) (same : length e ≡ length row) where
-  pub less-turn : j < length row → take (j + 1) (set e j (sub binary64 (getD row j nan) g)) ++ lessBy g (drop (j + 1) row) ≡ take j e ++ lessBy g (drop j row)
+  pub less-turn : j < length row
+      → take (j + 1) (set e j (sub binary64 (getD row j nan) g)) ++ lessBy g (drop (j + 1) row) ≡ take j e ++ lessBy g (drop j row)
   less-turn h =
       let k : j < length e = omega arith in
       rw (add-one, take-suc-set, drop-cons row j nan, append-assoc)
@@ -50,7 +53,8 @@ pub eight-done : (l : List Float) (f : Eight) → length l ≡ 8
     → f
     ≡ eightOf (exponentials (record { a = getD l 0 nan; b = getD l 1 nan; c = getD l 2 nan; e = getD l 3 nan }))
     (exponentials (record { a = getD l 4 nan; b = getD l 5 nan; c = getD l 6 nan; e = getD l 7 nan }))
-    → set (set (set (set (set (set (set (set l 0 (f .first .a)) 1 (f .first .b)) 2 (f .first .c)) 3 (f .first .e)) 4 (f .last .a)) 5 (f .last .b)) 6 (f .last .c)) 7 (f .last .e)
+    → set (set (set (set (set (set (set (set l 0 (f .first .a)) 1 (f .first .b)) 2 (f .first .c)) 3 (f .first .e)) 4 (f .last .a)) 5
+    (f .last .b)) 6 (f .last .c)) 7 (f .last .e)
     ≡ map expOf l
 eight-done [] f h e = absurd (omega arith)
 eight-done (_ ∷ []) f h e = absurd (omega arith)

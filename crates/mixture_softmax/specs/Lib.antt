@@ -1,1 +1,3 @@
 pub mod Softmax
+pub mod Leaves
+pub mod Blocks

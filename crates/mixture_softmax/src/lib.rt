@@ -1,5 +1,6 @@
-// The log-space softmax of many leaves (vmf.rs, the E-step of movmf_once; document 01, 'Mixture'), over lent rows of their likenesses to k groups. The exponentials
-// of a block of leaves are worked out in one run, eight at a time across the borders of the rows.
+// The log-space softmax of many leaves (vmf.rs, the E-step of movmf_once; document 01, 'Mixture'), over lent rows of
+// their log densities in k groups. The exponentials of a block of leaves are worked out in one run, eight at a time
+// across the borders of the rows.
 ghost use mathlib.Core.Path.{_≡_};
 ghost use mathlib.Core.Bool.{true, false};
 ghost use mathlib.Core.List.{_++_, map};
@@ -9,7 +10,10 @@ ghost use lib.Ieee.{inf, isNan};
 ghost use Rattle.float.specs.Arithmetic.{plusZero, maxOf};
 ghost use Rattle.exponential.specs.Exponential.{expOf};
 ghost use Rattle.rows.specs.Rows.{Alike, putPart, rowOf};
-ghost use Rattle.mixture_softmax.specs.Softmax.{greatestFrom, sharesUpTo, logsUpTo, lessBy, fromGreatest, logSumOver, logOverAt, fromGreatests, fromLogs, logsOver, LeafRows, Block, Beside};
+ghost use Rattle.mixture_softmax.specs.Softmax.{greatestFrom};
+ghost use Rattle.mixture_softmax.specs.Leaves.{sharesUpTo, logsUpTo, LeafRows};
+ghost use Rattle.mixture_softmax.specs.Blocks.{lessBy, fromGreatest, logSumOver, logOverAt, fromGreatests};
+ghost use Rattle.mixture_softmax.specs.Blocks.{fromLogs, logsOver, Block, Beside};
 
 // The greater of g and x, the first of equals. g is no NaN, so that one comparison is enough.
 fn greater(g: f64, x: f64) -> f64
@@ -74,8 +78,9 @@ fn exp_eight(e: &mut [f64])
     e[7] = q.e;
 }
 
-// The first n elements become their exponentials, sixteen at a time; so do up to fifteen after them. In two calls a turn `exp_eight` stays a function of its own: within
-// the loop the compiler puts its four chains of divisions one after the other, which takes a third longer.
+// The first n elements become their exponentials, sixteen at a time; so do up to fifteen after them. In two calls a
+// turn `exp_eight` stays a function of its own: within the loop the compiler puts its four chains of divisions one
+// after the other, which takes a third longer.
 fn exp_front(e: &mut [f64], n: usize)
     requires { ⌜ n + 15 ≤ length (now e) ⌝ }
     ensures { λ _. ⌜ take n (now (e .exit)) ≡ map expOf (take n (now (e .entry))) ⌝ }
@@ -112,7 +117,8 @@ fn less_greatests(e: &mut [f64], rows: &[f64], m: usize, k: usize)
 // The log-sum of a row, of which e holds the exponentials; e becomes the row less that.
 fn less_log_sum(e: &mut [f64], row: &[f64]) -> f64
     requires { ⌜ Alike (now e) (now row) ⌝ }
-    ensures { λ r. ⌜ (r ≡ logSumOver (now (row .entry)) (now (e .entry))) × (now (e .exit) ≡ lessBy r (now (row .entry))) ⌝ }
+    ensures { λ r. ⌜ (r ≡ logSumOver (now (row .entry)) (now (e .entry)))
+        × (now (e .exit) ≡ lessBy r (now (row .entry))) ⌝ }
 {
     let lse = greatest(row) + logarithm::ln(vector::fold(e));
     less(e, row, lse);
@@ -122,7 +128,8 @@ fn less_log_sum(e: &mut [f64], row: &[f64]) -> f64
 // The same of leaf i among m, with its rows of e and of the rows.
 fn leaf_log_sum(e: &mut [f64], rows: &[f64], i: usize, m: usize, k: usize) -> f64
     requires { ⌜ (i < m) × (Beside (length (now e)) (length (now rows)) m k) ⌝ }
-    ensures { λ r. ⌜ (r ≡ logOverAt k (now (rows .entry)) (now (e .entry)) i) × (now (e .exit) ≡ putPart (now (e .entry)) (i * k) k (lessBy r (rowOf (now (rows .entry)) k i))) ⌝ }
+    ensures { λ r. ⌜ (r ≡ logOverAt k (now (rows .entry)) (now (e .entry)) i)
+        × (now (e .exit) ≡ putPart (now (e .entry)) (i * k) k (lessBy r (rowOf (now (rows .entry)) k i))) ⌝ }
 {
     let at = i * k;
     less_log_sum(&mut e[at..at + k], &rows[at..at + k])
@@ -131,8 +138,10 @@ fn leaf_log_sum(e: &mut [f64], rows: &[f64], i: usize, m: usize, k: usize) -> f6
 // The rows of e become the rows less their log-sums; l, with the weight of each leaf times its log-sum added in order.
 fn less_log_sums(e: &mut [f64], rows: &[f64], weights: &[f64], k: usize, l: f64) -> f64
     requires { ⌜ Beside (length (now e)) (length (now rows)) (length (now weights)) k ⌝ }
-    ensures { λ r. ⌜ (r ≡ logsOver k (now (rows .entry)) (now (e .entry)) (now (weights .entry)) l (length (now (weights .entry))))
-        × (now (e .exit) ≡ fromLogs k (now (rows .entry)) (now (e .entry)) (length (now (weights .entry))) ++ drop (length (now (weights .entry)) * k) (now (e .entry))) ⌝ }
+    ensures { λ r. ⌜ (let m = length (now (weights .entry)) in
+        let old = now (e .entry) in
+        (r ≡ logsOver k (now (rows .entry)) old (now (weights .entry)) l m)
+        × (now (e .exit) ≡ fromLogs k (now (rows .entry)) old m ++ drop (m * k) old)) ⌝ }
 {
     let m = weights.len();
     let mut s = l;
@@ -146,10 +155,11 @@ fn less_log_sums(e: &mut [f64], rows: &[f64], weights: &[f64], k: usize, l: f64)
 }
 
 // A block of leaves.
-fn soften_block(rows: &mut [f64], weights: &[f64], k: usize, l: f64) -> f64
+fn log_softmax_block(rows: &mut [f64], weights: &[f64], k: usize, l: f64) -> f64
     requires { ⌜ Block (length (now rows)) (length (now weights)) k ⌝ }
-    ensures { λ r. ⌜ (r ≡ logsUpTo k (now (rows .entry)) (now (weights .entry)) l (length (now (weights .entry))))
-        × (now (rows .exit) ≡ sharesUpTo k (now (rows .entry)) (length (now (weights .entry)))) ⌝ }
+    ensures { λ r. ⌜ (let m = length (now (weights .entry)) in
+        (r ≡ logsUpTo k (now (rows .entry)) (now (weights .entry)) l m)
+        × (now (rows .exit) ≡ sharesUpTo k (now (rows .entry)) m)) ⌝ }
 {
     let mut e = [0.0; 271];
     let n = rows.len();
@@ -173,18 +183,19 @@ fn block_end(i: usize, m: usize, k: usize) -> usize
     i + most
 }
 
-// The rows of likenesses become the leaves' responsibilities; the log-likelihood.
-pub fn soften(rows: &mut [f64], weights: &[f64], k: usize) -> f64
+// The rows of log densities become the leaves' responsibilities; the log-likelihood.
+pub fn log_softmax_rows(rows: &mut [f64], weights: &[f64], k: usize) -> f64
     requires { ⌜ LeafRows (length (now rows)) (length (now weights)) k ⌝ }
-    ensures { λ r. ⌜ (r ≡ logsUpTo k (now (rows .entry)) (now (weights .entry)) plusZero (length (now (weights .entry))))
-        × (now (rows .exit) ≡ sharesUpTo k (now (rows .entry)) (length (now (weights .entry)))) ⌝ }
+    ensures { λ r. ⌜ (let m = length (now (weights .entry)) in
+        (r ≡ logsUpTo k (now (rows .entry)) (now (weights .entry)) plusZero m)
+        × (now (rows .exit) ≡ sharesUpTo k (now (rows .entry)) m)) ⌝ }
 {
     let m = weights.len();
     let mut l = 0.0;
     let mut i = 0;
     while i < m {
         let end = block_end(i, m, k);
-        l = soften_block(&mut rows[i * k..end * k], &weights[i..end], k, l);
+        l = log_softmax_block(&mut rows[i * k..end * k], &weights[i..end], k, l);
         i = end;
     }
     l

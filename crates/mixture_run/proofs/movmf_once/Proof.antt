@@ -1,5 +1,5 @@
--- `mixture_run::movmf_once` meets its contract: the warm start, the concentrations, the clearing and the rounds, each by what it ensures, over arrays whose lengths
--- stay. Assumes nothing.
+-- `mixture_run::movmf_once` meets its contract: the warm start, the concentrations, the clearing and the rounds, each by what it ensures,
+-- over arrays whose lengths stay. Assumes nothing.
 use mathlib.Core.Path.{_∙_}
 use native.Mathlib.Omega.{arith}
 use lib.ListN.{length}
@@ -12,21 +12,28 @@ run-requires : tie.Need-run-requires
 run-requires c κs =
     let s = c .before .before .before .before .before .before in
     let a = s .args in
-    warm-sized (length (a .work .now)) (length (a .marks .now)) (length (a .weights .now)) (length (a .coords .now)) (a .m) (a .k) (a .d) (a .s .rounds) (s .pre)
+    warm-sized (length (a .work .now)) (length (a .marks .now)) (length (a .weights .now)) (length (a .coords .now)) (a .m) (a .k) (a .d)
+    (a .s .rounds) (s .pre)
 
 -- places, each from a later one
 abbrev start : tie.After-run → tie.Start
 start p = p .before .before .before .before .before .before .before
 
 abbrev run-at : tie.After-slice-known7 → tie.After-run
-run-at p = let q = p .before .before .before .before .before .before in let r = q .before .before .before .before .before .before in r .before .before .before .before .before
+run-at p =
+    let q = p .before .before .before .before .before .before in let r = q .before .before .before .before .before .before in
+    r .before .before .before .before .before
 
 init-kappas-requires : tie.Need-init-kappas-requires
 init-kappas-requires c κs =
     let s = start (c .before .before .before .before .before .before) in
     let a = s .args in
     let r = c .before .before .before .before .before .before .run in (
-      (area-of _ _ (a .m) (a .k) (a .d) (r .kept .0) (s .pre .area), s .pre .leaves .weights-long, omega (arith, r .kept .1 .0, s .pre .marks-long)),
+      (
+        area-of _ _ (a .m) (a .k) (a .d) (r .kept .0) (s .pre .area),
+        s .pre .leaves .weights-long,
+        omega (arith, r .kept .1 .0, s .pre .marks-long),
+      ),
       labels-warm (a .weights .now) (a .coords .now) (a .m) (a .k) (a .d) _ _ (r .ensures .1),
     )
 
@@ -65,7 +72,8 @@ returns c =
     let i = e .before .before .before .before in
     let r = i .before .before .before .before .before .before .before in
     let a = r .before .before .before .before .before .before .before .args in
-    run-done (a .s) (a .weights .now) (a .coords .now) (a .m) (a .k) (a .d) _ _ _ _ _ (r .run .result) (m .result) (r .run .ensures .0) (r .run .ensures .1)
+    run-done (a .s) (a .weights .now) (a .coords .now) (a .m) (a .k) (a .d) _ _ _ _ _ (r .run .result) (m .result) (r .run .ensures .0)
+    (r .run .ensures .1)
     (i .init-kappas .ensures .0) (i .init-kappas .ensures .1) (e .clear .ensures) (m .ensures)
 
 pub movmf-once-spec : {M : Type 1} → statement M

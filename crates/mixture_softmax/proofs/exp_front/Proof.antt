@@ -1,5 +1,5 @@
--- `mixture_softmax::exp_front` meets its contract. The loop's invariant: the elements passed are replaced by their exponentials. The measure is what is left of the n.
--- Assumes nothing.
+-- `mixture_softmax::exp_front` meets its contract. The loop's invariant: the elements passed are replaced by their exponentials. The
+-- measure is what is left of the n. Assumes nothing.
 use mathlib.Core.Path.{_≡_, refl, ap, _∙_}
 use Prim.Native.Nat.{_+_, _-_, _≤_}
 use native.Mathlib.Omega.{arith}
@@ -32,8 +32,12 @@ loop-again c =
     let h : l .j + 16 ≤ length (a .e .now) = omega (arith, loop .loop-test .taken, loop .before .before .before .pre) in
     let j = l .j + 8 in
     let first = exps-turn (a .e .now) (l .e) (l .j) (omega arith) (l .inv .2) (j - l .j) (x .last .0) (omega arith) (x .ensures) in
-    let e : j + 8 ≡ l .j + 16 = omega arith in
-    (search needs, omega arith, exps-turn (a .e .now) _ j (omega arith) first (l .j + 16 - j) (y .last .0) (omega arith) (y .ensures) ∙ ap (expsTo (a .e .now)) e)
+    let e : j + 8 ≡ l .j + 16 = omega arith in (
+      search needs,
+      omega arith,
+      exps-turn (a .e .now) _ j (omega arith) first (l .j + 16 - j) (y .last .0) (omega arith) (y .ensures)
+          ∙ ap (expsTo (a .e .now)) e,
+    )
 
 same-length : tie.Need-same-length Inv-loop μ-loop
 same-length c = c .before .loop .inv .0

@@ -1,5 +1,5 @@
--- `mixture_softmax::greatest` meets its contract. The loop's invariant: the greatest so far is no NaN and, with what is left of the row, gives the greatest of the whole row.
--- The measure is what is left of the row. Assumes nothing.
+-- `mixture_softmax::greatest` meets its contract. The loop's invariant: the greatest so far is no NaN and, with what is left of the row,
+-- gives the greatest of the whole row. The measure is what is left of the row. Assumes nothing.
 use mathlib.Core.Path.{_≡_, refl, sym, _∙_}
 use mathlib.Core.Bool.{true, false}
 use Prim.Native.Nat.{_≤_, _-_}
@@ -25,8 +25,11 @@ loop-holds c = (omega arith, refl, refl)
 loop-again : tie.Need-loop-again Inv-loop μ-loop
 loop-again c =
     let l = c .before .before .before .loop in
-    let a = c .before .before .before .before .before .args in
-    (omega arith, c .greater .ensures .1, greatest-turn (a .row .now) (l .j) (l .g) (c .greater .result) (omega arith) (c .greater .ensures .0) ∙ l .inv .2)
+    let a = c .before .before .before .before .before .args in (
+      omega arith,
+      c .greater .ensures .1,
+      greatest-turn (a .row .now) (l .j) (l .g) (c .greater .result) (omega arith) (c .greater .ensures .0) ∙ l .inv .2,
+    )
 
 returns : tie.Need-returns Inv-loop μ-loop
 returns c =

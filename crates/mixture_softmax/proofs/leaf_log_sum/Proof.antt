@@ -8,7 +8,8 @@ use borrow.Author.Needs.{needs}
 use Rattle.mixture_softmax.proofs.leaf_log_sum.Statement.{statement}
 use Rattle.mixture_softmax.proofs.leaf_log_sum.Tie as tie
 
-row-in : (c : tie.Start) → let a = c .args in (a .i * a .k + a .k ≤ length (a .rows .now)) × (length (a .rows .now) ≤ length (a .e .now)) × (length (a .rows .now) ≤ 256)
+row-in : (c : tie.Start) → let a =
+    c .args in (a .i * a .k + a .k ≤ length (a .rows .now)) × (length (a .rows .now) ≤ length (a .e .now)) × (length (a .rows .now) ≤ 256)
 row-in c =
     let a = c .args in
     let p = c .pre .1 in

@@ -1,11 +1,11 @@
--- `mixture_softmax::less` meets its contract. The loop's invariant: the elements passed, then what is left of the row less g, are the row less g. The measure is what is
--- left of the row. Assumes nothing.
+-- `mixture_softmax::less` meets its contract. The loop's invariant: the elements passed, then what is left of the row less g, are the row
+-- less g. The measure is what is left of the row. Assumes nothing.
 use mathlib.Core.Path.{_≡_, refl, sym, _∙_}
 use mathlib.Core.List.{_++_}
 use Prim.Native.Nat.{_≤_, _-_}
 use native.Mathlib.Omega.{arith}
 use lib.ListN.{length, take, drop, length-set}
-use Rattle.mixture_softmax.specs.Softmax.{lessBy}
+use Rattle.mixture_softmax.specs.Blocks.{lessBy}
 use Rattle.mixture_softmax.proofs.Softmax.{less-turn, less-end}
 use borrow.Author.Needs.{needs}
 use Rattle.mixture_softmax.proofs.less.Statement.{statement}

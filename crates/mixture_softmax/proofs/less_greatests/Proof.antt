@@ -1,12 +1,12 @@
--- `mixture_softmax::less_greatests` meets its contract. The loop's invariant: the first i rows of e are done, and what follows is as it was. The measure is the rows left.
--- Assumes nothing.
+-- `mixture_softmax::less_greatests` meets its contract. The loop's invariant: the first i rows of e are done, and what follows is as it
+-- was. The measure is the rows left. Assumes nothing.
 use mathlib.Core.Path.{_≡_, refl, ap, _∙_}
 use mathlib.Core.List.{_++_}
 use Prim.Native.Nat.{ℕ, _+_, _*_, _-_, _≤_}
 use native.Mathlib.Omega.{arith}
 use lib.ListN.{length, drop}
 use Rattle.rows.proofs.Rows.{row-within}
-use Rattle.mixture_softmax.specs.Softmax.{fromGreatestAt, fromGreatests}
+use Rattle.mixture_softmax.specs.Blocks.{fromGreatestAt, fromGreatests}
 use Rattle.mixture_softmax.proofs.Joined.{joined-none}
 use Rattle.mixture_softmax.proofs.Blocks.{parts-alike, greatests-turn}
 use borrow.Author.Needs.{needs}
@@ -27,12 +27,16 @@ loop-holds c =
 -- row i lies within e and within the rows
 row-in : (c : tie.In-loop Inv-loop μ-loop) → let l = c .before .loop in
     let s = c .before .before .before .before in
-    let a = s .args in (l .i * a .k + a .k ≤ length (a .rows .now)) × (length (a .rows .now) ≤ length (l .e)) × (length (a .rows .now) ≤ 256)
+    let a =
+    s .args in (l .i * a .k + a .k ≤ length (a .rows .now)) × (length (a .rows .now) ≤ length (l .e)) × (length (a .rows .now) ≤ 256)
 row-in c =
     let l = c .before .loop in
     let s = c .before .before .before .before in
-    let a = s .args in
-    (omega (arith, row-within (l .i) (a .m) (a .k) (c .loop-test .taken), s .pre .rows-long), omega (arith, l .inv .1, s .pre .e-long), s .pre .rows-small)
+    let a = s .args in (
+      omega (arith, row-within (l .i) (a .m) (a .k) (c .loop-test .taken), s .pre .rows-long),
+      omega (arith, l .inv .1, s .pre .e-long),
+      s .pre .rows-small,
+    )
 
 mul-at : tie.Need-mul-at Inv-loop μ-loop
 mul-at c = omega (arith, row-in c)
@@ -80,7 +84,9 @@ loop-again c =
     let g = c .before .before .less-greatest in (
       omega (arith, c .before .before .before .before .before .loop-test .taken),
       search needs,
-      greatests-turn (a .k) (a .rows .now) (a .m) (s .pre .rows-long) (a .e .now) (l .e) (g .last .0) (l .i) (l .i * a .k + a .k - l .i * a .k) (c .before .before .before .before .before .loop-test .taken) (omega arith) (l .inv .2) (g .ensures),
+      greatests-turn (a .k) (a .rows .now) (a .m) (s .pre .rows-long) (a .e .now) (l .e) (g .last .0) (l .i)
+          (l .i * a .k + a .k - l .i * a .k) (c .before .before .before .before .before .loop-test .taken) (omega arith) (l .inv .2)
+          (g .ensures),
     )
 
 same-length : tie.Need-same-length Inv-loop μ-loop

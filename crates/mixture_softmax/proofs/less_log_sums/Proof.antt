@@ -1,11 +1,11 @@
--- `mixture_softmax::less_log_sums` meets its contract. The loop's invariant: the rows of e before those that are left are done, what follows is as it was, and the sum is
--- theirs. The measure is the rows left. Assumes nothing.
+-- `mixture_softmax::less_log_sums` meets its contract. The loop's invariant: the rows of e before those that are left are done, what
+-- follows is as it was, and the sum is theirs. The measure is the rows left. Assumes nothing.
 use mathlib.Core.Path.{_≡_, refl, ap, _∙_}
 use mathlib.Core.List.{_++_}
 use Prim.Native.Nat.{ℕ, _+_, _*_, _-_, _≤_, _<_}
 use native.Mathlib.Omega.{arith}
 use lib.ListN.{length, drop}
-use Rattle.mixture_softmax.specs.Softmax.{logOverAt, fromLogAt, fromLogs, logsOver}
+use Rattle.mixture_softmax.specs.Blocks.{logOverAt, fromLogAt, fromLogs, logsOver}
 use Rattle.mixture_softmax.proofs.Joined.{joined-none, weighed-none, weighed-turn}
 use Rattle.mixture_softmax.proofs.Blocks.{log-row, logs-turn}
 use borrow.Author.Needs.{needs}
@@ -26,8 +26,10 @@ loop-holds c =
     let z : 0 ≡ length (a .weights .now) - length (a .weights .now) = omega arith in (
       omega arith,
       refl,
-      weighed-none (logOverAt (a .k) (a .rows .now) (a .e .now)) (a .weights .now) (a .l) ∙ ap (logsOver (a .k) (a .rows .now) (a .e .now) (a .weights .now) (a .l)) z,
-      joined-none (fromLogAt (a .k) (a .rows .now) (a .e .now)) (a .k) (a .e .now) ∙ ap (λ (n : ℕ). fromLogs (a .k) (a .rows .now) (a .e .now) n ++ drop (n * a .k) (a .e .now)) z,
+      weighed-none (logOverAt (a .k) (a .rows .now) (a .e .now)) (a .weights .now) (a .l)
+          ∙ ap (logsOver (a .k) (a .rows .now) (a .e .now) (a .weights .now) (a .l)) z,
+      joined-none (fromLogAt (a .k) (a .rows .now) (a .e .now)) (a .k) (a .e .now)
+          ∙ ap (λ (n : ℕ). fromLogs (a .k) (a .rows .now) (a .e .now) n ++ drop (n * a .k) (a .e .now)) z,
     )
 
 -- places, each from a later one
@@ -50,7 +52,8 @@ loop-again c =
       search needs,
       weighed-turn (logOverAt (a .k) (a .rows .now) (a .e .now)) (a .weights .now) (a .l) (l .s) (g .result) i (l .inv .2) is
           ∙ ap (logsOver (a .k) (a .rows .now) (a .e .now) (a .weights .now) (a .l)) f,
-      logs-turn (a .k) (a .rows .now) m (s .pre .rows-long) (a .e .now) (l .e) i h (l .inv .3) (g .result) (g .ensures .0) (g .last .0) (g .ensures .1)
+      logs-turn (a .k) (a .rows .now) m (s .pre .rows-long) (a .e .now) (l .e) i h (l .inv .3) (g .result) (g .ensures .0) (g .last .0)
+          (g .ensures .1)
           ∙ ap (λ (n : ℕ). fromLogs (a .k) (a .rows .now) (a .e .now) n ++ drop (n * a .k) (a .e .now)) f,
     )
 

@@ -1,4 +1,5 @@
--- `mixture_run::concentration::free_kappas` meets its contract. The loop's invariant: the concentrations of the first c groups stand before what was there. Assumes nothing.
+-- `mixture_run::concentration::free_kappas` meets its contract. The loop's invariant: the concentrations of the first c groups stand before
+-- what was there. Assumes nothing.
 use mathlib.Core.Path.{_≡_, refl, ap₂, _∙_}
 use Prim.Native.Nat.{_+_, _-_, _≤_, _<_}
 use native.Mathlib.Omega.{arith}
@@ -15,7 +16,8 @@ use Rattle.mixture_run.proofs.concentration.free_kappas.Tie as tie
 
 abbrev Inv-loop : tie.InvT-loop
 Inv-loop work₀ m k d kappas totals norms c₀ work c =
-    (c ≤ k) × (length work ≡ length work₀) × Written kappasR (kappaAt d (partsIn m k d work₀ .norms) (partsIn m k d work₀ .totals)) m k d work₀ c work
+    (c ≤ k) × (length work ≡ length work₀)
+    × Written kappasR (kappaAt d (partsIn m k d work₀ .norms) (partsIn m k d work₀ .totals)) m k d work₀ c work
 
 abbrev μ-loop : tie.MeasureT-loop
 μ-loop work₀ m k d kappas totals norms c₀ work c = k - c
@@ -52,7 +54,8 @@ loop-again c =
     c .kappa-by .ensures ∙ ap₂ (λ (x y : Float). estimateOf (a .d) (meanLength x y)) r₁ r₂ in
     let q = t .before in
     let at = q .kappas-at .result + l .c in
-    let more = written-turn kappasR f (a .m) (a .k) (a .d) w₀ (l .work) at (l .c) _ (omega (arith, q .kappas-at .ensures)) h (b .pre .work-long) e o in
+    let more =
+    written-turn kappasR f (a .m) (a .k) (a .d) w₀ (l .work) at (l .c) _ (omega (arith, q .kappas-at .ensures)) h (b .pre .work-long) e o in
     (omega arith, search needs, more)
 
 returns : tie.Need-returns Inv-loop μ-loop

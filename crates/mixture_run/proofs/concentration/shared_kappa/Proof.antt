@@ -1,6 +1,6 @@
--- `mixture_run::concentration::shared_kappa` meets its contract: the concentrations are filled with the one by the sum of the lengths. Assumes nothing.
+-- `mixture_run::concentration::shared_kappa` meets its contract: the concentrations are filled with the one by the sum of the lengths.
+-- Assumes nothing.
 use mathlib.Core.Path.{_≡_, refl, ap, _∙_}
-use Prim.Native.Nat.{_+_, _*_}
 use native.Mathlib.Omega.{arith}
 use lib.ListN.{replicate}
 use lib.Ieee.{Float}
@@ -31,7 +31,8 @@ returns c =
     let kappas = n .before .kappas-at in
     let norms = n .norms-at in
     let pooled : s .fold .result ≡ sumFrom plusZero (p .norms) =
-    s .fold .ensures ∙ ap (sumFrom plusZero) (region-cut normsR (a .m) (a .k) (a .d) (a .work .now) (norms .result) (a .k) (omega (arith, norms .ensures)) refl) in
+    s .fold .ensures ∙ ap (sumFrom plusZero)
+    (region-cut normsR (a .m) (a .k) (a .d) (a .work .now) (norms .result) (a .k) (omega (arith, norms .ensures)) refl) in
     let one : q .kappa-by .result ≡ sharedKappa (a .d) (sumFrom plusZero (p .norms)) (a .whole) =
     q .kappa-by .ensures ∙ ap (λ (x : Float). sharedKappa (a .d) x (a .whole)) pooled in
     let f = c .before .before .fill-at in

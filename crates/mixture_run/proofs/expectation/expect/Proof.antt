@@ -1,18 +1,19 @@
--- `mixture_run::expectation::expect` meets its contract. The loop's invariant: the likenesses of the first i leaves stand before what the region held; all of them are softened in one
--- call. The measure is the leaves left. Assumes nothing.
+-- `mixture_run::expectation::expect` meets its contract. The loop's invariant: the log densities of the first i leaves stand before what
+-- the region held; one call makes their softmax. The measure is the leaves left. Assumes nothing.
 use mathlib.Core.Path.{_≡_, refl, _∙_}
 use Prim.Native.Nat.{_+_, _-_, _*_, _≤_}
 use native.Mathlib.Omega.{arith}
 use lib.ListN.{length}
 use Rattle.mixture_run.specs.Areas.{partsIn}
 use Rattle.mixture_run.proofs.Sizes.{area-of, leaf-of, rows-of}
-use Rattle.mixture_run.proofs.Expected.{likesIn, likes-start, likes-turn, loglik-done, resp-done}
+use Rattle.mixture_run.proofs.Expected.{rowsDone, rows-start, rows-turn, loglik-done, resp-done}
 use borrow.Author.Needs.{needs}
 use Rattle.mixture_run.proofs.expectation.expect.Statement.{statement}
 use Rattle.mixture_run.proofs.expectation.expect.Tie as tie
 
 abbrev Inv-loop : tie.InvT-loop
-Inv-loop work₀ weights coords m k d i₀ work i = (i ≤ m) × (length work ≡ length work₀) × (partsIn m k d work ≡ likesIn m k d work₀ coords i)
+Inv-loop work₀ weights coords m k d i₀ work i =
+    (i ≤ m) × (length work ≡ length work₀) × (partsIn m k d work ≡ rowsDone m k d work₀ coords i)
 
 abbrev μ-loop : tie.MeasureT-loop
 μ-loop work₀ weights coords m k d i₀ work i = m - i
@@ -20,10 +21,10 @@ abbrev μ-loop : tie.MeasureT-loop
 loop-holds : tie.Need-loop-holds Inv-loop μ-loop
 loop-holds c =
     let a = c .before .before .before .args in
-    (omega arith, refl, likes-start (a .m) (a .k) (a .d) (a .work .now) (a .coords .now))
+    (omega arith, refl, rows-start (a .m) (a .k) (a .d) (a .work .now) (a .coords .now))
 
-put-likenesses-requires : tie.Need-put-likenesses-requires Inv-loop μ-loop
-put-likenesses-requires c κs =
+put-log-densities-requires : tie.Need-put-log-densities-requires Inv-loop μ-loop
+put-log-densities-requires c κs =
     let l = c .before .before .loop in
     let s = c .before .before .before .before .before .before in
     let a = s .args in (
@@ -43,25 +44,27 @@ start-2 r = r .before .before .before .before .before .before
 
 loop-again : tie.Need-loop-again Inv-loop μ-loop
 loop-again c =
-    let p = c .before .before .put-likenesses in
+    let p = c .before .before .put-log-densities in
     let l = c .before .before .before .before .before .loop in
     let a = start c .args in (
       omega (arith, c .before .before .before .before .loop-test .taken),
       p .kept .0 ∙ l .inv .1,
-      likes-turn (a .m) (a .k) (a .d) (a .work .now) (a .coords .now) (l .work) (p .last .0) (l .i) (l .inv .2) (p .ensures),
+      rows-turn (a .m) (a .k) (a .d) (a .work .now) (a .coords .now) (l .work) (p .last .0) (l .i) (l .inv .2) (p .ensures),
     )
 
-soften-requires : tie.Need-soften-requires Inv-loop μ-loop
-soften-requires c κs =
+log-softmax-rows-requires : tie.Need-log-softmax-rows-requires Inv-loop μ-loop
+log-softmax-rows-requires c κs =
     let r = c .before in
     let l = r .before .before .loop in
     let s = start-2 r in
     let a = s .args in
-    rows-of (l .work) (a .weights .now) (a .m) (a .k) (a .d) _ (area-of (length (a .work .now)) (length (l .work)) (a .m) (a .k) (a .d) (l .inv .1) (s .pre .0)) (s .pre .1 .weights-long) (r .responsibilities-at .ensures)
+    rows-of (l .work) (a .weights .now) (a .m) (a .k) (a .d) _
+    (area-of (length (a .work .now)) (length (l .work)) (a .m) (a .k) (a .d) (l .inv .1) (s .pre .0)) (s .pre .1 .weights-long)
+    (r .responsibilities-at .ensures)
 
 returns : tie.Need-returns Inv-loop μ-loop
 returns c =
-    let x = c .before .before .soften in
+    let x = c .before .before .log-softmax-rows in
     let r = placed c in
     let l = r .before .before .loop in
     let s = start-2 r in
@@ -84,7 +87,7 @@ expect-spec =
     Inv-loop
     μ-loop
     loop-holds
-    put-likenesses-requires
+    put-log-densities-requires
     (λ c. search needs)
     (λ c. search needs)
     loop-again
@@ -95,6 +98,6 @@ expect-spec =
     (λ c. search needs)
     (λ c. search needs)
     (λ c. search needs)
-    soften-requires
+    log-softmax-rows-requires
     (λ c. search needs)
     returns)

@@ -1,5 +1,5 @@
 -- `mixture_run::maximization::add_row` meets its contract, by what add_scaled ensures of the part. Assumes nothing.
-use Rattle.mixture_run.proofs.Gathered.{row-added}
+use Rattle.mixture_run.proofs.Statistics.{row-added}
 use borrow.Author.Needs.{needs}
 use Rattle.mixture_run.proofs.maximization.add_row.Statement.{statement}
 use Rattle.mixture_run.proofs.maximization.add_row.Tie as tie

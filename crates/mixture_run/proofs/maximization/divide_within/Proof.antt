@@ -1,5 +1,5 @@
--- `mixture_run::maximization::divide_within` meets its contract. The loop's invariant: the array is the one at the start with the first j quotients pasted in. The measure is what is
--- left to divide. Assumes nothing.
+-- `mixture_run::maximization::divide_within` meets its contract. The loop's invariant: the array is the one at the start with the first j
+-- quotients pasted in. The measure is what is left to divide. Assumes nothing.
 use mathlib.Core.Path.{_≡_, refl}
 use Prim.Native.Nat.{_≤_, _-_}
 use native.Mathlib.Omega.{arith}
@@ -29,7 +29,8 @@ loop-again c =
     let a = s .args in (
       omega arith,
       simp length-set (l .inv .1),
-      divide-turn (a .w .now) (a .x) (a .to) (a .from) (a .n) (l .w) (l .j) (l .inv .2) (s .pre .order) (s .pre .within) (c .before .loop-test .taken),
+      divide-turn (a .w .now) (a .x) (a .to) (a .from) (a .n) (l .w) (l .j) (l .inv .2) (s .pre .order) (s .pre .within)
+          (c .before .loop-test .taken),
     )
 
 returns : tie.Need-returns Inv-loop μ-loop

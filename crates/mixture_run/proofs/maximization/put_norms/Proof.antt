@@ -1,5 +1,5 @@
--- `mixture_run::maximization::put_norms` meets its contract. The loop's invariant: the lengths are the norms of the first c sums, then what they were. The measure is the groups left.
--- Assumes nothing.
+-- `mixture_run::maximization::put_norms` meets its contract. The loop's invariant: the lengths are the norms of the first c sums, then what
+-- they were. The measure is the groups left. Assumes nothing.
 use mathlib.Core.Path.{_≡_, refl}
 use Prim.Native.Nat.{_+_, _*_, _≤_, _-_}
 use native.Mathlib.Omega.{arith}

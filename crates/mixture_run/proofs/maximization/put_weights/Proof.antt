@@ -1,4 +1,5 @@
--- `mixture_run::maximization::put_weights` meets its contract. The loop's invariant: the weights of the first c groups stand before what was there. Assumes nothing.
+-- `mixture_run::maximization::put_weights` meets its contract. The loop's invariant: the weights of the first c groups stand before what
+-- was there. Assumes nothing.
 use mathlib.Core.Path.{_≡_, refl, ap, _∙_}
 use Prim.Native.Nat.{_+_, _-_, _≤_, _<_}
 use native.Mathlib.Omega.{arith}
@@ -55,7 +56,8 @@ returns c =
     let b = start (c .before .before) in
     let a = b .args in
     let p = partsIn (a .m) (a .k) (a .d) (a .work .now) in
-    written-end weightsR (weightAt (a .k) (a .whole) (p .totals)) (a .m) (a .k) (a .d) (a .work .now) (l .work) (l .c) (a .k) (omega arith) refl (b .pre .work-long) (l .inv .2)
+    written-end weightsR (weightAt (a .k) (a .whole) (p .totals)) (a .m) (a .k) (a .d) (a .work .now) (l .work) (l .c) (a .k) (omega arith)
+    refl (b .pre .work-long) (l .inv .2)
 
 pub put-weights-spec : {M : Type 1} → statement M
 put-weights-spec =

@@ -1,5 +1,5 @@
--- `mixture_run::maximization::redirect` meets its contract. The loop's invariant: the parts are those of the start with the first c directions renewed, by whether the norm is above 0.
--- The measure is the groups left. Assumes nothing.
+-- `mixture_run::maximization::redirect` meets its contract. The loop's invariant: the parts are those of the start with the first c
+-- directions renewed, by whether the norm is above 0. The measure is the groups left. Assumes nothing.
 use mathlib.Core.Path.{_≡_, refl, ap, _∙_}
 use mathlib.Core.Logic.{⊎-elim}
 use Prim.Native.Nat.{ℕ, _+_, _*_, _≤_, _-_}
@@ -61,8 +61,10 @@ loop-again c =
       omega (arith, h),
       ⊎-elim (λ w. ap length (w .5) ∙ w .2 .kept .0 ∙ l .inv .1) (λ w. ap length (w .1) ∙ l .inv .1) (c .if1 .came),
       ⊎-elim
-          (λ w. directed (a .m) (a .k) (a .d) p (l .work) (l .c) h long (s .pre .1) (l .inv .2) at place (c .if1 .work) (w .0 .taken) (w .5 ∙ w .2 .ensures))
-          (λ w. direction-kept (a .m) (a .k) (a .d) p (l .work) (l .c) h long (s .pre .1) (l .inv .2) at place (c .if1 .work) (w .0 .left) (w .1))
+          (λ w. directed (a .m) (a .k) (a .d) p (l .work) (l .c) h long (s .pre .1) (l .inv .2) at place (c .if1 .work) (w .0 .taken)
+          (w .5 ∙ w .2 .ensures))
+          (λ w. direction-kept (a .m) (a .k) (a .d) p (l .work) (l .c) h long (s .pre .1) (l .inv .2) at place (c .if1 .work) (w .0 .left)
+          (w .1))
           (c .if1 .came),
     )
 

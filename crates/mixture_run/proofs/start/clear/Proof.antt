@@ -1,6 +1,6 @@
 -- `mixture_run::start::clear` meets its contract: the weights are filled, and then the responsibilities. Assumes nothing.
 use mathlib.Core.Path.{refl, ap, _∙_}
-use Prim.Native.Nat.{_+_, _*_, _≤_}
+use Prim.Native.Nat.{_*_, _≤_}
 use native.Mathlib.Omega.{arith}
 use lib.ListN.{length, replicate}
 use lib.Ieee.{Float, ofBits}
@@ -35,7 +35,8 @@ returns c =
     let resp = u .before .responsibilities-at in
     let n = a .m * a .k in
     let long : total (a .m) (a .k) (a .d) ≤ length (v .fill-at .last .0) = omega (arith, v .fill-at .kept .0, b .pre .work-long) in
-    fill-in respR (a .m) (a .k) (a .d) (v .fill-at .last .0) (u .fill-at2 .last .0) (resp .result) n plusZero (omega (arith, resp .ensures)) refl long
+    fill-in respR (a .m) (a .k) (a .d) (v .fill-at .last .0) (u .fill-at2 .last .0) (resp .result) n plusZero (omega (arith, resp .ensures))
+    refl long
     (u .fill-at2 .ensures)
     ∙ ap (withResp (replicate n plusZero))
     (fill-in weightsR (a .m) (a .k) (a .d) (a .work .now) (v .fill-at .last .0) (weights .result) (a .k) (q .even-weight .result)

@@ -1,6 +1,7 @@
--- `mixture_run::start::label_totals` meets its contract. The loop's invariant: the totals are those of the first i leaves, beside the parts of the start. Assumes nothing.
+-- `mixture_run::start::label_totals` meets its contract. The loop's invariant: the totals are those of the first i leaves, beside the parts
+-- of the start. Assumes nothing.
 use mathlib.Core.Path.{_≡_, refl}
-use Prim.Native.Nat.{_+_, _*_, _≤_, _<_, _-_}
+use Prim.Native.Nat.{_≤_, _<_, _-_}
 use native.Mathlib.Omega.{arith}
 use lib.ListN.{length, getD, replicate}
 use lib.Ieee.{ofBits}
@@ -14,7 +15,8 @@ use Rattle.mixture_run.proofs.start.label_totals.Statement.{statement}
 use Rattle.mixture_run.proofs.start.label_totals.Tie as tie
 
 abbrev Inv-loop : tie.InvT-loop
-Inv-loop work₀ marks weights m k d totals i₀ work i = (i ≤ m) × (length work ≡ length work₀) × (partsIn m k d work ≡ totalled m k d work₀ weights marks i)
+Inv-loop work₀ marks weights m k d totals i₀ work i =
+    (i ≤ m) × (length work ≡ length work₀) × (partsIn m k d work ≡ totalled m k d work₀ weights marks i)
 
 abbrev μ-loop : tie.MeasureT-loop
 μ-loop work₀ marks weights m k d totals i₀ work i = m - i
@@ -31,13 +33,15 @@ start f = f .before .before .before .before .before .before
 
 -- where the loop begins the totals are cleared
 cleared : (f : tie.After-fill-at Inv-loop μ-loop) → let a = start f .args in
-    partsIn (a .m) (a .k) (a .d) (f .fill-at .last .0) ≡ withTotals (replicate (a .k) plusZero) (partsIn (a .m) (a .k) (a .d) (a .work .now))
+    partsIn (a .m) (a .k) (a .d) (f .fill-at .last .0)
+    ≡ withTotals (replicate (a .k) plusZero) (partsIn (a .m) (a .k) (a .d) (a .work .now))
 unfolding ofBits
 cleared f =
     let b = start f in
     let a = b .args in
     let t = f .before .before .totals-at in
-    fill-in totalsR (a .m) (a .k) (a .d) (a .work .now) (f .fill-at .last .0) (t .result) (a .k) plusZero (omega (arith, t .ensures)) refl (b .pre .0 .0 .work-long) (f .fill-at .ensures)
+    fill-in totalsR (a .m) (a .k) (a .d) (a .work .now) (f .fill-at .last .0) (t .result) (a .k) plusZero (omega (arith, t .ensures)) refl
+    (b .pre .0 .0 .work-long) (f .fill-at .ensures)
 
 -- the label of leaf i, in a turn
 label-of : (c : tie.In-loop Inv-loop μ-loop) → let a = start (filled c) .args in
@@ -83,7 +87,8 @@ returns : tie.Need-returns Inv-loop μ-loop
 returns c =
     let l = c .before .loop in
     let a = start (filled-2 c) .args in
-    totals-end (a .m) (a .k) (a .d) _ (a .weights .now) (a .marks .now) (a .work .now) (l .work) (l .i) (omega arith) (cleared (c .before .before .before .before)) (l .inv .2)
+    totals-end (a .m) (a .k) (a .d) _ (a .weights .now) (a .marks .now) (a .work .now) (l .work) (l .i) (omega arith)
+    (cleared (c .before .before .before .before)) (l .inv .2)
 
 pub label-totals-spec : {M : Type 1} → statement M
 label-totals-spec =

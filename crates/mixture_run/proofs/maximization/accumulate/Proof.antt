@@ -1,5 +1,5 @@
--- `mixture_run::maximization::gather` meets its contract. The sums and the whole weights are cleared; the loop's invariant: the parts are those where the loop begins, with what the
--- first i leaves gave. The measure is the leaves left. Assumes nothing.
+-- `mixture_run::maximization::accumulate` meets its contract. The sums and the whole weights are cleared; the loop's invariant: the parts
+-- are those where the loop begins, with what the first i leaves gave. The measure is the leaves left. Assumes nothing.
 use mathlib.Core.Path.{_≡_, refl, _∙_}
 use mathlib.Core.List.{List}
 use Prim.Native.Nat.{_≤_, _-_}
@@ -8,10 +8,10 @@ use lib.ListN.{length}
 use lib.Ieee.{Float, ofBits}
 use Rattle.mixture_run.specs.Areas.{partsIn}
 use Rattle.mixture_run.proofs.Sizes.{area-of, leaf-of}
-use Rattle.mixture_run.proofs.Gathered.{leavesDone, cleared, leaves-start, leaves-turn, leaves-end}
+use Rattle.mixture_run.proofs.Statistics.{leavesDone, cleared, leaves-start, leaves-turn, leaves-end}
 use borrow.Author.Needs.{needs}
-use Rattle.mixture_run.proofs.maximization.gather.Statement.{statement}
-use Rattle.mixture_run.proofs.maximization.gather.Tie as tie
+use Rattle.mixture_run.proofs.maximization.accumulate.Statement.{statement}
+use Rattle.mixture_run.proofs.maximization.accumulate.Tie as tie
 
 abbrev Inv-loop : tie.InvT-loop
 Inv-loop work₀ weights coords m k d kd i₀ work i =
@@ -36,7 +36,8 @@ same-at f = f .fill-at2 .kept .0 ∙ f .before .before .before .before .before .
 
 -- there the sums and the whole weights are cleared
 cleared-at : (f : tie.After-fill-at2 Inv-loop μ-loop) → let a = start f .args in
-    partsIn (a .m) (a .k) (a .d) (begun f) ≡ leavesDone (a .weights .now) (a .coords .now) (a .k) (a .d) (partsIn (a .m) (a .k) (a .d) (a .work .now)) 0
+    partsIn (a .m) (a .k) (a .d) (begun f)
+    ≡ leavesDone (a .weights .now) (a .coords .now) (a .k) (a .d) (partsIn (a .m) (a .k) (a .d) (a .work .now)) 0
 unfolding ofBits
 cleared-at f =
     let t = f .before .totals-at in
@@ -53,8 +54,8 @@ loop-holds c =
     let p = partsIn (a .m) (a .k) (a .d) in
     (omega arith, refl, leaves-start (a .weights .now) (a .coords .now) (a .k) (a .d) (p (a .work .now)) (p (begun f)) (cleared-at f))
 
-gather-leaf-requires : tie.Need-gather-leaf-requires Inv-loop μ-loop
-gather-leaf-requires c κs =
+accumulate-leaf-requires : tie.Need-accumulate-leaf-requires Inv-loop μ-loop
+accumulate-leaf-requires c κs =
     let l = c .before .before .loop in
     let f = c .before .before .before .before .before in
     let s = start f in
@@ -71,8 +72,9 @@ loop-again c =
     let a = start f .args in
     let p = partsIn (a .m) (a .k) (a .d) in (
       omega (arith, c .before .before .before .before .loop-test .taken),
-      g .gather-leaf .kept .0 ∙ l .inv .1,
-      leaves-turn (a .weights .now) (a .coords .now) (a .k) (a .d) (p (begun f)) (p (l .work)) (p (g .gather-leaf .last .0)) (l .i) (l .inv .2) (g .gather-leaf .ensures),
+      g .accumulate-leaf .kept .0 ∙ l .inv .1,
+      leaves-turn (a .weights .now) (a .coords .now) (a .k) (a .d) (p (begun f)) (p (l .work)) (p (g .accumulate-leaf .last .0)) (l .i)
+          (l .inv .2) (g .accumulate-leaf .ensures),
     )
 
 same-length : tie.Need-same-length Inv-loop μ-loop
@@ -84,10 +86,11 @@ returns c =
     let f = c .before .before .before .before in
     let a = start f .args in
     let p = partsIn (a .m) (a .k) (a .d) in
-    leaves-end (a .weights .now) (a .coords .now) (a .k) (a .d) (p (a .work .now)) (p (begun f)) (cleared-at f) (p (l .work)) (l .i) (a .m) (omega (arith, c .loop-test .left)) (l .inv .2)
+    leaves-end (a .weights .now) (a .coords .now) (a .k) (a .d) (p (a .work .now)) (p (begun f)) (cleared-at f) (p (l .work)) (l .i) (a .m)
+    (omega (arith, c .loop-test .left)) (l .inv .2)
 
-pub gather-spec : {M : Type 1} → statement M
-gather-spec =
+pub accumulate-spec : {M : Type 1} → statement M
+accumulate-spec =
     tie.close
     (tie.spec
     Inv-loop
@@ -97,7 +100,7 @@ gather-spec =
     (λ c κs. search needs)
     (λ c κs. search needs)
     loop-holds
-    gather-leaf-requires
+    accumulate-leaf-requires
     (λ c. search needs)
     (λ c. search needs)
     loop-again

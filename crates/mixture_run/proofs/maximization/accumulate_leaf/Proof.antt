@@ -1,5 +1,5 @@
--- `mixture_run::maximization::gather_leaf` meets its contract. The loop's invariant: the parts are those of the start, where the first c groups have gained the leaf. The measure is
--- the groups left. Assumes nothing.
+-- `mixture_run::maximization::accumulate_leaf` meets its contract. The loop's invariant: the parts are those of the start, where the first
+-- c groups have gained the leaf. The measure is the groups left. Assumes nothing.
 use mathlib.Core.Path.{_≡_, refl, ap, _∙_}
 use Prim.Native.Nat.{ℕ, _≤_, _-_}
 use native.Mathlib.Omega.{arith}
@@ -8,10 +8,10 @@ use lib.Ieee.{nan}
 use Rattle.rows.specs.Rows.{rowOf}
 use Rattle.mixture_run.specs.Areas.{partsIn}
 use Rattle.mixture_run.proofs.Sizes.{area-of, group-of}
-use Rattle.mixture_run.proofs.Gathered.{leafDone, leaf-start, leaf-turn}
+use Rattle.mixture_run.proofs.Statistics.{leafDone, leaf-start, leaf-turn}
 use borrow.Author.Needs.{needs}
-use Rattle.mixture_run.proofs.maximization.gather_leaf.Statement.{statement}
-use Rattle.mixture_run.proofs.maximization.gather_leaf.Tie as tie
+use Rattle.mixture_run.proofs.maximization.accumulate_leaf.Statement.{statement}
+use Rattle.mixture_run.proofs.maximization.accumulate_leaf.Tie as tie
 
 abbrev Inv-loop : tie.InvT-loop
 Inv-loop work₀ weights coords i m k d weight c₀ work c =
@@ -23,11 +23,15 @@ abbrev μ-loop : tie.MeasureT-loop
 loop-holds : tie.Need-loop-holds Inv-loop μ-loop
 loop-holds c =
     let a = c .before .before .before .before .args in
-    let p = partsIn (a .m) (a .k) (a .d) in
-    (omega arith, refl, leaf-start (a .k) (a .d) (a .i) (getD (a .weights .now) (a .i) nan) (rowOf (a .coords .now) (a .d) (a .i)) (p (a .work .now)))
+    let p = partsIn (a .m) (a .k) (a .d) in (
+      omega arith,
+      refl,
+      leaf-start (a .k) (a .d) (a .i) (getD (a .weights .now) (a .i) nan) (rowOf (a .coords .now) (a .d) (a .i))
+          (p (a .work .now)),
+    )
 
-gather-group-requires : tie.Need-gather-group-requires Inv-loop μ-loop
-gather-group-requires c κs =
+accumulate-group-requires : tie.Need-accumulate-group-requires Inv-loop μ-loop
+accumulate-group-requires c κs =
     let l = c .before .before .loop in
     let s = c .before .before .before .before .before .before .before in
     let a = s .args in (
@@ -46,9 +50,10 @@ loop-again c =
     let a = start c .args in
     let p = partsIn (a .m) (a .k) (a .d) in (
       omega (arith, c .before .before .before .before .loop-test .taken),
-      g .gather-group .kept .0 ∙ l .inv .1,
-      leaf-turn (a .k) (a .d) (a .i) (getD (a .weights .now) (a .i) nan) (rowOf (a .coords .now) (a .d) (a .i)) (p (a .work .now)) (p (l .work))
-          (p (g .gather-group .last .0)) (l .c) (l .inv .2) (g .gather-group .ensures),
+      g .accumulate-group .kept .0 ∙ l .inv .1,
+      leaf-turn (a .k) (a .d) (a .i) (getD (a .weights .now) (a .i) nan) (rowOf (a .coords .now) (a .d) (a .i)) (p (a .work .now))
+          (p (l .work))
+          (p (g .accumulate-group .last .0)) (l .c) (l .inv .2) (g .accumulate-group .ensures),
     )
 
 returns : tie.Need-returns Inv-loop μ-loop
@@ -57,10 +62,11 @@ returns c =
     let a = c .before .before .before .before .before .before .args in
     let p = partsIn (a .m) (a .k) (a .d) (a .work .now) in
     let e : l .c ≡ a .k = omega (arith, c .loop-test .left) in
-    l .inv .2 ∙ ap (λ (n : ℕ). leafDone (a .k) (a .d) (a .i) (getD (a .weights .now) (a .i) nan) (rowOf (a .coords .now) (a .d) (a .i)) p n) e
+    l .inv .2 ∙ ap (λ (n : ℕ). leafDone (a .k) (a .d) (a .i) (getD (a .weights .now) (a .i) nan) (rowOf (a .coords .now) (a .d) (a .i)) p n)
+    e
 
-pub gather-leaf-spec : {M : Type 1} → statement M
-gather-leaf-spec =
+pub accumulate-leaf-spec : {M : Type 1} → statement M
+accumulate-leaf-spec =
     tie.close
     (tie.spec
     Inv-loop
@@ -68,7 +74,7 @@ gather-leaf-spec =
     (λ c. search needs)
     (λ c. search needs)
     loop-holds
-    gather-group-requires
+    accumulate-group-requires
     (λ c. search needs)
     (λ c. search needs)
     loop-again

@@ -1,12 +1,12 @@
--- `mixture_run::maximization::gather_group` meets its contract: the law of one store among the whole weights and of one row among the sums, by what add_row ensures.
--- Assumes nothing.
+-- `mixture_run::maximization::accumulate_group` meets its contract: the law of one store among the whole weights and of one row among the
+-- sums, by what add_row ensures. Assumes nothing.
 use Prim.Native.Nat.{_+_, _*_}
 use native.Mathlib.Omega.{arith}
 use lib.ListN.{length-set}
-use Rattle.mixture_run.proofs.Gathered.{group-length, group-done}
+use Rattle.mixture_run.proofs.Statistics.{group-length, group-done}
 use borrow.Author.Needs.{needs}
-use Rattle.mixture_run.proofs.maximization.gather_group.Statement.{statement}
-use Rattle.mixture_run.proofs.maximization.gather_group.Tie as tie
+use Rattle.mixture_run.proofs.maximization.accumulate_group.Statement.{statement}
+use Rattle.mixture_run.proofs.maximization.accumulate_group.Tie as tie
 
 -- places, each from a later one
 abbrev placed : tie.After-add-row-arg → tie.After-responsibilities-at
@@ -29,7 +29,8 @@ same-length c =
     let total = r .before .totals-at in
     let share = r .responsibilities-at in
     group-length (a .m) (a .k) (a .d) (a .work .now) (a .coords .now) (a .weight) (a .i) (a .c) (s .pre .0) (s .pre .1 .1) (s .pre .1 .2)
-    (total .result + a .c) (share .result + a .i * a .k + a .c) (omega (arith, total .ensures)) (omega (arith, share .ensures)) (g .add-row .last .0) (g .add-row .kept .0)
+    (total .result + a .c) (share .result + a .i * a .k + a .c) (omega (arith, total .ensures)) (omega (arith, share .ensures))
+    (g .add-row .last .0) (g .add-row .kept .0)
 
 returns : tie.Need-returns
 returns c =
@@ -40,10 +41,11 @@ returns c =
     let total = r .before .totals-at in
     let share = r .responsibilities-at in
     group-done (a .m) (a .k) (a .d) (a .work .now) (a .coords .now) (a .weight) (a .i) (a .c) (s .pre .0) (s .pre .1 .1) (s .pre .1 .2)
-    (total .result + a .c) (share .result + a .i * a .k + a .c) (omega (arith, total .ensures)) (omega (arith, share .ensures)) (g .add-row .last .0) (g .add-row .ensures)
+    (total .result + a .c) (share .result + a .i * a .k + a .c) (omega (arith, total .ensures)) (omega (arith, share .ensures))
+    (g .add-row .last .0) (g .add-row .ensures)
 
-pub gather-group-spec : {M : Type 1} → statement M
-gather-group-spec =
+pub accumulate-group-spec : {M : Type 1} → statement M
+accumulate-group-spec =
     tie.close
     (tie.spec
     (λ c κs. search needs)

@@ -1,5 +1,5 @@
--- `mixture_softmax::soften` meets its contract. The loop's invariant: the rows of the first i leaves are their shares, what follows is as it was, and the log-likelihood is
--- that of these leaves. The measure is the leaves left. Assumes nothing.
+-- `mixture_softmax::log_softmax_rows` meets its contract. The loop's invariant: the rows of the first i leaves are their shares, what
+-- follows is as it was, and the log-likelihood is that of these leaves. The measure is the leaves left. Assumes nothing.
 use mathlib.Core.Path.{_≡_, refl, ap, _∙_}
 use mathlib.Core.List.{_++_}
 use Prim.Native.Nat.{ℕ, _+_, _*_, _-_, _≤_}
@@ -8,13 +8,13 @@ use native.Mathlib.Omega.{arith}
 use lib.ListN.{length, drop}
 use lib.Ieee.{ofBits}
 use Rattle.float.specs.Arithmetic.{plusZero}
-use Rattle.mixture_softmax.specs.Softmax.{logSumAt, sharesAt, sharesUpTo, logsUpTo}
+use Rattle.mixture_softmax.specs.Leaves.{logSumAt, sharesAt, sharesUpTo, logsUpTo}
 use Rattle.mixture_softmax.proofs.Joined.{joined-none, weighed-none}
 use Rattle.rows.proofs.Fills.{front-end}
 use Rattle.mixture_softmax.proofs.Blocks.{block-of, shares-more, logs-more}
 use borrow.Author.Needs.{needs}
-use Rattle.mixture_softmax.proofs.soften.Statement.{statement}
-use Rattle.mixture_softmax.proofs.soften.Tie as tie
+use Rattle.mixture_softmax.proofs.log_softmax_rows.Statement.{statement}
+use Rattle.mixture_softmax.proofs.log_softmax_rows.Tie as tie
 
 abbrev Inv-loop : tie.InvT-loop
 Inv-loop rows₀ weights k m l₀ i₀ rows l i =
@@ -26,8 +26,12 @@ abbrev μ-loop : tie.MeasureT-loop
 loop-holds : tie.Need-loop-holds Inv-loop μ-loop
 unfolding ofBits
 loop-holds c =
-    let a = c .before .before .args in
-    (omega arith, refl, weighed-none (logSumAt (a .k) (a .rows .now)) (a .weights .now) plusZero, joined-none (sharesAt (a .k) (a .rows .now)) (a .k) (a .rows .now))
+    let a = c .before .before .args in (
+      omega arith,
+      refl,
+      weighed-none (logSumAt (a .k) (a .rows .now)) (a .weights .now) plusZero,
+      joined-none (sharesAt (a .k) (a .rows .now)) (a .k) (a .rows .now),
+    )
 
 block-end-requires : tie.Need-block-end-requires Inv-loop μ-loop
 block-end-requires c κs =
@@ -37,7 +41,8 @@ block-end-requires c κs =
 -- the block lies within the rows
 ends-in : (c : tie.After-block-end Inv-loop μ-loop) → let l = c .before .before .loop in
     let s = c .before .before .before .before .before in
-    let a = s .args in (l .i * a .k ≤ c .block-end .result * a .k) × (c .block-end .result * a .k ≤ length (l .rows)) × (length (l .rows) ≤ 262144)
+    let a =
+    s .args in (l .i * a .k ≤ c .block-end .result * a .k) × (c .block-end .result * a .k ≤ length (l .rows)) × (length (l .rows) ≤ 262144)
 ends-in c =
     let l = c .before .before .loop in
     let s = c .before .before .before .before .before in
@@ -48,35 +53,41 @@ ends-in c =
     let e : length (l .rows) ≡ m * a .k = l .inv .1 ∙ s .pre .rows-long in
     (mul-le-mul-right (a .k) (omega (arith, r .ensures .0)), omega (arith, mul-le-mul-right (a .k) (r .ensures .1)), omega arith)
 
-mul-soften-block : tie.Need-mul-soften-block Inv-loop μ-loop
-mul-soften-block c = omega (arith, ends-in c)
+mul-log-softmax-block : tie.Need-mul-log-softmax-block Inv-loop μ-loop
+mul-log-softmax-block c = omega (arith, ends-in c)
 
-mul-soften-block-2 : tie.Need-mul-soften-block-2 Inv-loop μ-loop
-mul-soften-block-2 c = omega (arith, ends-in c)
+mul-log-softmax-block-2 : tie.Need-mul-log-softmax-block-2 Inv-loop μ-loop
+mul-log-softmax-block-2 c = omega (arith, ends-in c)
 
-mul-soften-block-3 : tie.Need-mul-soften-block-3 Inv-loop μ-loop
-mul-soften-block-3 c = omega (arith, ends-in c)
+mul-log-softmax-block-3 : tie.Need-mul-log-softmax-block-3 Inv-loop μ-loop
+mul-log-softmax-block-3 c = omega (arith, ends-in c)
 
-sub-soften-block : tie.Need-sub-soften-block Inv-loop μ-loop
-sub-soften-block c = omega (arith, ends-in c)
+sub-log-softmax-block : tie.Need-sub-log-softmax-block Inv-loop μ-loop
+sub-log-softmax-block c = omega (arith, ends-in c)
 
-part-soften-block-start : tie.Need-part-soften-block-start Inv-loop μ-loop
-part-soften-block-start c = omega (arith, ends-in c)
+part-log-softmax-block-start : tie.Need-part-log-softmax-block-start Inv-loop μ-loop
+part-log-softmax-block-start c = omega (arith, ends-in c)
 
-part-soften-block-end : tie.Need-part-soften-block-end Inv-loop μ-loop
-part-soften-block-end c = omega (arith, ends-in c)
+part-log-softmax-block-end : tie.Need-part-log-softmax-block-end Inv-loop μ-loop
+part-log-softmax-block-end c = omega (arith, ends-in c)
 
-soften-block-requires : tie.Need-soften-block-requires Inv-loop μ-loop
-soften-block-requires c κs =
+log-softmax-block-requires : tie.Need-log-softmax-block-requires Inv-loop μ-loop
+log-softmax-block-requires c κs =
     let l = c .before .before .before .before .loop in
     let r = c .before .before .block-end in
     let s = c .before .before .before .before .before .before .before in
     let a = s .args in
-    block-of (a .k) (a .rows .now) (a .weights .now) (length (a .weights .now)) (s .pre .rows-long) (l .i) (r .result - l .i) (r .result) (omega (arith, r .ensures .0)) (r .ensures .1) refl (l .rows) (l .inv .1)
+    block-of (a .k) (a .rows .now) (a .weights .now) (length (a .weights .now)) (s .pre .rows-long) (l .i) (r .result - l .i) (r .result)
+    (omega (arith, r .ensures .0)) (r .ensures .1) refl (l .rows) (l .inv .1)
     (r .ensures .2)
 
 loop-less : tie.Need-loop-less Inv-loop μ-loop
-loop-less c = omega (arith, c .before .before .before .before .before .block-end .ensures .0, c .before .before .before .before .before .block-end .ensures .1)
+loop-less c =
+    omega (
+      arith,
+      c .before .before .before .before .before .block-end .ensures .0,
+      c .before .before .before .before .before .block-end .ensures .1,
+    )
 
 -- places, each from a later one
 abbrev start : tie.After-slice-known2 Inv-loop μ-loop → tie.Start Inv-loop μ-loop
@@ -84,7 +95,7 @@ start p = let q = p .before .before .before .before .before in q .before .before
 
 loop-again : tie.Need-loop-again Inv-loop μ-loop
 loop-again c =
-    let x = c .before .before .soften-block in
+    let x = c .before .before .log-softmax-block in
     let r = c .before .before .before .before .before .block-end in
     let l = c .before .before .before .before .before .before .before .loop in
     let s = start c in
@@ -93,8 +104,10 @@ loop-again c =
     let e : r .result ≡ l .i + (r .result - l .i) = omega (arith, r .ensures .0) in (
       r .ensures .1,
       search needs,
-      logs-more (a .k) (a .rows .now) (a .weights .now) m (s .pre .rows-long) (l .i) (r .result - l .i) (r .result) e (r .ensures .1) refl (l .rows) (l .inv .3) plusZero (l .l) (l .inv .2) (x .result) (x .ensures .0),
-      shares-more (a .k) (a .rows .now) (a .weights .now) m (s .pre .rows-long) (l .i) (r .result - l .i) (r .result) e (r .ensures .1) refl (l .rows) (l .inv .3) (x .last .0) (x .ensures .1),
+      logs-more (a .k) (a .rows .now) (a .weights .now) m (s .pre .rows-long) (l .i) (r .result - l .i) (r .result) e (r .ensures .1) refl
+          (l .rows) (l .inv .3) plusZero (l .l) (l .inv .2) (x .result) (x .ensures .0),
+      shares-more (a .k) (a .rows .now) (a .weights .now) m (s .pre .rows-long) (l .i) (r .result - l .i) (r .result) e (r .ensures .1) refl
+          (l .rows) (l .inv .3) (x .last .0) (x .ensures .1),
     )
 
 same-length : tie.Need-same-length Inv-loop μ-loop
@@ -111,25 +124,25 @@ returns c =
           ∙ front-end (sharesUpTo (a .k) (a .rows .now) m) (a .rows .now) (m * a .k) (c .before .before .before .before .pre .rows-long),
     )
 
-pub soften-spec : {M : Type 1} → statement M
-soften-spec =
+pub log-softmax-rows-spec : {M : Type 1} → statement M
+log-softmax-rows-spec =
     tie.close
     (tie.spec
     Inv-loop
     μ-loop
     loop-holds
     block-end-requires
-    mul-soften-block
-    mul-soften-block-2
-    mul-soften-block-3
-    sub-soften-block
-    part-soften-block-start
-    part-soften-block-end
+    mul-log-softmax-block
+    mul-log-softmax-block-2
+    mul-log-softmax-block-3
+    sub-log-softmax-block
+    part-log-softmax-block-start
+    part-log-softmax-block-end
     (λ c. search needs)
     (λ c. search needs)
     (λ c. search needs)
     (λ c. search needs)
-    soften-block-requires
+    log-softmax-block-requires
     loop-less
     loop-again
     same-length
