@@ -9,8 +9,7 @@ use Rattle.limits.proofs.Limits.{sizes-met}
 use Rattle.counts.proofs.Sums.{none-over}
 use Rattle.mixture_restarts.proofs.Doubled.{fit-never-doubled}
 use Rattle.auto.specs.Doubled.{CallsNeverDoubled}
-use Rattle.auto.proofs.Refusals.{leaves-ok}
-use Rattle.auto.proofs.Outcomes.{highest-some, lowest-some}
+use Rattle.auto.proofs.Outcomes.{highest-some, lowest-some, admitted}
 
 -- the last number tried is at most the leaves
 in-range : (kMin kMax m k : ℕ) → 1 ≤ m → k < lowest kMin (highest kMax m) + (highest kMax m + 1 - lowest kMin (highest kMax m)) → k ≤ m
@@ -21,7 +20,7 @@ calls-never-doubled weights coords d kMin kMax s l e =
     let m = length weights in
     let hi = highest kMax m in
     let lo = lowest kMin hi in
-    let ok = leaves-ok weights coords d hi (s .rounds) l e in
+    let ok = admitted weights coords d hi s l (highest-some kMax m hi refl) e .leaves in
     let some = sizes-met m d (length coords) (ok .sizes-ok) .0 in
     let first = lowest-some kMin hi lo refl (highest-some kMax m hi refl) in
     none-over _ lo (hi + 1 - lo)

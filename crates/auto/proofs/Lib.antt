@@ -1,5 +1,5 @@
+pub mod Products
 pub mod Bests
-pub mod Counts
 pub mod Outcomes
-pub mod Refusals
+pub mod Lone
 pub mod Doubled

@@ -13,7 +13,7 @@ use Rattle.auto_choice.specs.Choice.{highest, lowest}
 use Rattle.auto.specs.Refusals.{refusalOf}
 
 -- over all numbers tried, from lo to hi
-abbrev pub doubledInRange : Settings → List Float → List Float → ℕ → ℕ → ℕ → ℕ → ℕ
+abbrev pub doubledInRange : Settings → (weights coords : List Float) (m d lo hi : ℕ) → ℕ
 doubledInRange s weights coords m d lo hi = sumOver (λ (k : ℕ). doubledInFit s weights coords m k d) lo (hi + 1 - lo)
 
 -- in a call that is not refused doubled is zero, over all restarts and all numbers tried; so it is with 7
@@ -21,5 +21,5 @@ abbrev pub CallsNeverDoubled : Type 0
 CallsNeverDoubled =
     (weights coords : List Float) (d kMin kMax : ℕ) (s : Settings) (l : Lengths)
     → let hi = highest kMax (length weights) in
-    refusalOf weights coords d hi (s .rounds) l ≡ 0
+    refusalOf weights coords d hi s l ≡ 0
     → doubledInRange s weights coords (length weights) d (lowest kMin hi) hi ≡ 0

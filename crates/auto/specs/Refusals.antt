@@ -2,18 +2,12 @@
 use mathlib.Core.List.{List}
 use Prim.Native.Nat.{ℕ}
 use lib.Dec.{leb}
-use lib.ListN.{length}
 use lib.Ieee.{Float}
-use Rattle.limits.specs.Limits.{need, weightOk, coordinateOk, every, sizesOk, roundsOk}
-use Rattle.mixture_outputs.specs.Refusals.{arraysOk}
+use Rattle.limits.specs.Limits.{mostGroups}
+use Rattle.mixture_kappa.specs.declared.Settings.{Settings}
+use Rattle.mixture_outputs.specs.Refusals.{fitRefusal}
 use Rattle.mixture_outputs.specs.declared.Lengths.{Lengths}
 
--- the order of `movmf_with`, 2 meaning k_hi above 64, the arrays long enough for k_hi; 0 for none
-unfoldable pub refusalOf : List Float → List Float → ℕ → ℕ → ℕ → Lengths → ℕ
-refusalOf weights coords d hi rounds l =
-    need (sizesOk (length weights) d (length coords)) 1
-    (need (leb hi 64) 2
-    (need (roundsOk rounds) 3
-    (need (arraysOk (length weights) hi d l) 4
-    (need (every weightOk weights) 5
-    (need (every coordinateOk coords) 6 0)))))
+-- 2 if k_hi is above 64; the arrays are long enough for k_hi
+abbrev pub refusalOf : (weights coords : List Float) (d hi : ℕ) → Settings → Lengths → ℕ
+refusalOf weights coords d hi s l = fitRefusal (leb hi mostGroups) weights coords d hi s l

@@ -1,89 +1,49 @@
-// The mixture fit that chooses the number of groups, the public entries (vmf.rs, movmf_auto_with and movmf_auto; document 01, 'Choosing the number of groups' and 'Refusals by
-// call'): what must be refused is, and the numbers of the clamped range are tried.
+// The mixture fit that chooses the number of groups, the public entries (vmf.rs, movmf_auto_with and movmf_auto; document 01,
+// 'Choosing the number of groups' and 'Refusals by call'): what must be refused is, and the numbers of the clamped range are
+// fitted.
 ghost use mathlib.Core.Path.{_≡_};
 ghost use lib.ListN.{length};
 ghost use Rattle.mixture_kappa.specs.declared.Kappa.the-variants.{Free};
-ghost use Rattle.mixture_outputs.specs.Outputs.{arrays, lengthsOf};
-ghost use Rattle.auto_choice.specs.Choice.{highest, lowest};
-ghost use Rattle.auto.specs.Refusals.{refusalOf};
-ghost use Rattle.auto.specs.Outcome.{Outcome, answerBy, outcome};
-ghost use Rattle.auto.specs.Best.{Best};
+ghost use Rattle.mixture_outputs.specs.Outputs.{arrays};
+ghost use Rattle.auto.specs.Outcome.{Outcome, outcome};
+ghost use Rattle.auto.specs.Best.{AnswerKeepsBest};
+ghost use Rattle.auto.specs.Tallied.{answerOf};
 
-// ---- what is refused
-
-// The first refusal from 1 to 6 that holds, or 0; hi is the greatest number of groups.
-fn refusal(
-    weights: &[f64],
-    coords: &[f64],
-    d: usize,
-    hi: usize,
-    rounds: usize,
-    l: mixture_outputs::Lengths,
-) -> u32
-    ensures { λ r. ⌜ r ≡ refusalOf (now (weights .entry)) (now (coords .entry)) d hi rounds l ⌝ }
-{
-    let m = weights.len();
-    if !limits::sizes_ok(m, d, coords.len()) {
-        return 1;
-    }
-    if hi > 64 {
-        return 2;
-    }
-    if rounds > 10000 {
-        return 3;
-    }
-    if !mixture_outputs::arrays_ok(m, hi, d, l) {
-        return 4;
-    }
-    if !limits::weights_ok(weights) {
-        return 5;
-    }
-    if !limits::coordinates_ok(coords) {
-        return 6;
-    }
-    0
-}
-
-// ---- the entries
-
-// What a call answers: the number of the refusal; 7, with the counts; or the number kept, its log-likelihood and score, and the counts.
+// What a call answers: the number of the refusal; 7, with the counts; or the number kept, its log-likelihood and score, and
+// the counts.
 pub enum Chosen {
     Refused(u32),
     Unscored {
-        made: u64,
-        saved: u64,
+        counts: counts::Counts,
     },
     Done {
         k: usize,
         loglik: f64,
         score: f64,
-        made: u64,
-        saved: u64,
+        counts: counts::Counts,
     },
 }
 
 // The answer after the last number.
 fn answer(t: auto_tries::Tally) -> Chosen
-    ensures { λ r. ⌜ r ≡ answerBy (t .choice) t ⌝ }
+    ensures { λ r. ⌜ r ≡ answerOf t ⌝ }
 {
     let choice = t.choice;
+    let counts = t.counts;
     match choice {
         auto_choice::Choice::Number(k, score) => Chosen::Done {
             k,
             loglik: t.loglik,
             score,
-            made: t.made,
-            saved: t.saved,
+            counts,
         },
-        auto_choice::Choice::Nothing => Chosen::Unscored {
-            made: t.made,
-            saved: t.saved,
-        },
+        auto_choice::Choice::Nothing => Chosen::Unscored { counts },
     }
 }
 
-// The mixture fit of m leaves (m weights, m * d coordinates) with the best number of groups from k_min to k_max, as far as there are leaves. The outputs are those of
-// `movmf_with` and must be long enough for the greatest number; a refusal changes none of them. The work arrays' contents afterwards are free.
+// The mixture fit of m leaves (m weights, m * d coordinates) with the best number of groups from k_min to k_max, as far as
+// there are leaves. The outputs are those of `movmf_with` and must be long enough for the greatest number; a refusal changes
+// none of them. The work arrays' contents afterwards are free.
 pub fn movmf_auto_with(
     weights: &[f64],
     coords: &[f64],
@@ -100,15 +60,19 @@ pub fn movmf_auto_with(
     work: &mut [f64],
     marks: &mut [u32],
 ) -> Chosen
-    ensures { λ r. ⌜ _≡_ {A = Outcome}
-        (record { answer = r; outputs = arrays (now (labels .exit)) (now (responsibilities .exit)) (now («group_weights» .exit)) (now (directions .exit)) (now (concentrations .exit)) (now (logw .exit)) })
-        (outcome (arrays (now (labels .entry)) (now (responsibilities .entry)) (now («group_weights» .entry)) (now (directions .entry)) (now (concentrations .entry)) (now (logw .entry)))
-        (now (weights .entry)) (now (coords .entry)) d s «k_min» «k_max» (length (now (work .entry))) (length (now (marks .entry)))) ⌝ }
-    ensures { λ r. ⌜ (refusalOf (now (weights .entry)) (now (coords .entry)) d (highest «k_max» (length (now (weights .entry)))) (s .rounds)
-        (lengthsOf (arrays (now (labels .entry)) (now (responsibilities .entry)) (now («group_weights» .entry)) (now (directions .entry)) (now (concentrations .entry)) (now (logw .entry))) (length (now (work .entry))) (length (now (marks .entry)))) ≡ 0
-        → Best (arrays (now (labels .entry)) (now (responsibilities .entry)) (now («group_weights» .entry)) (now (directions .entry)) (now (concentrations .entry)) (now (logw .entry)))
-        (now (weights .entry)) (now (coords .entry)) d s (lowest «k_min» (highest «k_max» (length (now (weights .entry))))) (highest «k_max» (length (now (weights .entry)))) r
-        (arrays (now (labels .exit)) (now (responsibilities .exit)) (now («group_weights» .exit)) (now (directions .exit)) (now (concentrations .exit)) (now (logw .exit)))) ⌝ }
+    ensures { λ r. ⌜ _≡_ {A = Outcome} (record {
+      answer = r;
+      outputs = arrays (now (labels .exit)) (now (responsibilities .exit)) (now («group_weights» .exit))
+          (now (directions .exit)) (now (concentrations .exit)) (now (logw .exit));
+    })
+        (outcome (arrays (now (labels .entry)) (now (responsibilities .entry)) (now («group_weights» .entry))
+        (now (directions .entry)) (now (concentrations .entry)) (now (logw .entry))) (now (weights .entry))
+        (now (coords .entry)) d s «k_min» «k_max» (length (now (work .entry))) (length (now (marks .entry)))) ⌝ }
+    ensures { λ r. ⌜ AnswerKeepsBest (arrays (now (labels .entry)) (now (responsibilities .entry)) (now («group_weights» .entry))
+        (now (directions .entry)) (now (concentrations .entry)) (now (logw .entry)))
+        (now (weights .entry)) (now (coords .entry)) d s «k_min» «k_max» (length (now (work .entry)))
+        (length (now (marks .entry))) r (arrays (now (labels .exit)) (now (responsibilities .exit)) (now («group_weights» .exit))
+        (now (directions .exit)) (now (concentrations .exit)) (now (logw .exit))) ⌝ }
 {
     let m = weights.len();
     let hi = auto_choice::highest_number(k_max, m);
@@ -123,12 +87,13 @@ pub fn movmf_auto_with(
         work: work.len(),
         marks: marks.len(),
     };
-    let code = refusal(weights, coords, d, hi, s.rounds, l);
+    let groups = hi <= 64;
+    let code = mixture_outputs::refusal(weights, coords, d, hi, groups, s, l);
     if code != 0 {
         return Chosen::Refused(code);
     }
     let ln_total = logarithm::ln(vector::sum(weights));
-    let t = auto_tries::try_numbers(
+    let t = auto_tries::fit_range(
         weights,
         coords,
         d,
@@ -166,15 +131,19 @@ pub fn movmf_auto(
     work: &mut [f64],
     marks: &mut [u32],
 ) -> Chosen
-    ensures { λ r. ⌜ _≡_ {A = Outcome}
-        (record { answer = r; outputs = arrays (now (labels .exit)) (now (responsibilities .exit)) (now («group_weights» .exit)) (now (directions .exit)) (now (concentrations .exit)) (now (logw .exit)) })
-        (outcome (arrays (now (labels .entry)) (now (responsibilities .entry)) (now («group_weights» .entry)) (now (directions .entry)) (now (concentrations .entry)) (now (logw .entry)))
-        (now (weights .entry)) (now (coords .entry)) d (record { rounds = rounds; seed = seed; kappa = Free }) «k_min» «k_max» (length (now (work .entry))) (length (now (marks .entry)))) ⌝ }
-    ensures { λ r. ⌜ (refusalOf (now (weights .entry)) (now (coords .entry)) d (highest «k_max» (length (now (weights .entry)))) rounds
-        (lengthsOf (arrays (now (labels .entry)) (now (responsibilities .entry)) (now («group_weights» .entry)) (now (directions .entry)) (now (concentrations .entry)) (now (logw .entry))) (length (now (work .entry))) (length (now (marks .entry)))) ≡ 0
-        → Best (arrays (now (labels .entry)) (now (responsibilities .entry)) (now («group_weights» .entry)) (now (directions .entry)) (now (concentrations .entry)) (now (logw .entry)))
-        (now (weights .entry)) (now (coords .entry)) d (record { rounds = rounds; seed = seed; kappa = Free }) (lowest «k_min» (highest «k_max» (length (now (weights .entry))))) (highest «k_max» (length (now (weights .entry)))) r
-        (arrays (now (labels .exit)) (now (responsibilities .exit)) (now («group_weights» .exit)) (now (directions .exit)) (now (concentrations .exit)) (now (logw .exit)))) ⌝ }
+    ensures { λ r. ⌜ _≡_ {A = Outcome} (record {
+      answer = r;
+      outputs = arrays (now (labels .exit)) (now (responsibilities .exit)) (now («group_weights» .exit))
+          (now (directions .exit)) (now (concentrations .exit)) (now (logw .exit));
+    })
+        (outcome (arrays (now (labels .entry)) (now (responsibilities .entry)) (now («group_weights» .entry))
+        (now (directions .entry)) (now (concentrations .entry)) (now (logw .entry))) (now (weights .entry))
+        (now (coords .entry)) d (record { rounds = rounds; seed = seed; kappa = Free }) «k_min» «k_max» (length (now (work .entry))) (length (now (marks .entry)))) ⌝ }
+    ensures { λ r. ⌜ AnswerKeepsBest (arrays (now (labels .entry)) (now (responsibilities .entry)) (now («group_weights» .entry))
+        (now (directions .entry)) (now (concentrations .entry)) (now (logw .entry)))
+        (now (weights .entry)) (now (coords .entry)) d (record { rounds = rounds; seed = seed; kappa = Free }) «k_min» «k_max» (length (now (work .entry)))
+        (length (now (marks .entry))) r (arrays (now (labels .exit)) (now (responsibilities .exit)) (now («group_weights» .exit))
+        (now (directions .exit)) (now (concentrations .exit)) (now (logw .exit))) ⌝ }
 {
     let s = mixture_kappa::Settings {
         rounds,

@@ -4,11 +4,12 @@ use mathlib.Core.Path.{_≡_, refl}
 use mathlib.Core.List.{List}
 use mathlib.Core.Bool.{Bool, true}
 use Prim.Native.Nat.{ℕ, _*_, _≤_}
+use native.Mathlib.Nat.{mul-le-mul}
 use native.Mathlib.Omega.{arith}
 use lib.Dec.{leb}
 use lib.ListN.{length}
 use lib.Ieee.{Float}
-use borrow.Author.Tests.{leb-true}
+use borrow.Author.Tests.{leb-true, le-leb}
 use Rattle.limits.specs.Limits.{workLength, marksLength, mostGroups, LeavesOk}
 use Rattle.limits.proofs.Limits.{both, admitted, sizes-met}
 use Rattle.limits.proofs.Sizes.{sizes-of}
@@ -46,6 +47,25 @@ arrays-met m k d l e =
       work-long = leb-true _ _ (w .0);
       marks-long = leb-true _ _ (w .1);
     }
+
+-- arrays that are long enough for hi groups are for fewer
+pub arrays-below : (m hi k d : ℕ) (l : Lengths) → k ≤ hi → arraysOk m hi d l ≡ true → arraysOk m k d l ≡ true
+arrays-below m hi k d l most e =
+    let a = arrays-met m hi d l e in
+    let same : m ≤ m = omega arith in
+    let rows : m * k ≤ m * hi = mul-le-mul same most in
+    let whole : d ≤ d = omega arith in
+    let groups : k * d ≤ hi * d = mul-le-mul most whole in
+    rw (
+      le-leb m (l .labels) (a .leaves .labels-long),
+      le-leb (m * k) (l .responsibilities) (omega (arith, a .leaves .responsibilities-long, rows)),
+      le-leb k (l .weights) (omega (arith, a .groups .weights-long)),
+      le-leb (k * d) (l .directions) (omega (arith, a .groups .directions-long, groups)),
+      le-leb k (l .concentrations) (omega (arith, a .groups .concentrations-long)),
+      le-leb k (l .logw) (omega (arith, a .groups .logw-long)),
+      le-leb (workLength m k d) (l .work) (omega (arith, a .work-long, rows, groups)),
+      le-leb (marksLength m k) (l .marks) (omega (arith, a .marks-long)),
+    )
 
 -- ---- nothing is refused
 pub record Ready (groups : Bool) (weights coords : List Float) (d k rounds : ℕ) (l : Lengths) : Type 0 where

@@ -1,46 +1,26 @@
--- The contract of `movmf_auto_with` at these settings. Assumes nothing.
+-- `auto::movmf_auto` meets its contract: it is that of `movmf_auto_with` at these settings. Assumes nothing.
 use borrow.Author.Needs.{needs}
 use Rattle.auto.proofs.movmf_auto.Statement.{statement}
 use Rattle.auto.proofs.movmf_auto.Tie as tie
 
-same-length : tie.Need-same-length
-same-length c = c .before .before .before .before .before .before .before .before .before .before .before .before .before .before .before .before .movmf-auto-with .kept .1 .1 .1 .1 .1 .1 .0
+abbrev fitted : tie.After-slice-known16 → tie.After-movmf-auto-with
+fitted c =
+    let q = c .before .before .before .before .before .before in
+    let r = q .before .before .before .before .before in
+    r .before .before .before .before .before
 
-same-length-2 : tie.Need-same-length-2
-same-length-2 c = c .before .before .before .before .before .before .before .before .before .before .before .before .before .before .before .before .movmf-auto-with .kept .1 .1 .1 .1 .1 .1 .1 .0
-
-same-length-3 : tie.Need-same-length-3
-same-length-3 c = c .before .before .before .before .before .before .before .before .before .before .before .before .before .before .before .before .movmf-auto-with .kept .1 .1 .1 .1 .1 .1 .1 .1 .0
-
-same-length-4 : tie.Need-same-length-4
-same-length-4 c = c .before .before .before .before .before .before .before .before .before .before .before .before .before .before .before .before .movmf-auto-with .kept .1 .1 .1 .1 .1 .1 .1 .1 .1 .0
-
-same-length-5 : tie.Need-same-length-5
-same-length-5 c = c .before .before .before .before .before .before .before .before .before .before .before .before .before .before .before .before .movmf-auto-with .kept .1 .1 .1 .1 .1 .1 .1 .1 .1 .1 .0
-
-same-length-6 : tie.Need-same-length-6
-same-length-6 c = c .before .before .before .before .before .before .before .before .before .before .before .before .before .before .before .before .movmf-auto-with .kept .1 .1 .1 .1 .1 .1 .1 .1 .1 .1 .1 .0
-
-same-length-7 : tie.Need-same-length-7
-same-length-7 c = c .before .before .before .before .before .before .before .before .before .before .before .before .before .before .before .before .movmf-auto-with .kept .1 .1 .1 .1 .1 .1 .1 .1 .1 .1 .1 .1 .0
-
-same-length-8 : tie.Need-same-length-8
-same-length-8 c = c .before .before .before .before .before .before .before .before .before .before .before .before .before .before .before .before .movmf-auto-with .kept .1 .1 .1 .1 .1 .1 .1 .1 .1 .1 .1 .1 .1 .0
-
-returns : tie.Need-returns
-returns c = c .before .before .before .before .before .before .before .before .before .before .before .before .before .before .before .before .movmf-auto-with .ensures
 
 pub movmf-auto-spec : {M : Type 1} → statement M
 movmf-auto-spec =
     tie.close
     (tie.spec
     (λ c κs. search needs)
-    same-length
-    same-length-2
-    same-length-3
-    same-length-4
-    same-length-5
-    same-length-6
-    same-length-7
-    same-length-8
-    returns)
+    (λ c. fitted c .movmf-auto-with .kept .1 .1 .1 .1 .1 .1 .0)
+    (λ c. fitted c .movmf-auto-with .kept .1 .1 .1 .1 .1 .1 .1 .0)
+    (λ c. fitted c .movmf-auto-with .kept .1 .1 .1 .1 .1 .1 .1 .1 .0)
+    (λ c. fitted c .movmf-auto-with .kept .1 .1 .1 .1 .1 .1 .1 .1 .1 .0)
+    (λ c. fitted c .movmf-auto-with .kept .1 .1 .1 .1 .1 .1 .1 .1 .1 .1 .0)
+    (λ c. fitted c .movmf-auto-with .kept .1 .1 .1 .1 .1 .1 .1 .1 .1 .1 .1 .0)
+    (λ c. fitted c .movmf-auto-with .kept .1 .1 .1 .1 .1 .1 .1 .1 .1 .1 .1 .1 .0)
+    (λ c. fitted c .movmf-auto-with .kept .1 .1 .1 .1 .1 .1 .1 .1 .1 .1 .1 .1 .1 .0)
+    (λ c. fitted c .movmf-auto-with .ensures))

@@ -1,15 +1,32 @@
--- What is not refused is within the limits, so every number of the range can be tried; each end is the outcome at the number of the refusal, and what holds of the best
--- number of a range holds of the answer. Assumes nothing.
-use mathlib.Core.Path.{sym, ap, _∙_}
+-- `auto::movmf_auto_with` meets its contract: what is not refused has room for the greatest number of groups; each end is the
+-- outcome at the number of the refusal, and keeps the best number. Assumes nothing.
+use mathlib.Core.Path.{_≡_, ap, sym, _∙_}
+use mathlib.Core.Bool.{true}
+use Prim.Native.Nat.{_≤_}
 use lib.ListN.{length}
-use Rattle.logarithm.specs.Logarithm.{lnOf}
-use Rattle.mixture_outputs.specs.Outputs.{Outputs, lengthsOf, arrays}
-use Rattle.auto.proofs.Refusals.{ready}
-use Rattle.auto.proofs.Bests.{auto-best}
-use Rattle.auto.proofs.Outcomes.{highest-some, lowest-some, lowest-most, refused, not-refused, done, done-best}
 use borrow.Author.Needs.{needs}
+use borrow.Author.Tests.{leb-true}
+use Rattle.logarithm.specs.Logarithm.{lnOf}
+use Rattle.mixture_outputs.specs.Outputs.{Outputs, arrays, lengthsOf}
+use Rattle.auto.proofs.Outcomes.{highest-some, lowest-some, lowest-most, admitted, refused, refused-best, done, done-best}
 use Rattle.auto.proofs.movmf_auto_with.Statement.{statement}
 use Rattle.auto.proofs.movmf_auto_with.Tie as tie
+
+-- places, each from a later one
+abbrev start : tie.After-highest-number → tie.Start
+start h = let q = h .before .before .before .before .before in q .before .before .before .before .before .before
+
+abbrev highest-at : tie.After-refusal → tie.After-highest-number
+highest-at r = r .before .before
+
+abbrev passed : tie.After-fit-range-arg8 → tie.Else1
+passed f = let q = f .before .before .before .before .before in q .before .before .before .before .before
+
+abbrev fitted : tie.After-answer → tie.After-fit-range
+fitted c =
+    let q = c .before .before .before .before .before .before in
+    let r = q .before .before .before .before .before .before in
+    r .before .before .before .before .before
 
 -- the arrays as found
 abbrev found : tie.Start → Outputs
@@ -17,80 +34,63 @@ found s =
     let a = s .args in
     arrays (a .labels .now) (a .responsibilities .now) (a .group-weights .now) (a .directions .now) (a .concentrations .now) (a .logw .now)
 
+some-at : (h : tie.After-highest-number) → 1 ≤ h .highest-number .result
+some-at h = let a = start h .args in highest-some (a .k-max) (length (a .weights .now)) _ (h .highest-number .ensures)
+
+refusal-requires : tie.Need-refusal-requires
+refusal-requires c κs = λ e. leb-true _ _ e
+
 returns : tie.Need-returns
 returns c =
-    let s = c .before .before .before .before .before .before .before .before .before .before .before .before .before .before in
-    let a = s .args in
-    let h = c .before .before .before .highest-number in
-    let l = c .before .before .lowest-number in
-    let r = c .before .refusal in (
+    let r = c .before in
+    let h = highest-at r in
+    let l = r .before .lowest-number in
+    let s = start h in
+    let a = s .args in (
       refused (found s) (a .weights .now) (a .coords .now) (a .d) (a .k-min) (a .k-max) (a .s) (length (a .work .now)) (length (a .marks .now))
-          (l .result) (h .result) (h .ensures) (l .ensures) (r .result) (r .ensures) (c .if1 .taken),
-      λ z. absurd
-          (c .if1 .taken
-          (not-refused (found s) (a .weights .now) (a .coords .now) (a .d) (a .k-min) (a .k-max) (a .s) (length (a .work .now)) (length (a .marks .now))
-          (l .result) (h .result) (h .ensures) (l .ensures) (r .result) (r .ensures) z)),
+          (l .result) (h .highest-number .result) (h .highest-number .ensures) (l .ensures) (r .refusal .result) (r .refusal .ensures)
+          (c .if1 .taken),
+      refused-best (found s) (a .weights .now) (a .coords .now) (a .d) (a .k-min) (a .k-max) (a .s) (length (a .work .now))
+          (length (a .marks .now)) (l .result) (h .highest-number .result) (h .highest-number .ensures) (l .ensures) (r .refusal .result)
+          (r .refusal .ensures) (c .if1 .taken),
     )
 
-try-numbers-requires : tie.Need-try-numbers-requires
-try-numbers-requires c κs =
-    let s = c .before .before .before .before .before .before .before .before .before .before .before .before .before .before .before .before .before .before .before .before .before .before .before .before in
+fit-range-requires : tie.Need-fit-range-requires
+fit-range-requires c κs =
+    let e = passed c in
+    let r = e .before in
+    let h = highest-at r in
+    let l = r .before .lowest-number in
+    let s = start h in
     let a = s .args in
-    let h = c .before .before .before .before .before .before .before .before .before .before .before .before .before .highest-number in
-    let l = c .before .before .before .before .before .before .before .before .before .before .before .before .lowest-number in
-    let e = c .before .before .before .before .before .before .before .before .before .before in
-    let some = highest-some (a .k-max) (length (a .weights .now)) (h .result) (h .ensures) in (
-      ready (a .weights .now) (a .coords .now) (a .d) (h .result) (a .s .rounds) (lengthsOf (found s) (length (a .work .now)) (length (a .marks .now)))
-          (sym (e .before .refusal .ensures) ∙ e .if1 .left) some,
+    let n = c .before .before .before .before .before .before .before in (
+      admitted (a .weights .now) (a .coords .now) (a .d) (h .highest-number .result) (a .s)
+          (lengthsOf (found s) (length (a .work .now)) (length (a .marks .now))) (some-at h) (sym (r .refusal .ensures) ∙ e .if1 .left) .fittable,
       (
-        lowest-some (a .k-min) (h .result) (l .result) (l .ensures) some,
-        lowest-most (a .k-min) (h .result) (l .result) (l .ensures),
-        c .before .before .before .before .before .before .before .before .ln .ensures ∙ ap lnOf (c .before .before .before .before .before .before .before .before .before .sum .ensures),
+        lowest-some (a .k-min) (h .highest-number .result) (l .result) (l .ensures) (some-at h),
+        lowest-most (a .k-min) (h .highest-number .result) (l .result) (l .ensures),
+        n .before .ln .ensures ∙ ap lnOf (n .before .before .sum .ensures),
       ),
     )
 
-same-length : tie.Need-same-length
-same-length c = c .before .before .before .before .before .before .before .before .before .before .before .before .before .before .before .before .before .try-numbers .kept .1 .1 .1 .1 .1 .1 .1 .0
-
-same-length-2 : tie.Need-same-length-2
-same-length-2 c = c .before .before .before .before .before .before .before .before .before .before .before .before .before .before .before .before .before .try-numbers .kept .1 .1 .1 .1 .1 .1 .1 .1 .0
-
-same-length-3 : tie.Need-same-length-3
-same-length-3 c = c .before .before .before .before .before .before .before .before .before .before .before .before .before .before .before .before .before .try-numbers .kept .1 .1 .1 .1 .1 .1 .1 .1 .1 .0
-
-same-length-4 : tie.Need-same-length-4
-same-length-4 c = c .before .before .before .before .before .before .before .before .before .before .before .before .before .before .before .before .before .try-numbers .kept .1 .1 .1 .1 .1 .1 .1 .1 .1 .1 .0
-
-same-length-5 : tie.Need-same-length-5
-same-length-5 c = c .before .before .before .before .before .before .before .before .before .before .before .before .before .before .before .before .before .try-numbers .kept .1 .1 .1 .1 .1 .1 .1 .1 .1 .1 .1 .0
-
-same-length-6 : tie.Need-same-length-6
-same-length-6 c = c .before .before .before .before .before .before .before .before .before .before .before .before .before .before .before .before .before .try-numbers .kept .1 .1 .1 .1 .1 .1 .1 .1 .1 .1 .1 .1 .0
-
-same-length-7 : tie.Need-same-length-7
-same-length-7 c = c .before .before .before .before .before .before .before .before .before .before .before .before .before .before .before .before .before .try-numbers .kept .1 .1 .1 .1 .1 .1 .1 .1 .1 .1 .1 .1 .1 .0
-
-same-length-8 : tie.Need-same-length-8
-same-length-8 c = c .before .before .before .before .before .before .before .before .before .before .before .before .before .before .before .before .before .try-numbers .kept .1 .1 .1 .1 .1 .1 .1 .1 .1 .1 .1 .1 .1 .1 .0
-
 returns-2 : tie.Need-returns-2
 returns-2 c =
-    let s = c .before .before .before .before .before .before .before .before .before .before .before .before .before .before .before .before .before .before .before .before .before .before .before .before .before .before .before .before .before .before .before .before .before .before .before .before .before .before .before .before .before .before in
+    let f = fitted c in
+    let e = passed (f .before) in
+    let r = e .before in
+    let h = highest-at r in
+    let l = r .before .lowest-number in
+    let s = start h in
     let a = s .args in
-    let h = c .before .before .before .before .before .before .before .before .before .before .before .before .before .before .before .before .before .before .before .before .before .before .before .before .before .before .before .before .before .before .before .highest-number in
-    let l = c .before .before .before .before .before .before .before .before .before .before .before .before .before .before .before .before .before .before .before .before .before .before .before .before .before .before .before .before .before .before .lowest-number in
-    let e = c .before .before .before .before .before .before .before .before .before .before .before .before .before .before .before .before .before .before .before .before .before .before .before .before .before .before .before .before in
-    let r = e .before .refusal in
-    let n = c .before .before .before .before .before .before .before .before .before .before .before .before .before .before .before .before .before .try-numbers in
+    let n = f .fit-range in
     let x = n .last .1 .1 .1 .1 .1 .1 .1 in
-    let o = arrays (x .0) (x .1 .0) (x .1 .1 .0) (x .1 .1 .1 .0) (x .1 .1 .1 .1 .0) (x .1 .1 .1 .1 .1 .0) in
-    let some = highest-some (a .k-max) (length (a .weights .now)) (h .result) (h .ensures) in (
+    let o = arrays (x .0) (x .1 .0) (x .1 .1 .0) (x .1 .1 .1 .0) (x .1 .1 .1 .1 .0) (x .1 .1 .1 .1 .1 .0) in (
       done (found s) (a .weights .now) (a .coords .now) (a .d) (a .k-min) (a .k-max) (a .s) (length (a .work .now)) (length (a .marks .now))
-          (l .result) (h .result) (h .ensures) (l .ensures) (r .result) (r .ensures) (n .result) (c .answer .result) o (n .ensures) (c .answer .ensures) (e .if1 .left),
-      λ z. done-best (found s) (a .weights .now) (a .coords .now) (a .d) (a .k-min) (a .k-max) (a .s) (length (a .work .now)) (length (a .marks .now))
-          (l .result) (h .result) (h .ensures) (l .ensures) (r .result) (r .ensures) (n .result) (c .answer .result) o (n .ensures) (c .answer .ensures)
-          (auto-best (found s) (a .weights .now) (a .coords .now) (a .d) (a .s) (l .result) (h .result) (lowest-some (a .k-min) (h .result) (l .result) (l .ensures) some)
-          (lowest-most (a .k-min) (h .result) (l .result) (l .ensures))),
+          (l .result) (h .highest-number .result) (h .highest-number .ensures) (l .ensures) (r .refusal .result) (r .refusal .ensures)
+          (n .result) (c .answer .result) o (n .ensures) (c .answer .ensures) (e .if1 .left),
+      done-best (found s) (a .weights .now) (a .coords .now) (a .d) (a .k-min) (a .k-max) (a .s) (length (a .work .now))
+          (length (a .marks .now)) (l .result) (h .highest-number .result) (h .highest-number .ensures) (l .ensures) (r .refusal .result)
+          (r .refusal .ensures) (n .result) (c .answer .result) o (n .ensures) (c .answer .ensures),
     )
 
 pub movmf-auto-with-spec : {M : Type 1} → statement M
@@ -99,18 +99,18 @@ movmf-auto-with-spec =
     (tie.spec
     (λ c κs. search needs)
     (λ c κs. search needs)
-    (λ c κs. search needs)
+    refusal-requires
     returns
     (λ c κs. search needs)
     (λ c κs. search needs)
-    try-numbers-requires
+    fit-range-requires
     (λ c κs. search needs)
-    same-length
-    same-length-2
-    same-length-3
-    same-length-4
-    same-length-5
-    same-length-6
-    same-length-7
-    same-length-8
+    (λ c. fitted c .fit-range .kept .1 .1 .1 .1 .1 .1 .1 .0)
+    (λ c. fitted c .fit-range .kept .1 .1 .1 .1 .1 .1 .1 .1 .0)
+    (λ c. fitted c .fit-range .kept .1 .1 .1 .1 .1 .1 .1 .1 .1 .0)
+    (λ c. fitted c .fit-range .kept .1 .1 .1 .1 .1 .1 .1 .1 .1 .1 .0)
+    (λ c. fitted c .fit-range .kept .1 .1 .1 .1 .1 .1 .1 .1 .1 .1 .1 .0)
+    (λ c. fitted c .fit-range .kept .1 .1 .1 .1 .1 .1 .1 .1 .1 .1 .1 .1 .0)
+    (λ c. fitted c .fit-range .kept .1 .1 .1 .1 .1 .1 .1 .1 .1 .1 .1 .1 .1 .0)
+    (λ c. fitted c .fit-range .kept .1 .1 .1 .1 .1 .1 .1 .1 .1 .1 .1 .1 .1 .1 .0)
     returns-2)
