@@ -16,7 +16,7 @@ use Rattle.auto_choice.specs.Choice.{BestOf}
 use Rattle.auto_choice.specs.declared.Choice.{Choice}
 use Rattle.auto_choice.specs.declared.Choice.the-variants.{Number, Nothing}
 use Rattle.auto_choice.proofs.Choices.{Means, chosen-means, one-best}
-use Rattle.auto_tries.specs.Lone.{lone, score, countsOf, writtenBy}
+use Rattle.auto_tries.specs.Lone.{lone, score, chosenOf, countsOf, writtenBy}
 use Rattle.auto.specs.Outcome.{answerBy, ended}
 use Rattle.auto.specs.Answers.{Numbers, numbersOf}
 use Rattle.auto.specs.Best.{products, Best}
@@ -66,4 +66,4 @@ module _ (o : Outputs) (weights coords : List Float) (d : ℕ) (s : Settings) (l
       }
 
   pub ended-best : let e = ended o weights coords d s lo hi in Best weights coords d s lo hi (numbersOf found (e .answer)) o (e .outputs)
-  ended-best = best-by _ (chosen-means scores lo n)
+  ended-best = best-by (chosenOf weights coords d s lo n) (chosen-means scores lo n)

@@ -81,7 +81,9 @@ module _ (o : Outputs) (weights coords : List Float) (d kMin kMax : ℕ) (s : Se
         let c = chosenOf weights coords d s lo (hi + 1 - lo) in
         let n = countsOf weights coords d s lo (hi + 1 - lo) in
         let same : t ≡ record { choice = c; loglik = loglikBy weights coords d s c; counts = n } =
-        rw (← fit .choice, ← fit .loglik, ← fit .counts) in
+        ap (λ (x : Choice). record { choice = x; loglik = t .loglik; counts = t .counts }) (fit .choice)
+        ∙ ap (λ (x : Float). record { choice = c; loglik = x; counts = t .counts }) (fit .loglik)
+        ∙ ap (λ (x : Counts). record { choice = c; loglik = loglikBy weights coords d s c; counts = x }) (fit .counts) in
         let is : r ≡ answerBy weights coords d s n c = er ∙ ap answerOf same ∙ tallied weights coords d s n c in
         rw (is, fit .outputs)
 

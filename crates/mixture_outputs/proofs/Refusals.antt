@@ -10,7 +10,7 @@ use lib.Dec.{leb}
 use lib.ListN.{length}
 use lib.Ieee.{Float}
 use borrow.Author.Tests.{leb-true, le-leb}
-use Rattle.limits.specs.Limits.{workLength, marksLength, mostGroups, LeavesOk}
+use Rattle.limits.specs.Limits.{every, weightOk, coordinateOk, sizesOk, roundsOk, workLength, marksLength, mostGroups, LeavesOk}
 use Rattle.limits.proofs.Limits.{both, admitted, sizes-met}
 use Rattle.limits.proofs.Sizes.{sizes-of}
 use Rattle.mixture_kappa.specs.declared.Settings.{Settings}
@@ -49,7 +49,7 @@ arrays-met m k d l e =
     }
 
 -- arrays that are long enough for hi groups are for fewer
-pub arrays-below : (m hi k d : ℕ) (l : Lengths) → k ≤ hi → arraysOk m hi d l ≡ true → arraysOk m k d l ≡ true
+arrays-below : (m hi k d : ℕ) (l : Lengths) → k ≤ hi → arraysOk m hi d l ≡ true → arraysOk m k d l ≡ true
 arrays-below m hi k d l most e =
     let a = arrays-met m hi d l e in
     let same : m ≤ m = omega arith in
@@ -104,6 +104,16 @@ ready groups weights coords d k s l few none =
           };
       leaves = record { sizes-ok = t .sizes-ok; weights-ok = t .weights-ok; coords-ok = t .coords-ok };
     }
+
+-- a fit of hi groups that is not refused is not with fewer, if their number is admitted
+pub fewer-groups : (groups groups' : Bool) (weights coords : List Float) (d hi k : ℕ) (s : Settings) (l : Lengths) → groups' ≡ true
+    → k ≤ hi → fitRefusal groups weights coords d hi s l ≡ 0 → fitRefusal groups' weights coords d k s l ≡ 0
+unfolding fitRefusal
+fewer-groups groups groups' weights coords d hi k s l ok most none =
+    let m = length weights in
+    let t = admitted (sizesOk m d (length coords)) groups (roundsOk (s .rounds)) (arraysOk m hi d l) (every weightOk weights)
+    (every coordinateOk coords) none in
+    rw (t .sizes-ok, ok, t .settings-ok, arrays-below m hi k d l most (t .arrays-ok), t .weights-ok, t .coords-ok)
 
 -- what fills the outputs is there, while the work array is as long as it was
 pub fillable : (work weights coords m k d rounds : ℕ) (l : Lengths) → work ≡ l .work → Fittable weights coords m k d rounds l

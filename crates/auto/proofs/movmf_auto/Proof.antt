@@ -9,7 +9,6 @@ fitted c =
     let r = q .before .before .before .before .before in
     r .before .before .before .before .before
 
-
 pub movmf-auto-spec : {M : Type 1} → statement M
 movmf-auto-spec =
     tie.close
