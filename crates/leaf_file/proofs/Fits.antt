@@ -9,44 +9,40 @@ use lib.Ieee.{Float}
 use Rattle.float.specs.Arithmetic.{plusZero}
 use Rattle.mixture_kappa.specs.Kappas.{tabulate}
 use Rattle.mixture_run.proofs.Regions.{tabulate-length}
-use Rattle.mixture_outputs.specs.Outputs.{arrays, lengthsOf}
-use Rattle.auto_choice.specs.Choice.{highest, lowest}
-use Rattle.auto.specs.Refusals.{refusalOf}
+use Rattle.mixture_outputs.specs.Outputs.{arrays}
 use Rattle.auto.specs.Outcome.{Outcome, outcome}
-use Rattle.auto.specs.Best.{Best}
+use Rattle.auto.specs.Best.{AnswerKeepsBest}
 use Rattle.auto.specs.declared.Chosen.the-variants.{Refused}
-use Rattle.leaf_file.specs.LeafFile.{Leaves, wholeAt, f64sAt, leavesOf, leavesIn, fileRefusal, settings, room, workRoom, marksRoom, leavesFit, KeepsBest, FileFit, fileFitBy, fileFit}
+use Rattle.leaf_file.specs.LeafFile.{Leaves, wholeAt, f64sAt, leavesOf, leavesIn, fileRefusal, settings, room, workRoom, marksRoom, leavesFit, LeavesKeepBest, FileFit, fileFitBy, fileFit}
 
 module _ (weights coords : List Float) (d : ℕ) (labels : List ℕ) where
   abbrev leaves : Leaves
   leaves = record { d = d; weights = weights; coords = coords }
 
-  -- the highest number
-  abbrev hi : ℕ
-  hi = highest 4 (length weights)
-
   -- an outcome in arrays that are all zeros, with demand 3 of it
-  pub fit-by : (resp groups dirs kappas logw : List Float) (work marks : ℕ) → resp ≡ replicate (64 * 4) plusZero → groups ≡ replicate 4 plusZero → dirs ≡ replicate (4 * 16) plusZero
-      → kappas ≡ replicate 4 plusZero → logw ≡ replicate 4 plusZero → work ≡ workRoom → marks ≡ marksRoom
-      → (e : Outcome) → e ≡ outcome (arrays labels resp groups dirs kappas logw) weights coords d settings 1 4 work marks
-      → (refusalOf weights coords d hi 100 (lengthsOf (arrays labels resp groups dirs kappas logw) work marks) ≡ 0
-      → Best (arrays labels resp groups dirs kappas logw) weights coords d settings (lowest 1 hi) hi (e .answer) (e .outputs))
-      → (_≡_ {A = FileFit} (record { answer = e .answer; labels = e .outputs .labels }) (fileFitBy 0 leaves labels)) × (KeepsBest leaves labels (e .answer))
+  pub fit-by : (resp groups dirs kappas logw : List Float) (work marks : ℕ) → resp ≡ replicate (64 * 4) plusZero
+      → groups ≡ replicate 4 plusZero → dirs ≡ replicate (4 * 16) plusZero → kappas ≡ replicate 4 plusZero
+      → logw ≡ replicate 4 plusZero → work ≡ workRoom → marks ≡ marksRoom
+      → let o = arrays labels resp groups dirs kappas logw in
+      (e : Outcome) → e ≡ outcome o weights coords d settings 1 4 work marks
+      → AnswerKeepsBest o weights coords d settings 1 4 work marks (e .answer) (e .outputs)
+      → (_≡_ {A = FileFit} (record { answer = e .answer; labels = e .outputs .labels }) (fileFitBy 0 leaves labels))
+      × (LeavesKeepBest leaves labels (e .answer))
   unfolding leavesFit
   fit-by resp groups dirs kappas logw work marks a b c f g h i e p best =
       let q : e ≡ outcome (room labels) weights coords d settings 1 4 workRoom marksRoom = rw (a, b, c, f, g, h, i) at p in
-      let best' : (refusalOf weights coords d hi 100 (lengthsOf (room labels) workRoom marksRoom) ≡ 0
-      → Best (room labels) weights coords d settings (lowest 1 hi) hi (e .answer) (e .outputs)) = rw (a, b, c, f, g, h, i) at best in (
+      let best' : AnswerKeepsBest (room labels) weights coords d settings 1 4 workRoom marksRoom (e .answer) (e .outputs) =
+      rw (a, b, c, f, g, h, i) at best in (
         ap (λ (o : Outcome). record { answer = o .answer; labels = o .outputs .labels }) q,
-        λ z. subst (λ (o : Outcome). Best (room labels) weights coords d settings (lowest 1 hi) hi (e .answer) (o .outputs)) q (best' z),
+        subst (λ (o : Outcome). AnswerKeepsBest (room labels) weights coords d settings 1 4 workRoom marksRoom (e .answer) (o .outputs)) q best',
       )
 
 -- the fit of the numbers that a file holds is the fit of its leaves
 pub fit-read : (bytes : List ℕ) (m d : ℕ) (labels : List ℕ) (ws cs : List Float) (x : FileFit) → ws ≡ f64sAt bytes 8 m → cs ≡ f64sAt bytes (8 + 8 * m) (m * d)
-    → (x ≡ fileFitBy 0 (record { d = d; weights = ws; coords = cs }) labels) × (KeepsBest (record { d = d; weights = ws; coords = cs }) labels (x .answer))
-    → (x ≡ fileFitBy 0 (leavesOf bytes m d) labels) × (KeepsBest (leavesOf bytes m d) labels (x .answer))
+    → (x ≡ fileFitBy 0 (record { d = d; weights = ws; coords = cs }) labels) × (LeavesKeepBest (record { d = d; weights = ws; coords = cs }) labels (x .answer))
+    → (x ≡ fileFitBy 0 (leavesOf bytes m d) labels) × (LeavesKeepBest (leavesOf bytes m d) labels (x .answer))
 fit-read bytes m d labels ws cs x e f p =
-    subst (λ (l : Leaves). (x ≡ fileFitBy 0 l labels) × (KeepsBest l labels (x .answer))) (ap₂ (λ (w v : List Float). record { d = d; weights = w; coords = v }) e f) p
+    subst (λ (l : Leaves). (x ≡ fileFitBy 0 l labels) × (LeavesKeepBest l labels (x .answer))) (ap₂ (λ (w v : List Float). record { d = d; weights = w; coords = v }) e f) p
 
 -- the front of an array, after f 0, f 1, .. were read into it
 pub front-read : (f : ℕ → Float) (w v : List Float) (n : ℕ) → n ≤ length w → v ≡ tabulate f (length (take n w)) → take n (v ++ drop n w) ≡ tabulate f n
@@ -57,14 +53,14 @@ front-read f w v n h e =
 -- a file, once it is known whether it is refused
 pub file-refused : (bytes labels : List ℕ) (code : ℕ) → code ≡ fileRefusal bytes → ¬ (code ≡ 0)
     → (_≡_ {A = FileFit} (record { answer = Refused code; labels = labels }) (fileFit bytes labels))
-    × (fileRefusal bytes ≡ 0 → KeepsBest (leavesIn bytes) labels (Refused code))
+    × (fileRefusal bytes ≡ 0 → LeavesKeepBest (leavesIn bytes) labels (Refused code))
 file-refused bytes labels zero e n = absurd (n refl)
 file-refused bytes labels (suc code) e n = (rw (← e) refl, λ z. absurd (omega (arith, e, z)))
 
 pub file-fitted : (bytes labels : List ℕ) (m d : ℕ) (x : FileFit) → m ≡ wholeAt bytes 0 4 → d ≡ wholeAt bytes 4 4 → fileRefusal bytes ≡ 0
-    → (x ≡ fileFitBy 0 (leavesOf bytes m d) labels) × (KeepsBest (leavesOf bytes m d) labels (x .answer))
-    → (x ≡ fileFit bytes labels) × (fileRefusal bytes ≡ 0 → KeepsBest (leavesIn bytes) labels (x .answer))
+    → (x ≡ fileFitBy 0 (leavesOf bytes m d) labels) × (LeavesKeepBest (leavesOf bytes m d) labels (x .answer))
+    → (x ≡ fileFit bytes labels) × (fileRefusal bytes ≡ 0 → LeavesKeepBest (leavesIn bytes) labels (x .answer))
 file-fitted bytes labels m d x p q e f =
-    let g : (x ≡ fileFitBy 0 (leavesIn bytes) labels) × (KeepsBest (leavesIn bytes) labels (x .answer)) =
-    subst (λ (l : Leaves). (x ≡ fileFitBy 0 l labels) × (KeepsBest l labels (x .answer))) (ap₂ (λ (i j : ℕ). leavesOf bytes i j) p q) f in
+    let g : (x ≡ fileFitBy 0 (leavesIn bytes) labels) × (LeavesKeepBest (leavesIn bytes) labels (x .answer)) =
+    subst (λ (l : Leaves). (x ≡ fileFitBy 0 l labels) × (LeavesKeepBest l labels (x .answer))) (ap₂ (λ (i j : ℕ). leavesOf bytes i j) p q) f in
     (g .0 ∙ ap (λ (n : ℕ). fileFitBy n (leavesIn bytes) labels) (sym e), λ z. g .1)

@@ -1,6 +1,5 @@
--- Document 01, 'Leaf file and listing program' and 'Refusals by call': the leaves that a file holds, what is refused, and the fit of a file. Definitions only.
--- The leaves and their fit do not depend on the format that held them.
-use mathlib.Core.Path.{_≡_}
+-- Document 01, 'Leaf file and listing program' and 'Refusals by call': the leaves that a file holds, what is refused, and the
+-- fit of a file. Definitions only. The leaves and their fit do not depend on the format that held them.
 use mathlib.Core.List.{List}
 use mathlib.Core.Bool.{_&&_}
 use Prim.Native.Nat.{ℕ, zero, suc, _+_, _*_}
@@ -12,11 +11,9 @@ use Rattle.limits.specs.Limits.{need, workLength, marksLength}
 use Rattle.mixture_kappa.specs.Kappas.{tabulate}
 use Rattle.mixture_kappa.specs.declared.Settings.{Settings}
 use Rattle.mixture_kappa.specs.declared.Kappa.the-variants.{Free}
-use Rattle.mixture_outputs.specs.Outputs.{Outputs, arrays, lengthsOf}
-use Rattle.auto_choice.specs.Choice.{highest, lowest}
-use Rattle.auto.specs.Refusals.{refusalOf}
+use Rattle.mixture_outputs.specs.Outputs.{Outputs, arrays}
 use Rattle.auto.specs.Outcome.{Outcome, outcome}
-use Rattle.auto.specs.Best.{Best}
+use Rattle.auto.specs.Best.{AnswerKeepsBest}
 use Rattle.auto.specs.declared.Chosen.{Chosen}
 use Rattle.auto.specs.declared.Chosen.the-variants.{Refused}
 
@@ -65,7 +62,9 @@ settings = record { rounds = 100; seed = 7; kappa = Free }
 
 -- beside the labels, arrays as long as 64 leaves of 16 coordinates in 4 groups make them; the work arrays likewise
 abbrev pub room : List ℕ → Outputs
-room labels = arrays labels (replicate (64 * 4) plusZero) (replicate 4 plusZero) (replicate (4 * 16) plusZero) (replicate 4 plusZero) (replicate 4 plusZero)
+room labels =
+    arrays labels (replicate (64 * 4) plusZero) (replicate 4 plusZero) (replicate (4 * 16) plusZero) (replicate 4 plusZero)
+    (replicate 4 plusZero)
 
 abbrev pub workRoom : ℕ
 workRoom = workLength 64 4 16
@@ -76,11 +75,10 @@ marksRoom = marksLength 64 4
 unfoldable pub leavesFit : Leaves → List ℕ → Outcome
 leavesFit l labels = outcome (room labels) (l .weights) (l .coords) (l .d) settings 1 4 workRoom marksRoom
 
--- the mission's third demand of such a fit, which no number from 1 to 6 refuses: it keeps exactly the best number of groups
-abbrev pub KeepsBest : Leaves → List ℕ → Chosen → Type 0
-KeepsBest l labels answer =
-    refusalOf (l .weights) (l .coords) (l .d) (highest 4 (length (l .weights))) 100 (lengthsOf (room labels) workRoom marksRoom) ≡ 0
-    → Best (room labels) (l .weights) (l .coords) (l .d) settings (lowest 1 (highest 4 (length (l .weights)))) (highest 4 (length (l .weights))) answer (leavesFit l labels .outputs)
+-- the mission's third demand of such a fit
+abbrev pub LeavesKeepBest : Leaves → List ℕ → Chosen → Type 0
+LeavesKeepBest l labels answer =
+    AnswerKeepsBest (room labels) (l .weights) (l .coords) (l .d) settings 1 4 workRoom marksRoom answer (leavesFit l labels .outputs)
 
 -- what a call answers, and the labels after it; the labels as found where the file is refused
 pub record FileFit : Type 0 where

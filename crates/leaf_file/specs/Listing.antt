@@ -4,6 +4,7 @@ use mathlib.Core.Bool.{cond}
 use Prim.Native.Nat.{ℕ, zero, suc, _+_, _/_, _%_}
 use lib.Dec.{ltb}
 use lib.ListN.{length, getD, take, replicate}
+use Rattle.counts.specs.declared.Counts.{Counts}
 use Rattle.auto.specs.declared.Chosen.{Chosen}
 use Rattle.auto.specs.declared.Chosen.the-variants.{Refused, Unscored, Done}
 use Rattle.leaf_file.specs.LeafFile.{Leaves, leavesFit, fileRefusal, leavesIn}
@@ -60,14 +61,16 @@ abbrev pub refusedText : ℕ → List ℕ
 refusedText code = numberLine refusedWord code
 
 -- chosen k, made, saved, then a line for each shop
-abbrev pub groupsText : ℕ → ℕ → ℕ → List ℕ → List ℕ
-groupsText k made saved labels = numberLine groupsWord k ++ (numberLine madeWord made ++ (numberLine savedWord saved ++ shopLines labels (length labels)))
+abbrev pub groupsText : ℕ → Counts → List ℕ → List ℕ
+groupsText k counts labels =
+    numberLine groupsWord k
+    ++ (numberLine madeWord (counts .made) ++ (numberLine savedWord (counts .saved) ++ shopLines labels (length labels)))
 
 -- these, or a refusal alone
 abbrev pub textOf : Chosen → List ℕ → List ℕ
 textOf (Refused code) labels = refusedText code
-textOf (Unscored made saved) labels = refusedText 7
-textOf (Done k loglik score made saved) labels = groupsText k made saved labels
+textOf (Unscored counts) labels = refusedText 7
+textOf (Done k loglik score counts) labels = groupsText k counts labels
 
 -- the labels of 64 leaves, before they are filled
 abbrev pub blank : List ℕ

@@ -3,7 +3,7 @@ ghost use mathlib.Core.Path.{_≡_};
 ghost use mathlib.Core.List.{[], _∷_, _++_};
 ghost use Prim.Native.Nat.{_+_, _*_, _≤_, _<_};
 ghost use lib.ListN.{length, drop};
-ghost use Rattle.leaf_file.specs.LeafFile.{wholeAt, f64At, f64sAt, refusalBy, fileRefusal, leavesOf, leavesIn, KeepsBest, FileFit, fileFitBy, fileFit};
+ghost use Rattle.leaf_file.specs.LeafFile.{wholeAt, f64At, f64sAt, refusalBy, fileRefusal, leavesOf, leavesIn, LeavesKeepBest, FileFit, fileFitBy, fileFit};
 ghost use Rattle.leaf_file.specs.Listing.{decimalIn, numberLine, shopLine, shopLines, groupsText, refusedText, textOf, listing};
 ghost use Rattle.leaf_file.specs.Texts.{Sized, Put, Counted};
 
@@ -83,7 +83,7 @@ fn file_refusal(bytes: &[u8]) -> u32
 fn fit_leaves(weights: &[f64], coords: &[f64], d: usize, labels: &mut [u32]) -> auto::Chosen
     ensures { λ r. ⌜ _≡_ {A = FileFit} (record { answer = r; labels = now (labels .exit) })
         (fileFitBy 0 (record { d = d; weights = now (weights .entry); coords = now (coords .entry) }) (now (labels .entry))) ⌝ }
-    ensures { λ r. ⌜ KeepsBest (record { d = d; weights = now (weights .entry); coords = now (coords .entry) }) (now (labels .entry)) r ⌝ }
+    ensures { λ r. ⌜ LeavesKeepBest (record { d = d; weights = now (weights .entry); coords = now (coords .entry) }) (now (labels .entry)) r ⌝ }
 {
     let mut responsibilities = [0.0; 256];
     let mut group_weights = [0.0; 4];
@@ -122,7 +122,7 @@ fn fit_sized(
 ) -> auto::Chosen
     requires { ⌜ Sized (length (now bytes)) (length (now weights)) (length (now coords)) m d ⌝ }
     ensures { λ r. ⌜ _≡_ {A = FileFit} (record { answer = r; labels = now (labels .exit) }) (fileFitBy 0 (leavesOf (now (bytes .entry)) m d) (now (labels .entry))) ⌝ }
-    ensures { λ r. ⌜ KeepsBest (leavesOf (now (bytes .entry)) m d) (now (labels .entry)) r ⌝ }
+    ensures { λ r. ⌜ LeavesKeepBest (leavesOf (now (bytes .entry)) m d) (now (labels .entry)) r ⌝ }
 {
     let n = m * d;
     load(&mut weights[..m], bytes, 8);
@@ -133,7 +133,7 @@ fn fit_sized(
 // The automatic fit of a leaf file; the labels are as found where it is refused.
 pub fn fit_file(bytes: &[u8], labels: &mut [u32]) -> auto::Chosen
     ensures { λ r. ⌜ _≡_ {A = FileFit} (record { answer = r; labels = now (labels .exit) }) (fileFit (now (bytes .entry)) (now (labels .entry))) ⌝ }
-    ensures { λ r. ⌜ (fileRefusal (now (bytes .entry)) ≡ 0 → KeepsBest (leavesIn (now (bytes .entry))) (now (labels .entry)) r) ⌝ }
+    ensures { λ r. ⌜ (fileRefusal (now (bytes .entry)) ≡ 0 → LeavesKeepBest (leavesIn (now (bytes .entry))) (now (labels .entry)) r) ⌝ }
 {
     let code = file_refusal(bytes);
     if code != 0 {
@@ -224,13 +224,13 @@ fn put_shops(out: &mut [u8], at: usize, labels: &[u32]) -> usize
 }
 
 // Puts chosen k, made, saved and the shops.
-fn put_groups(out: &mut [u8], k: usize, made: u64, saved: u64, labels: &[u32]) -> usize
+fn put_groups(out: &mut [u8], k: usize, counts: counts::Counts, labels: &[u32]) -> usize
     requires { ⌜ 81 + 42 * length (now labels) ≤ length (now out) ⌝ }
-    ensures { λ r. ⌜ Put (groupsText k made saved (now (labels .entry))) (now (out .entry)) (now (out .exit)) 0 r ⌝ }
+    ensures { λ r. ⌜ Put (groupsText k counts (now (labels .entry))) (now (out .entry)) (now (out .exit)) 0 r ⌝ }
 {
     let a = put_number(out, 0, b"groups ", k as u64);
-    let b = put_number(out, a, b"made ", made);
-    let c = put_number(out, b, b"saved ", saved);
+    let b = put_number(out, a, b"made ", counts.made);
+    let c = put_number(out, b, b"saved ", counts.saved);
     put_shops(out, c, labels)
 }
 
@@ -249,14 +249,13 @@ fn put_answer(out: &mut [u8], r: auto::Chosen, labels: &[u32]) -> usize
 {
     match r {
         auto::Chosen::Refused(code) => put_refused(out, code),
-        auto::Chosen::Unscored { made: _, saved: _ } => put_refused(out, 7),
+        auto::Chosen::Unscored { counts: _ } => put_refused(out, 7),
         auto::Chosen::Done {
             k,
             loglik: _,
             score: _,
-            made,
-            saved,
-        } => put_groups(out, k, made, saved, labels),
+            counts,
+        } => put_groups(out, k, counts, labels),
     }
 }
 
