@@ -1,7 +1,7 @@
 -- The two halves of the work arrays: a run in the free half leaves the held one, so what is held after it is what the
 -- definition keeps; and from what a call was not refused for to the sizes of both halves and the two ends of the entry.
 -- By cases on which half is held and on which run is kept, over plain lists. Assumes nothing.
-use mathlib.Core.Path.{_≡_, refl, ap, sym, _∙_}
+use mathlib.Core.Path.{_≡_, refl, ap, sym, subst, _∙_}
 use mathlib.Core.List.{List, _++_}
 use mathlib.Core.Bool.{Bool, true, false, not, cond}
 use Prim.Native.Nat.{ℕ, zero, suc, _+_, _*_, _-_, _≤_, max}
@@ -24,9 +24,11 @@ use Rattle.kmeans_lloyd.specs.Runs.{Runnable as RunRunnable, RunDone}
 use Rattle.kmeans_lloyd.specs.declared.RunEnd.{RunEnd}
 use Rattle.spherical.specs.Restarts.{counted, keep, restartsUpTo, kmeansOf}
 use Rattle.spherical.specs.Refusals.{refusalOf}
-use Rattle.spherical.specs.Outcome.{Outcome, outcome}
+use Rattle.spherical.specs.Outcome.{Outcome, outcomeBy, outcome}
+use Rattle.spherical.specs.Answers.{AnswersWith}
 use Rattle.spherical.specs.Halves.{stateAt, TwoHalves, Runnable, Fillable, InHalf, RunAt, RunBeside, Holds, withRun, Restarted}
 use Rattle.spherical.specs.declared.Restarts.{Restarts}
+use Rattle.spherical.specs.declared.Clustered.{Clustered}
 use Rattle.spherical.specs.declared.Clustered.the-variants.{Refused, Done}
 use Rattle.spherical.proofs.Refusals.{Ready}
 
@@ -235,3 +237,15 @@ module _ (ls : List ℕ) (ds weights coords : List Float) (d k rounds restarts s
       (outcome ls ds weights coords d k rounds restarts seed work marks)
   done code e z w u h ls' ds' v el ed =
       rw (← e, z, el, ed, v .there .labels, v .there .centers, v .cohesion, v .counts)
+
+  -- the number that the answer gives
+  number-by : (code : ℕ) → AnswersWith code (outcomeBy ls ds weights coords d k rounds restarts seed work marks code .answer)
+  number-by zero found = refl
+  number-by (suc code) found = refl
+
+  pub number-is : (a : Clustered) (ls' : List ℕ) (ds' : List Float)
+      → _≡_ {A = Outcome} (record { answer = a; labels = ls'; directions = ds' }) (outcome ls ds weights coords d k rounds restarts seed work marks)
+      → AnswersWith (refusalOf weights coords d k rounds restarts (length ls) (length ds) work marks) a
+  number-is a ls' ds' e =
+      let code = refusalOf weights coords d k rounds restarts (length ls) (length ds) work marks in
+      subst (λ (x : Outcome). AnswersWith code (x .answer)) (sym e) (number-by code)

@@ -11,6 +11,7 @@ ghost use Rattle.kmeans_lloyd.specs.Results.{resultOf};
 ghost use Rattle.spherical.specs.Restarts.{kmeansOf};
 ghost use Rattle.spherical.specs.Refusals.{arraysOk, refusalOf};
 ghost use Rattle.spherical.specs.Outcome.{Outcome, outcome};
+ghost use Rattle.spherical.specs.Answers.{AnswersWith};
 ghost use Rattle.kmeans_layout.specs.Halves.{half, heldAt};
 ghost use Rattle.spherical.specs.Halves.{stateAt, Runnable, Fillable, RunAt, Holds, Restarted};
 
@@ -210,8 +211,10 @@ fn fill_outputs(
     d: usize,
 )
     requires { ⌜ Fillable (length (now labels)) (length (now directions)) (length (now work)) (length (now marks)) m k d ⌝ }
-    ensures { λ _. ⌜ now (labels .exit) ≡ stateAt m k d (now (work .entry)) (now (marks .entry)) (heldAt second (half m k d)) (heldAt second (m + k)) .labels ++ drop m (now (labels .entry)) ⌝ }
-    ensures { λ _. ⌜ now (directions .exit) ≡ stateAt m k d (now (work .entry)) (now (marks .entry)) (heldAt second (half m k d)) (heldAt second (m + k)) .centers ++ drop (k * d) (now (directions .entry)) ⌝ }
+    ensures { λ _. ⌜ now (labels .exit) ≡ stateAt m k d (now (work .entry)) (now (marks .entry)) (heldAt second (half m k d))
+        (heldAt second (m + k)) .labels ++ drop m (now (labels .entry)) ⌝ }
+    ensures { λ _. ⌜ now (directions .exit) ≡ stateAt m k d (now (work .entry)) (now (marks .entry))
+        (heldAt second (half m k d)) (heldAt second (m + k)) .centers ++ drop (k * d) (now (directions .entry)) ⌝ }
 {
     let kd = k * d;
     let a = kmeans_layout::held_at(second, kmeans_layout::half(m, k, d));
@@ -235,8 +238,13 @@ pub fn spherical_kmeans(
     work: &mut [f64],
     marks: &mut [u32],
 ) -> Clustered
-    ensures { λ r. ⌜ _≡_ {A = Outcome} (record { answer = r; labels = now (labels .exit); directions = now (directions .exit) })
-        (outcome (now (labels .entry)) (now (directions .entry)) (now (weights .entry)) (now (coords .entry)) d k rounds restarts seed (length (now (work .entry))) (length (now (marks .entry)))) ⌝ }
+    ensures { λ r. ⌜ _≡_ {A = Outcome}
+        (record { answer = r; labels = now (labels .exit); directions = now (directions .exit) })
+        (outcome (now (labels .entry)) (now (directions .entry)) (now (weights .entry)) (now (coords .entry)) d k rounds
+        restarts seed (length (now (work .entry))) (length (now (marks .entry)))) ⌝ }
+    ensures { λ r. ⌜ AnswersWith (refusalOf (now (weights .entry)) (now (coords .entry)) d k rounds restarts
+        (length (now (labels .entry))) (length (now (directions .entry))) (length (now (work .entry)))
+        (length (now (marks .entry)))) r ⌝ }
 {
     let code = refusal(
         weights,

@@ -1,43 +1,46 @@
--- A call of an exported function is the definition's, from what the entry and the giver of its answer ensure: over plain values. Assumes nothing.
-use mathlib.Core.Path.{_≡_, ap, subst, _∙_}
+-- A call of an exported function is the definition's, from what the entry and the giver of its answer ensure: over plain values.
+-- Assumes nothing.
+use mathlib.Core.Path.{_≡_, ap, sym, subst, _∙_}
 use mathlib.Core.List.{List}
 use Prim.Native.Nat.{ℕ}
 use lib.Ieee.{Float}
-use Rattle.spherical.specs.Outcome.{Outcome as ClusteredOutcome}
-use Rattle.spherical.specs.declared.Clustered.{Clustered}
 use Rattle.mixture_kappa.specs.declared.Kappa.{Kappa}
 use Rattle.mixture_outputs.specs.Outputs.{Outputs}
+use Rattle.spherical.specs.Outcome.{Outcome as ClusteredOutcome}
+use Rattle.spherical.specs.Answers.{Numbers as ClusteredNumbers, numbersOf as clusteredNumbersOf}
+use Rattle.spherical.specs.declared.Clustered.{Clustered}
 use Rattle.movmf.specs.Outcome.{Outcome as FittedOutcome}
+use Rattle.movmf.specs.Answers.{Numbers as FittedNumbers, numbersOf as fittedNumbersOf}
 use Rattle.movmf.specs.declared.Fitted.{Fitted}
 use Rattle.auto.specs.Outcome.{Outcome as ChosenOutcome}
+use Rattle.auto.specs.Answers.{Numbers as ChosenNumbers, numbersOf as chosenNumbersOf}
 use Rattle.auto.specs.declared.Chosen.{Chosen}
-use Rattle.station.specs.Answers.{ClusteredNumbers, clusteredNumbers, ClusteredCall, clusteredCall, FittedNumbers, fittedNumbers, FittedCall, fittedCall, ChosenNumbers, chosenNumbers, ChosenCall, chosenCall}
 
-pub clustered : (cohesion : Float) (counts labels : List ℕ) (directions : List Float) (a : Clustered) (n : ClusteredNumbers) (o : ClusteredOutcome)
-    → _≡_ {A = ClusteredOutcome} (record { answer = a; labels = labels; directions = directions }) o → n ≡ clusteredNumbers cohesion counts a
-    → _≡_ {A = ClusteredCall} (record { numbers = n; labels = labels; directions = directions }) (clusteredCall cohesion counts o)
-clustered cohesion counts labels directions a n o e h =
-    let f : _≡_ {A = ClusteredCall} (record { numbers = n; labels = labels; directions = directions })
-    (clusteredCall cohesion counts (record { answer = a; labels = labels; directions = directions })) = rw h in
-    f ∙ ap (clusteredCall cohesion counts) e
+pub clustered-call : (found n : ClusteredNumbers) (a : Clustered) (ls : List ℕ) (ds : List Float) (o : ClusteredOutcome)
+    → _≡_ {A = ClusteredOutcome} (record { answer = a; labels = ls; directions = ds }) o → n ≡ clusteredNumbersOf found a
+    → (n ≡ clusteredNumbersOf found (o .answer)) × (ls ≡ o .labels) × (ds ≡ o .directions)
+clustered-call found n a ls ds o e h = (
+  h ∙ ap (λ (x : ClusteredOutcome). clusteredNumbersOf found (x .answer)) e,
+  ap (λ (x : ClusteredOutcome). x .labels) e,
+  ap (λ (x : ClusteredOutcome). x .directions) e,
+)
 
 -- the settings' Kappa is a call's result
-pub fitted : (groups : ℕ) (loglik : Float) (counts : List ℕ) (outputs : Outputs) (a : Fitted) (n : FittedNumbers) (o : Kappa → FittedOutcome) (kappa kappa' : Kappa)
-    → kappa ≡ kappa' → _≡_ {A = FittedOutcome} (record { answer = a; outputs = outputs }) (o kappa) → n ≡ fittedNumbers groups loglik counts a
-    → _≡_ {A = FittedCall} (record { numbers = n; outputs = outputs }) (fittedCall groups loglik counts (o kappa'))
-fitted groups loglik counts outputs a n o kappa kappa' same e h =
-    let f : _≡_ {A = FittedCall} (record { numbers = n; outputs = outputs }) (fittedCall groups loglik counts (record { answer = a; outputs = outputs })) = rw h in
-    f ∙ ap (fittedCall groups loglik counts) (e ∙ ap o same)
+pub fitted-call : (found n : FittedNumbers) (a : Fitted) (outputs : Outputs) (o : Kappa → FittedOutcome) (kappa kappa' : Kappa)
+    → kappa ≡ kappa' → _≡_ {A = FittedOutcome} (record { answer = a; outputs = outputs }) (o kappa) → n ≡ fittedNumbersOf found a
+    → (n ≡ fittedNumbersOf found (o kappa' .answer)) × (outputs ≡ o kappa' .outputs)
+fitted-call found n a outputs o kappa kappa' same e h =
+    let f = e ∙ ap o same in
+    (h ∙ ap (λ (x : FittedOutcome). fittedNumbersOf found (x .answer)) f, ap (λ (x : FittedOutcome). x .outputs) f)
 
-pub chosen : (groups : ℕ) (loglik score : Float) (counts : List ℕ) (outputs : Outputs) (a : Chosen) (n : ChosenNumbers) (o : Kappa → ChosenOutcome) (kappa kappa' : Kappa)
-    → kappa ≡ kappa' → _≡_ {A = ChosenOutcome} (record { answer = a; outputs = outputs }) (o kappa) → n ≡ chosenNumbers groups loglik score counts a
-    → _≡_ {A = ChosenCall} (record { numbers = n; outputs = outputs }) (chosenCall groups loglik score counts (o kappa'))
-chosen groups loglik score counts outputs a n o kappa kappa' same e h =
-    let f : _≡_ {A = ChosenCall} (record { numbers = n; outputs = outputs }) (chosenCall groups loglik score counts (record { answer = a; outputs = outputs })) = rw h in
-    f ∙ ap (chosenCall groups loglik score counts) (e ∙ ap o same)
+pub chosen-call : (found n : ChosenNumbers) (a : Chosen) (outputs : Outputs) (o : Kappa → ChosenOutcome) (kappa kappa' : Kappa)
+    → kappa ≡ kappa' → _≡_ {A = ChosenOutcome} (record { answer = a; outputs = outputs }) (o kappa) → n ≡ chosenNumbersOf found a
+    → (n ≡ chosenNumbersOf found (o kappa' .answer)) × (outputs ≡ o kappa' .outputs)
+chosen-call found n a outputs o kappa kappa' same e h =
+    let f = e ∙ ap o same in
+    (h ∙ ap (λ (x : ChosenOutcome). chosenNumbersOf found (x .answer)) f, ap (λ (x : ChosenOutcome). x .outputs) f)
 
--- what holds of the entry's answer holds of the definition's
-pub of-answer : (P : Kappa → Chosen → Type 0) (outputs : Outputs) (a : Chosen) (o : Kappa → ChosenOutcome) (kappa kappa' : Kappa) → kappa ≡ kappa'
-    → _≡_ {A = ChosenOutcome} (record { answer = a; outputs = outputs }) (o kappa) → P kappa a → P kappa' (o kappa' .answer)
-of-answer P outputs a o kappa kappa' same e p =
-    subst (λ (x : Kappa). P x (o x .answer)) same (subst (λ (z : ChosenOutcome). P kappa (z .answer)) e p)
+-- what holds of the numbers of the entry's answer holds of those that are given
+pub given-best : (P : Kappa → ChosenNumbers → Type 0) (found n : ChosenNumbers) (a : Chosen) (kappa kappa' : Kappa) → kappa ≡ kappa'
+    → n ≡ chosenNumbersOf found a → P kappa (chosenNumbersOf found a) → P kappa' n
+given-best P found n a kappa kappa' same e p = subst (λ (x : Kappa). P x n) same (subst (P kappa) (sym e) p)

@@ -1,15 +1,17 @@
-// The three entries for a program in C or Rust (document 01, 'Refusals by call'): numbers and arrays in, the answer through what is lent, the number of the refusal
-// back, 0 for none. A slice crosses the border as a pointer and a length; include/mosterklomp.h declares the functions.
+// The three entries for a program in C or Rust (document 01, 'Refusals by call'): numbers and arrays in, the answer through
+// what is lent, the number of the refusal back, 0 for none. A slice crosses the border as a pointer and a length;
+// include/mosterklomp.h declares the functions.
 ghost use mathlib.Core.Path.{_≡_};
 ghost use lib.ListN.{length};
+ghost use Rattle.mixture_outputs.specs.Outputs.{arrays};
 ghost use Rattle.spherical.specs.Outcome.{outcome as clusteredOutcome};
-ghost use Rattle.mixture_outputs.specs.Outputs.{arrays, lengthsOf};
+ghost use Rattle.spherical.specs.Answers.{numbersOf as clusteredNumbersOf};
 ghost use Rattle.movmf.specs.Outcome.{outcome as fittedOutcome};
-ghost use Rattle.auto_choice.specs.Choice.{highest, lowest};
-ghost use Rattle.auto.specs.Refusals.{refusalOf};
+ghost use Rattle.movmf.specs.Answers.{numbersOf as fittedNumbersOf};
 ghost use Rattle.auto.specs.Outcome.{outcome as chosenOutcome};
-ghost use Rattle.auto.specs.Best.{Best};
-ghost use Rattle.station.specs.Answers.{kappaOf, ClusteredNumbers, clusteredNumbers, ClusteredCall, clusteredCall, FittedNumbers, fittedNumbers, FittedCall, fittedCall, ChosenNumbers, chosenNumbers, ChosenCall, chosenCall};
+ghost use Rattle.auto.specs.Answers.{numbersOf as chosenNumbersOf};
+ghost use Rattle.auto.specs.Best.{KeepsBest};
+ghost use Rattle.station.specs.Answers.{kappaOf, clustered, fitted, chosen};
 
 // ---- the answers' cases
 
@@ -26,18 +28,17 @@ fn kappa_of(shared: bool) -> mixture_kappa::Kappa
 
 // The number of the refusal; the cohesion and the counts where there is none.
 fn give_clustered(a: spherical::Clustered, cohesion: &mut f64, counts: &mut [u64; 2]) -> u32
-    ensures { λ r. ⌜ _≡_ {A = ClusteredNumbers} (record { refusal = r; cohesion = now (cohesion .exit); counts = now (counts .exit) })
-        (clusteredNumbers (now (cohesion .entry)) (now (counts .entry)) a) ⌝ }
+    ensures { λ r. ⌜ clustered r (now (cohesion .exit)) (now (counts .exit))
+        ≡ clusteredNumbersOf (clustered 0 (now (cohesion .entry)) (now (counts .entry))) a ⌝ }
 {
     match a {
         spherical::Clustered::Refused(code) => code,
         spherical::Clustered::Done {
             cohesion: found,
-            made,
-            saved,
+            counts: more,
         } => {
             *cohesion = found;
-            *counts = [made, saved];
+            *counts = [more.made, more.saved];
             0
         }
     }
@@ -45,21 +46,19 @@ fn give_clustered(a: spherical::Clustered, cohesion: &mut f64, counts: &mut [u64
 
 // The number of the refusal; the number of groups, the log-likelihood and the counts where there is none.
 fn give_fitted(a: movmf::Fitted, groups: &mut u64, loglik: &mut f64, counts: &mut [u64; 2]) -> u32
-    ensures { λ r. ⌜ _≡_ {A = FittedNumbers}
-        (record { refusal = r; groups = now (groups .exit); loglik = now (loglik .exit); counts = now (counts .exit) })
-        (fittedNumbers (now (groups .entry)) (now (loglik .entry)) (now (counts .entry)) a) ⌝ }
+    ensures { λ r. ⌜ fitted r (now (groups .exit)) (now (loglik .exit)) (now (counts .exit))
+        ≡ fittedNumbersOf (fitted 0 (now (groups .entry)) (now (loglik .entry)) (now (counts .entry))) a ⌝ }
 {
     match a {
         movmf::Fitted::Refused(code) => code,
         movmf::Fitted::Done {
             k,
             loglik: found,
-            made,
-            saved,
+            counts: more,
         } => {
             *groups = k as u64;
             *loglik = found;
-            *counts = [made, saved];
+            *counts = [more.made, more.saved];
             0
         }
     }
@@ -73,27 +72,25 @@ fn give_chosen(
     score: &mut f64,
     counts: &mut [u64; 2],
 ) -> u32
-    ensures { λ r. ⌜ _≡_ {A = ChosenNumbers}
-        (record { refusal = r; groups = now (groups .exit); loglik = now (loglik .exit); score = now (score .exit); counts = now (counts .exit) })
-        (chosenNumbers (now (groups .entry)) (now (loglik .entry)) (now (score .entry)) (now (counts .entry)) a) ⌝ }
+    ensures { λ r. ⌜ chosen r (now (groups .exit)) (now (loglik .exit)) (now (score .exit)) (now (counts .exit))
+        ≡ chosenNumbersOf (chosen 0 (now (groups .entry)) (now (loglik .entry)) (now (score .entry)) (now (counts .entry))) a ⌝ }
 {
     match a {
         auto::Chosen::Refused(code) => code,
-        auto::Chosen::Unscored { made, saved } => {
-            *counts = [made, saved];
+        auto::Chosen::Unscored { counts: more } => {
+            *counts = [more.made, more.saved];
             7
         }
         auto::Chosen::Done {
             k,
             loglik: found,
             score: kept,
-            made,
-            saved,
+            counts: more,
         } => {
             *groups = k as u64;
             *loglik = found;
             *score = kept;
-            *counts = [made, saved];
+            *counts = [more.made, more.saved];
             0
         }
     }
@@ -118,10 +115,11 @@ pub extern "C" fn mosterklomp_spherical_kmeans(
     cohesion: &mut f64,
     counts: &mut [u64; 2],
 ) -> u32
-    ensures { λ r. ⌜ _≡_ {A = ClusteredCall}
-        (record { numbers = record { refusal = r; cohesion = now (cohesion .exit); counts = now (counts .exit) }; labels = now (labels .exit); directions = now (directions .exit) })
-        (clusteredCall (now (cohesion .entry)) (now (counts .entry))
-        (clusteredOutcome (now (labels .entry)) (now (directions .entry)) (now (weights .entry)) (now (coords .entry)) d k rounds restarts seed (length (now (work .entry))) (length (now (marks .entry))))) ⌝ }
+    ensures { λ r. ⌜ (let o = clusteredOutcome (now (labels .entry)) (now (directions .entry)) (now (weights .entry))
+        (now (coords .entry)) d k rounds restarts seed (length (now (work .entry))) (length (now (marks .entry))) in
+        (clustered r (now (cohesion .exit)) (now (counts .exit))
+        ≡ clusteredNumbersOf (clustered 0 (now (cohesion .entry)) (now (counts .entry))) (o .answer))
+        × (now (labels .exit) ≡ o .labels) × (now (directions .exit) ≡ o .directions)) ⌝ }
 {
     let a = spherical::spherical_kmeans(
         weights,
@@ -161,14 +159,14 @@ pub extern "C" fn mosterklomp_movmf_with(
     loglik: &mut f64,
     counts: &mut [u64; 2],
 ) -> u32
-    ensures { λ r. ⌜ _≡_ {A = FittedCall}
-        (record {
-          numbers = record { refusal = r; groups = now (groups .exit); loglik = now (loglik .exit); counts = now (counts .exit) };
-          outputs = arrays (now (labels .exit)) (now (responsibilities .exit)) (now («group_weights» .exit)) (now (directions .exit)) (now (concentrations .exit)) (now (logw .exit));
-        })
-        (fittedCall (now (groups .entry)) (now (loglik .entry)) (now (counts .entry))
-        (fittedOutcome (arrays (now (labels .entry)) (now (responsibilities .entry)) (now («group_weights» .entry)) (now (directions .entry)) (now (concentrations .entry)) (now (logw .entry)))
-        (now (weights .entry)) (now (coords .entry)) d k (record { rounds = rounds; seed = seed; kappa = kappaOf shared }) (length (now (work .entry))) (length (now (marks .entry))))) ⌝ }
+    ensures { λ r. ⌜ (let o = fittedOutcome (arrays (now (labels .entry)) (now (responsibilities .entry)) (now («group_weights» .entry))
+        (now (directions .entry)) (now (concentrations .entry)) (now (logw .entry)))
+        (now (weights .entry)) (now (coords .entry)) d k (record { rounds = rounds; seed = seed; kappa = kappaOf shared })
+        (length (now (work .entry))) (length (now (marks .entry))) in
+        (fitted r (now (groups .exit)) (now (loglik .exit)) (now (counts .exit))
+        ≡ fittedNumbersOf (fitted 0 (now (groups .entry)) (now (loglik .entry)) (now (counts .entry))) (o .answer))
+        × (arrays (now (labels .exit)) (now (responsibilities .exit)) (now («group_weights» .exit))
+        (now (directions .exit)) (now (concentrations .exit)) (now (logw .exit)) ≡ o .outputs)) ⌝ }
 {
     let kappa = kappa_of(shared);
     let s = mixture_kappa::Settings {
@@ -218,21 +216,21 @@ pub extern "C" fn mosterklomp_movmf_auto_with(
     score: &mut f64,
     counts: &mut [u64; 2],
 ) -> u32
-    ensures { λ r. ⌜ _≡_ {A = ChosenCall}
-        (record {
-          numbers = record { refusal = r; groups = now (groups .exit); loglik = now (loglik .exit); score = now (score .exit); counts = now (counts .exit) };
-          outputs = arrays (now (labels .exit)) (now (responsibilities .exit)) (now («group_weights» .exit)) (now (directions .exit)) (now (concentrations .exit)) (now (logw .exit));
-        })
-        (chosenCall (now (groups .entry)) (now (loglik .entry)) (now (score .entry)) (now (counts .entry))
-        (chosenOutcome (arrays (now (labels .entry)) (now (responsibilities .entry)) (now («group_weights» .entry)) (now (directions .entry)) (now (concentrations .entry)) (now (logw .entry)))
-        (now (weights .entry)) (now (coords .entry)) d (record { rounds = rounds; seed = seed; kappa = kappaOf shared }) «k_min» «k_max» (length (now (work .entry))) (length (now (marks .entry))))) ⌝ }
-    ensures { λ _. ⌜ (refusalOf (now (weights .entry)) (now (coords .entry)) d (highest «k_max» (length (now (weights .entry)))) rounds
-        (lengthsOf (arrays (now (labels .entry)) (now (responsibilities .entry)) (now («group_weights» .entry)) (now (directions .entry)) (now (concentrations .entry)) (now (logw .entry))) (length (now (work .entry))) (length (now (marks .entry)))) ≡ 0
-        → Best (arrays (now (labels .entry)) (now (responsibilities .entry)) (now («group_weights» .entry)) (now (directions .entry)) (now (concentrations .entry)) (now (logw .entry)))
-        (now (weights .entry)) (now (coords .entry)) d (record { rounds = rounds; seed = seed; kappa = kappaOf shared }) (lowest «k_min» (highest «k_max» (length (now (weights .entry))))) (highest «k_max» (length (now (weights .entry))))
-        (chosenOutcome (arrays (now (labels .entry)) (now (responsibilities .entry)) (now («group_weights» .entry)) (now (directions .entry)) (now (concentrations .entry)) (now (logw .entry)))
-        (now (weights .entry)) (now (coords .entry)) d (record { rounds = rounds; seed = seed; kappa = kappaOf shared }) «k_min» «k_max» (length (now (work .entry))) (length (now (marks .entry))) .answer)
-        (arrays (now (labels .exit)) (now (responsibilities .exit)) (now («group_weights» .exit)) (now (directions .exit)) (now (concentrations .exit)) (now (logw .exit)))) ⌝ }
+    ensures { λ r. ⌜ (let o = chosenOutcome (arrays (now (labels .entry)) (now (responsibilities .entry)) (now («group_weights» .entry))
+        (now (directions .entry)) (now (concentrations .entry)) (now (logw .entry)))
+        (now (weights .entry)) (now (coords .entry)) d (record { rounds = rounds; seed = seed; kappa = kappaOf shared })
+        «k_min» «k_max» (length (now (work .entry))) (length (now (marks .entry))) in
+        (chosen r (now (groups .exit)) (now (loglik .exit)) (now (score .exit)) (now (counts .exit))
+        ≡ chosenNumbersOf (chosen 0 (now (groups .entry)) (now (loglik .entry)) (now (score .entry)) (now (counts .entry)))
+        (o .answer)) × (arrays (now (labels .exit)) (now (responsibilities .exit)) (now («group_weights» .exit))
+        (now (directions .exit)) (now (concentrations .exit)) (now (logw .exit)) ≡ o .outputs)) ⌝ }
+    ensures { λ r. ⌜ KeepsBest (arrays (now (labels .entry)) (now (responsibilities .entry)) (now («group_weights» .entry))
+        (now (directions .entry)) (now (concentrations .entry)) (now (logw .entry)))
+        (now (weights .entry)) (now (coords .entry)) d (record { rounds = rounds; seed = seed; kappa = kappaOf shared })
+        «k_min» «k_max» (length (now (work .entry))) (length (now (marks .entry)))
+        (chosen r (now (groups .exit)) (now (loglik .exit)) (now (score .exit)) (now (counts .exit)))
+        (arrays (now (labels .exit)) (now (responsibilities .exit)) (now («group_weights» .exit))
+        (now (directions .exit)) (now (concentrations .exit)) (now (logw .exit))) ⌝ }
 {
     let kappa = kappa_of(shared);
     let s = mixture_kappa::Settings {

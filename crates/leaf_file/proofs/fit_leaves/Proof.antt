@@ -5,11 +5,19 @@ use borrow.Author.Needs.{needs}
 use Rattle.leaf_file.proofs.fit_leaves.Statement.{statement}
 use Rattle.leaf_file.proofs.fit_leaves.Tie as tie
 
+-- places, each from a later one
+abbrev movmf-auto-at : tie.After-marks2 → tie.After-movmf-auto
+movmf-auto-at p = let q = p .before .before .before .before .before in q .before .before .before .before
+
+abbrev start : tie.After-movmf-auto → tie.Start
+start p = let q = p .before .before .before .before .before .before in q .before .before .before .before .before .before
+
 returns : tie.Need-returns
 unfolding lib.Ieee.ofBits
 returns c =
-    let a = c .before .before .before .before .before .before .before .before .before .before .before .before .before .before .before .before .before .before .before .before .before .args in
-    let e = c .before .before .before .before .before .before .before .before .before .movmf-auto .ensures in
+    let movmf = movmf-auto-at c in
+    let a = start movmf .args in
+    let e = movmf .movmf-auto .ensures in
     fit-by (a .weights .now) (a .coords .now) (a .d) (a .labels .now) _ _ _ _ _ _ _ refl refl refl refl refl refl refl _ (e .0) (e .1)
 
 pub fit-leaves-spec : {M : Type 1} → statement M

@@ -18,9 +18,13 @@ put-answer-requires c κs =
     let h : length (c .before .before .before .before .before .before .before .args .out .now) ≡ 4096 = search needs in
     omega (arith, h, m .ensures .0, few-labels (c .before .before .before .before .fit-file .last .1 .0) (m .result) (m .ensures .0) (c .before .before .before .before .fit-file .kept .1 .0))
 
+-- places, each from a later one
+abbrev start : tie.After-put-answer → tie.Start
+start p = let q = p .before .before .before .before in q .before .before .before .before
+
 returns : tie.Need-returns
 returns c =
-    let a = c .before .before .before .before .before .before .before .before .args in
+    let a = start c .args in
     let f = c .before .before .before .before .before .fit-file in
     let m = c .before .before .before .shops in
     list-end (a .bytes .now) (a .out .now) _ _ (m .result) (c .put-answer .result) (f .ensures .0) (m .ensures .1) (c .put-answer .ensures)

@@ -7,10 +7,18 @@ use borrow.Author.Needs.{needs}
 use Rattle.leaf_file.proofs.put_number.Statement.{statement}
 use Rattle.leaf_file.proofs.put_number.Tie as tie
 
+-- places, each from a later one
+abbrev put-word-at : tie.After-slice-known4 → tie.After-put-word
+put-word-at p = let q = p .before .before .before .before .before in q .before .before .before .before .before
+
+abbrev start : tie.After-put-word → tie.Start
+start p = p .before .before .before .before
+
 returns : tie.Need-returns
 returns c =
-    let a = c .before .before .before .before .before .before .before .before .before .before .before .before .before .before .args in
-    let w = c .before .before .before .before .before .before .before .before .before .before .put-word in
+    let put = put-word-at c in
+    let a = start put .args in
+    let w = put .put-word in
     let n = c .before .before .before .before .before .before .put-decimal in
     let e = c .before .before .put-byte in (
       put-both (a .word .now) _ (a .out .now) _ _ (a .at) (w .result) (e .result) (w .ensures) (put-both (decimal (a .n)) (10 ∷ []) _ _ _ (w .result) (n .result) (e .result) (n .ensures .0) (e .ensures)),

@@ -7,11 +7,23 @@ use borrow.Author.Needs.{needs}
 use Rattle.leaf_file.proofs.put_shop.Statement.{statement}
 use Rattle.leaf_file.proofs.put_shop.Tie as tie
 
+-- places, each from a later one
+abbrev put-byte-at : tie.After-slice-known5 → tie.After-put-byte
+put-byte-at p = let q = p .before .before .before .before .before in q .before .before .before .before .before
+
+abbrev put-decimal-at : tie.After-put-byte → tie.After-put-decimal
+put-decimal-at p = p .before .before .before .before
+
+abbrev start : tie.After-put-decimal → tie.Start
+start p = p .before .before .before
+
 returns : tie.Need-returns
 returns c =
-    let a = c .before .before .before .before .before .before .before .before .before .before .before .before .before .before .before .before .before .args in
-    let i = c .before .before .before .before .before .before .before .before .before .before .before .before .before .before .put-decimal in
-    let s = c .before .before .before .before .before .before .before .before .before .before .put-byte in
+    let put = put-byte-at c in
+    let putdecimal = put-decimal-at put in
+    let a = start putdecimal .args in
+    let i = putdecimal .put-decimal in
+    let s = put .put-byte in
     let n = c .before .before .before .before .before .before .put-decimal2 in
     let e = c .before .before .put-byte2 in (
       put-both (decimal (a .i)) _ (a .out .now) _ _ (a .at) (i .result) (e .result) (i .ensures .0)

@@ -27,10 +27,14 @@ loop-holds : tie.Need-loop-holds Inv-loop μ-loop
 unfolding shopLines
 loop-holds c = (omega arith, refl, omega arith, put-none (c .before .before .args .out .now) (c .before .before .args .at))
 
+-- places, each from a later one
+abbrev start : tie.After-slice-known2 Inv-loop μ-loop → tie.Start Inv-loop μ-loop
+start p = let q = p .before .before .before .before .before in q .before .before .before .before
+
 loop-again : tie.Need-loop-again Inv-loop μ-loop
 loop-again c =
     let l = c .before .before .before .before .before .before .loop in
-    let a = c .before .before .before .before .before .before .before .before .before .args in
+    let a = start c .args in
     let v = c .before .before .put-shop in
     (omega arith, search needs, omega (arith, v .ensures .1, l .inv .2), more (a .labels .now) (a .out .now) (l .out) _ (a .at) (l .i) (l .end) _ (l .inv .3) (v .ensures .0))
 

@@ -5,9 +5,13 @@ use borrow.Author.Needs.{needs}
 use Rattle.leaf_file.proofs.u32_at.Statement.{statement}
 use Rattle.leaf_file.proofs.u32_at.Tie as tie
 
+-- places, each from a later one
+abbrev start : tie.After-wide4 → tie.Start
+start p = let q = p .before .before .before .before .before in q .before .before .before .before
+
 returns : tie.Need-returns
 returns c =
-    let a = c .before .before .before .before .before .before .before .before .before .args in
+    let a = start c .args in
     let w = c .before .before .before .before .before .before .wide in
     let x = c .before .before .before .before .wide2 in
     let y = c .before .before .wide3 in

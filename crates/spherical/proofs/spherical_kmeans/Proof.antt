@@ -4,7 +4,7 @@ use mathlib.Core.Path.{sym, _∙_}
 use lib.ListN.{length}
 use borrow.Author.Needs.{needs}
 use Rattle.spherical.proofs.Refusals.{Ready, ready}
-use Rattle.spherical.proofs.Halves.{entry-runnable, entry-fillable, fillable-of, refused, done}
+use Rattle.spherical.proofs.Halves.{entry-runnable, entry-fillable, fillable-of, refused, done, number-is}
 use Rattle.spherical.proofs.spherical_kmeans.Statement.{statement}
 use Rattle.spherical.proofs.spherical_kmeans.Tie as tie
 
@@ -34,8 +34,12 @@ returns : tie.Need-returns
 returns c =
     let r = c .before in
     let a = start r .args in
-    refused (a .labels .now) (a .directions .now) (a .weights .now) (a .coords .now) (a .d) (a .k) (a .rounds) (a .restarts) (a .seed)
-    (length (a .work .now)) (length (a .marks .now)) (r .refusal .result) (r .refusal .ensures) (c .if1 .taken)
+    let e = refused (a .labels .now) (a .directions .now) (a .weights .now) (a .coords .now) (a .d) (a .k) (a .rounds) (a .restarts) (a .seed)
+    (length (a .work .now)) (length (a .marks .now)) (r .refusal .result) (r .refusal .ensures) (c .if1 .taken) in (
+      e,
+      number-is (a .labels .now) (a .directions .now) (a .weights .now) (a .coords .now) (a .d) (a .k) (a .rounds) (a .restarts) (a .seed)
+          (length (a .work .now)) (length (a .marks .now)) _ _ _ e,
+    )
 
 run-all-requires : tie.Need-run-all-requires
 run-all-requires c κs =
@@ -64,10 +68,14 @@ returns-2 c =
     let e = admitted f in
     let r = e .before in
     let a = start r .args in
-    done (a .labels .now) (a .directions .now) (a .weights .now) (a .coords .now) (a .d) (a .k) (a .rounds) (a .restarts) (a .seed)
+    let q = done (a .labels .now) (a .directions .now) (a .weights .now) (a .coords .now) (a .d) (a .k) (a .rounds) (a .restarts) (a .seed)
     (length (a .work .now)) (length (a .marks .now)) (r .refusal .result) (r .refusal .ensures) (e .if1 .left)
     (f .run-all .last .0) (f .run-all .last .1 .0) (f .run-all .result) _ _ (f .run-all .ensures) (o .fill-outputs .ensures .0)
-    (o .fill-outputs .ensures .1)
+    (o .fill-outputs .ensures .1) in (
+      q,
+      number-is (a .labels .now) (a .directions .now) (a .weights .now) (a .coords .now) (a .d) (a .k) (a .rounds) (a .restarts) (a .seed)
+          (length (a .work .now)) (length (a .marks .now)) _ _ _ q,
+    )
 
 pub spherical-kmeans-spec : {M : Type 1} → statement M
 spherical-kmeans-spec =
