@@ -19,6 +19,9 @@ pub record Outcome : Type 0 where
   pub answer : Chosen
   pub outputs : Outputs
 
+abbrev pub answered : Chosen → Outputs → Outcome
+answered answer outputs = record { answer = answer; outputs = outputs }
+
 -- by the choice among the lone scores: none is 7; a number is answered with its lone fit's log-likelihood, and its score
 abbrev pub answerBy : List Float → List Float → ℕ → Settings → Counts → Choice → Chosen
 answerBy weights coords d s counts Nothing = Unscored counts

@@ -5,7 +5,7 @@ ghost use mathlib.Core.Path.{_≡_};
 ghost use lib.ListN.{length};
 ghost use Rattle.mixture_kappa.specs.declared.Kappa.the-variants.{Free};
 ghost use Rattle.mixture_outputs.specs.Outputs.{arrays};
-ghost use Rattle.auto.specs.Outcome.{Outcome, outcome};
+ghost use Rattle.auto.specs.Outcome.{answered, outcome};
 ghost use Rattle.auto.specs.Best.{AnswerKeepsBest};
 ghost use Rattle.auto.specs.Tallied.{answerOf};
 
@@ -60,18 +60,17 @@ pub fn movmf_auto_with(
     work: &mut [f64],
     marks: &mut [u32],
 ) -> Chosen
-    ensures { λ r. ⌜ _≡_ {A = Outcome} (record {
-      answer = r;
-      outputs = arrays (now (labels .exit)) (now (responsibilities .exit)) (now («group_weights» .exit))
-          (now (directions .exit)) (now (concentrations .exit)) (now (logw .exit));
-    })
-        (outcome (arrays (now (labels .entry)) (now (responsibilities .entry)) (now («group_weights» .entry))
-        (now (directions .entry)) (now (concentrations .entry)) (now (logw .entry))) (now (weights .entry))
-        (now (coords .entry)) d s «k_min» «k_max» (length (now (work .entry))) (length (now (marks .entry)))) ⌝ }
+    ensures { λ r. ⌜ answered r (arrays (now (labels .exit)) (now (responsibilities .exit)) (now («group_weights» .exit))
+        (now (directions .exit)) (now (concentrations .exit)) (now (logw .exit)))
+        ≡ outcome (arrays (now (labels .entry)) (now (responsibilities .entry)) (now («group_weights» .entry))
+        (now (directions .entry)) (now (concentrations .entry)) (now (logw .entry)))
+        (now (weights .entry)) (now (coords .entry)) d s «k_min» «k_max»
+        (length (now (work .entry))) (length (now (marks .entry))) ⌝ }
     ensures { λ r. ⌜ AnswerKeepsBest (arrays (now (labels .entry)) (now (responsibilities .entry)) (now («group_weights» .entry))
         (now (directions .entry)) (now (concentrations .entry)) (now (logw .entry)))
-        (now (weights .entry)) (now (coords .entry)) d s «k_min» «k_max» (length (now (work .entry)))
-        (length (now (marks .entry))) r (arrays (now (labels .exit)) (now (responsibilities .exit)) (now («group_weights» .exit))
+        (now (weights .entry)) (now (coords .entry)) d s «k_min» «k_max»
+        (length (now (work .entry))) (length (now (marks .entry))) r
+        (arrays (now (labels .exit)) (now (responsibilities .exit)) (now («group_weights» .exit))
         (now (directions .exit)) (now (concentrations .exit)) (now (logw .exit))) ⌝ }
 {
     let m = weights.len();
@@ -131,18 +130,17 @@ pub fn movmf_auto(
     work: &mut [f64],
     marks: &mut [u32],
 ) -> Chosen
-    ensures { λ r. ⌜ _≡_ {A = Outcome} (record {
-      answer = r;
-      outputs = arrays (now (labels .exit)) (now (responsibilities .exit)) (now («group_weights» .exit))
-          (now (directions .exit)) (now (concentrations .exit)) (now (logw .exit));
-    })
-        (outcome (arrays (now (labels .entry)) (now (responsibilities .entry)) (now («group_weights» .entry))
-        (now (directions .entry)) (now (concentrations .entry)) (now (logw .entry))) (now (weights .entry))
-        (now (coords .entry)) d (record { rounds = rounds; seed = seed; kappa = Free }) «k_min» «k_max» (length (now (work .entry))) (length (now (marks .entry)))) ⌝ }
+    ensures { λ r. ⌜ answered r (arrays (now (labels .exit)) (now (responsibilities .exit)) (now («group_weights» .exit))
+        (now (directions .exit)) (now (concentrations .exit)) (now (logw .exit)))
+        ≡ outcome (arrays (now (labels .entry)) (now (responsibilities .entry)) (now («group_weights» .entry))
+        (now (directions .entry)) (now (concentrations .entry)) (now (logw .entry)))
+        (now (weights .entry)) (now (coords .entry)) d (record { rounds = rounds; seed = seed; kappa = Free }) «k_min» «k_max»
+        (length (now (work .entry))) (length (now (marks .entry))) ⌝ }
     ensures { λ r. ⌜ AnswerKeepsBest (arrays (now (labels .entry)) (now (responsibilities .entry)) (now («group_weights» .entry))
         (now (directions .entry)) (now (concentrations .entry)) (now (logw .entry)))
-        (now (weights .entry)) (now (coords .entry)) d (record { rounds = rounds; seed = seed; kappa = Free }) «k_min» «k_max» (length (now (work .entry)))
-        (length (now (marks .entry))) r (arrays (now (labels .exit)) (now (responsibilities .exit)) (now («group_weights» .exit))
+        (now (weights .entry)) (now (coords .entry)) d (record { rounds = rounds; seed = seed; kappa = Free }) «k_min» «k_max»
+        (length (now (work .entry))) (length (now (marks .entry))) r
+        (arrays (now (labels .exit)) (now (responsibilities .exit)) (now («group_weights» .exit))
         (now (directions .exit)) (now (concentrations .exit)) (now (logw .exit))) ⌝ }
 {
     let s = mixture_kappa::Settings {

@@ -1,4 +1,5 @@
--- Document 01, 'Leaves, settings, fit' and 'Mixture': the output arrays of a mixture fit, and what they hold after it. Definitions only.
+-- Document 01, 'Leaves, settings, fit' and 'Mixture': the output arrays of a mixture fit, and what they hold after it.
+-- Definitions only.
 use mathlib.Core.List.{List, _++_}
 use Prim.Native.Nat.{ℕ, _*_}
 use lib.ListN.{length, drop}
@@ -18,7 +19,14 @@ pub record Outputs : Type 0 where
 
 abbrev pub arrays : List ℕ → List Float → List Float → List Float → List Float → List Float → Outputs
 arrays labels responsibilities weights directions concentrations logw =
-    record { labels = labels; responsibilities = responsibilities; weights = weights; directions = directions; concentrations = concentrations; logw = logw }
+    record {
+      labels = labels;
+      responsibilities = responsibilities;
+      weights = weights;
+      directions = directions;
+      concentrations = concentrations;
+      logw = logw;
+    }
 
 -- what is found written into them; entries past its lengths keep their old contents
 unfoldable pub written : ℕ → ℕ → ℕ → Em → Outputs → Outputs

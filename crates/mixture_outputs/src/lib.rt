@@ -9,7 +9,7 @@ ghost use Rattle.limits.specs.Limits.{mostGroups};
 ghost use Rattle.mixture_run.specs.Fits.{labelsOf, lnWeight, logwOf};
 ghost use Rattle.mixture_run.specs.Areas.{partsIn, modelOf, Area};
 ghost use Rattle.mixture_restarts.specs.Halves.{keptEm};
-ghost use Rattle.mixture_outputs.specs.Outputs.{Outputs, arrays, written};
+ghost use Rattle.mixture_outputs.specs.Outputs.{arrays, written};
 ghost use Rattle.mixture_outputs.specs.Refusals.{outputsOk, arraysOk, fitRefusal};
 ghost use Rattle.mixture_outputs.specs.Fillable.{LeavesFit, GroupsFit, Fillable};
 
@@ -123,9 +123,11 @@ fn fill_leaves(
     k: usize,
     d: usize,
 )
-    requires { ⌜ (Area (length (now area)) m k d) × (LeavesFit (length (now labels)) (length (now responsibilities)) m k) ⌝ }
-    ensures { λ _. ⌜ (now (labels .exit) ≡ labelsOf (partsIn m k d (now (area .entry)) .resp) m k ++ drop m (now (labels .entry)))
-        × (now (responsibilities .exit) ≡ partsIn m k d (now (area .entry)) .resp ++ drop (m * k) (now (responsibilities .entry))) ⌝ }
+    requires { ⌜ (Area (length (now area)) m k d)
+        × (LeavesFit (length (now labels)) (length (now responsibilities)) m k) ⌝ }
+    ensures { λ _. ⌜ (let resp = partsIn m k d (now (area .entry)) .resp in
+        (now (labels .exit) ≡ labelsOf resp m k ++ drop m (now (labels .entry)))
+        × (now (responsibilities .exit) ≡ resp ++ drop (m * k) (now (responsibilities .entry)))) ⌝ }
 {
     let mk = m * k;
     let resp = mixture_run::layout::responsibilities_at(k, d);
@@ -144,11 +146,13 @@ fn fill_groups(
     k: usize,
     d: usize,
 )
-    requires { ⌜ (Area (length (now area)) m k d) × (GroupsFit (length (now weights)) (length (now directions)) (length (now concentrations)) (length (now logw)) k d) ⌝ }
-    ensures { λ _. ⌜ (now (weights .exit) ≡ partsIn m k d (now (area .entry)) .weights ++ drop k (now (weights .entry)))
-        × (now (directions .exit) ≡ partsIn m k d (now (area .entry)) .directions ++ drop (k * d) (now (directions .entry)))
-        × (now (concentrations .exit) ≡ partsIn m k d (now (area .entry)) .kappas ++ drop k (now (concentrations .entry)))
-        × (now (logw .exit) ≡ logwOf k d (modelOf (partsIn m k d (now (area .entry)))) ++ drop k (now (logw .entry))) ⌝ }
+    requires { ⌜ (Area (length (now area)) m k d) × (GroupsFit (length (now weights)) (length (now directions))
+        (length (now concentrations)) (length (now logw)) k d) ⌝ }
+    ensures { λ _. ⌜ (let p = partsIn m k d (now (area .entry)) in
+        (now (weights .exit) ≡ p .weights ++ drop k (now (weights .entry)))
+        × (now (directions .exit) ≡ p .directions ++ drop (k * d) (now (directions .entry)))
+        × (now (concentrations .exit) ≡ p .kappas ++ drop k (now (concentrations .entry)))
+        × (now (logw .exit) ≡ logwOf k d (modelOf p) ++ drop k (now (logw .entry)))) ⌝ }
 {
     let kd = k * d;
     let at = mixture_run::layout::weights_at(k, d);
@@ -173,11 +177,13 @@ pub fn fill_outputs(
     k: usize,
     d: usize,
 )
-    requires { ⌜ Fillable (length (now labels)) (length (now responsibilities)) (length (now «group_weights»)) (length (now directions)) (length (now concentrations)) (length (now logw)) (length (now work)) m k d ⌝ }
-    ensures { λ _. ⌜ _≡_ {A = Outputs}
-        (arrays (now (labels .exit)) (now (responsibilities .exit)) (now («group_weights» .exit)) (now (directions .exit)) (now (concentrations .exit)) (now (logw .exit)))
-        (written m k d (keptEm m k d (now (work .entry)) r)
-        (arrays (now (labels .entry)) (now (responsibilities .entry)) (now («group_weights» .entry)) (now (directions .entry)) (now (concentrations .entry)) (now (logw .entry)))) ⌝ }
+    requires { ⌜ Fillable (length (now labels)) (length (now responsibilities)) (length (now «group_weights»))
+        (length (now directions)) (length (now concentrations)) (length (now logw)) (length (now work)) m k d ⌝ }
+    ensures { λ _. ⌜ arrays (now (labels .exit)) (now (responsibilities .exit)) (now («group_weights» .exit))
+        (now (directions .exit)) (now (concentrations .exit)) (now (logw .exit))
+        ≡ written m k d (keptEm m k d (now (work .entry)) r)
+        (arrays (now (labels .entry)) (now (responsibilities .entry)) (now («group_weights» .entry))
+        (now (directions .entry)) (now (concentrations .entry)) (now (logw .entry))) ⌝ }
 {
     let area = mixture_restarts::kept_part(work, r, m, k, d);
     fill_leaves(labels, responsibilities, area, m, k, d);

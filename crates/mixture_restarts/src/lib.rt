@@ -6,7 +6,8 @@ ghost use Prim.Native.Nat.{_+_, _≤_};
 ghost use lib.ListN.{length};
 ghost use Rattle.kmeans_layout.specs.Halves.{half, freeAt};
 ghost use Rattle.mixture_restarts.specs.Runs.{runOf, runsUpTo};
-ghost use Rattle.mixture_restarts.specs.Halves.{TwoHalves, Runnable, RunAt, Holds, Both, keptPart, keptLoglik, keptPartOf};
+ghost use Rattle.mixture_restarts.specs.Halves.{TwoHalves, Runnable, RunAt, Holds, Both};
+ghost use Rattle.mixture_restarts.specs.Halves.{keptPart, keptLoglik, keptPartOf};
 
 // Run t in the half that starts at a.
 fn run_at(
@@ -21,7 +22,8 @@ fn run_at(
     d: usize,
     a: usize,
 ) -> mixture_run::RunEnd
-    requires { ⌜ Runnable (length (now work)) (length (now marks)) (length (now weights)) (length (now coords)) m k d (s .rounds) ⌝ }
+    requires { ⌜ Runnable (length (now work)) (length (now marks)) (length (now weights)) (length (now coords)) m k d
+        (s .rounds) ⌝ }
     requires { ⌜ a + half m k d ≤ length (now work) ⌝ }
     ensures { λ r. ⌜ RunAt (runOf s (now (weights .entry)) (now (coords .entry)) m k d t)
         (now (work .entry)) (now (work .exit)) a m k d r ⌝ }
@@ -49,7 +51,8 @@ fn run_beside(
     d: usize,
     second: bool,
 ) -> mixture_run::RunEnd
-    requires { ⌜ Runnable (length (now work)) (length (now marks)) (length (now weights)) (length (now coords)) m k d (s .rounds) ⌝ }
+    requires { ⌜ Runnable (length (now work)) (length (now marks)) (length (now weights)) (length (now coords)) m k d
+        (s .rounds) ⌝ }
     ensures { λ r. ⌜ RunAt (runOf s (now (weights .entry)) (now (coords .entry)) m k d t)
         (now (work .entry)) (now (work .exit)) (freeAt second (half m k d)) m k d r ⌝ }
 {
@@ -68,8 +71,10 @@ fn first_runs(
     k: usize,
     d: usize,
 ) -> kmeans_layout::Held
-    requires { ⌜ Runnable (length (now work)) (length (now marks)) (length (now weights)) (length (now coords)) m k d (s .rounds) ⌝ }
-    ensures { λ h. ⌜ Holds (runsUpTo s (now (weights .entry)) (now (coords .entry)) m k d 2) (now (work .exit)) m k d 3 h ⌝ }
+    requires { ⌜ Runnable (length (now work)) (length (now marks)) (length (now weights)) (length (now coords)) m k d
+        (s .rounds) ⌝ }
+    ensures { λ h. ⌜ Holds (runsUpTo s (now (weights .entry)) (now (coords .entry)) m k d 2)
+        (now (work .exit)) m k d 3 h ⌝ }
 {
     let first = run_at(work, marks, weights, coords, s, 0, m, k, d, 0);
     let counts = first.counts;
@@ -108,7 +113,8 @@ pub fn four_runs(
     k: usize,
     d: usize,
 ) -> Runs
-    requires { ⌜ Runnable (length (now work)) (length (now marks)) (length (now weights)) (length (now coords)) m k d (s .rounds) ⌝ }
+    requires { ⌜ Runnable (length (now work)) (length (now marks)) (length (now weights)) (length (now coords)) m k d
+        (s .rounds) ⌝ }
     ensures { λ r. ⌜ Both (runsUpTo s (now (weights .entry)) (now (coords .entry)) m k d 2)
         (runOf s (now (weights .entry)) (now (coords .entry)) m k d 3) (now (work .exit)) m k d r ⌝ }
 {

@@ -16,6 +16,9 @@ pub record Outcome : Type 0 where
   pub answer : Fitted
   pub outputs : Outputs
 
+abbrev pub answered : Fitted → Outputs → Outcome
+answered answer outputs = record { answer = answer; outputs = outputs }
+
 -- the arrays as found, the leaves, the settings, and the lengths of the two work arrays
 module _ (o : Outputs) (weights coords : List Float) (d k : ℕ) (s : Settings) (work marks : ℕ) where
   abbrev pub doneWith : Once → Outcome

@@ -6,7 +6,7 @@ ghost use lib.ListN.{length};
 ghost use Rattle.mixture_kappa.specs.declared.Kappa.the-variants.{Free};
 ghost use Rattle.mixture_outputs.specs.Outputs.{arrays, lengthsOf};
 ghost use Rattle.movmf.specs.Refusals.{refusalOf};
-ghost use Rattle.movmf.specs.Outcome.{Outcome, outcome};
+ghost use Rattle.movmf.specs.Outcome.{answered, outcome};
 ghost use Rattle.movmf.specs.Answers.{AnswersWith};
 
 // What a call answers: the number of the refusal, or k, the log-likelihood and the counts.
@@ -37,16 +37,14 @@ pub fn movmf_with(
     work: &mut [f64],
     marks: &mut [u32],
 ) -> Fitted
-    ensures { λ r. ⌜ _≡_ {A = Outcome}
-        (record {
-          answer = r;
-          outputs = arrays (now (labels .exit)) (now (responsibilities .exit)) (now («group_weights» .exit))
-              (now (directions .exit)) (now (concentrations .exit)) (now (logw .exit));
-        })
-        (outcome (arrays (now (labels .entry)) (now (responsibilities .entry)) (now («group_weights» .entry))
-        (now (directions .entry)) (now (concentrations .entry)) (now (logw .entry))) (now (weights .entry)) (now (coords .entry)) d k
-        s (length (now (work .entry))) (length (now (marks .entry)))) ⌝ }
-    ensures { λ r. ⌜ AnswersWith (refusalOf (now (weights .entry)) (now (coords .entry)) d k s
+    ensures { λ r. ⌜ answered r (arrays (now (labels .exit)) (now (responsibilities .exit)) (now («group_weights» .exit))
+        (now (directions .exit)) (now (concentrations .exit)) (now (logw .exit)))
+        ≡ outcome (arrays (now (labels .entry)) (now (responsibilities .entry)) (now («group_weights» .entry))
+        (now (directions .entry)) (now (concentrations .entry)) (now (logw .entry)))
+        (now (weights .entry)) (now (coords .entry)) d k s
+        (length (now (work .entry))) (length (now (marks .entry))) ⌝ }
+    ensures { λ r. ⌜ AnswersWith (refusalOf (now (weights .entry)) (now (coords .entry)) d k
+        s
         (lengthsOf (arrays (now (labels .entry)) (now (responsibilities .entry)) (now («group_weights» .entry))
         (now (directions .entry)) (now (concentrations .entry)) (now (logw .entry)))
         (length (now (work .entry))) (length (now (marks .entry))))) r ⌝ }
@@ -103,16 +101,14 @@ pub fn movmf(
     work: &mut [f64],
     marks: &mut [u32],
 ) -> Fitted
-    ensures { λ r. ⌜ _≡_ {A = Outcome}
-        (record {
-          answer = r;
-          outputs = arrays (now (labels .exit)) (now (responsibilities .exit)) (now («group_weights» .exit))
-              (now (directions .exit)) (now (concentrations .exit)) (now (logw .exit));
-        })
-        (outcome (arrays (now (labels .entry)) (now (responsibilities .entry)) (now («group_weights» .entry))
-        (now (directions .entry)) (now (concentrations .entry)) (now (logw .entry))) (now (weights .entry)) (now (coords .entry)) d k
-        (record { rounds = rounds; seed = seed; kappa = Free }) (length (now (work .entry))) (length (now (marks .entry)))) ⌝ }
-    ensures { λ r. ⌜ AnswersWith (refusalOf (now (weights .entry)) (now (coords .entry)) d k (record { rounds = rounds; seed = seed; kappa = Free })
+    ensures { λ r. ⌜ answered r (arrays (now (labels .exit)) (now (responsibilities .exit)) (now («group_weights» .exit))
+        (now (directions .exit)) (now (concentrations .exit)) (now (logw .exit)))
+        ≡ outcome (arrays (now (labels .entry)) (now (responsibilities .entry)) (now («group_weights» .entry))
+        (now (directions .entry)) (now (concentrations .entry)) (now (logw .entry)))
+        (now (weights .entry)) (now (coords .entry)) d k (record { rounds = rounds; seed = seed; kappa = Free })
+        (length (now (work .entry))) (length (now (marks .entry))) ⌝ }
+    ensures { λ r. ⌜ AnswersWith (refusalOf (now (weights .entry)) (now (coords .entry)) d k
+        (record { rounds = rounds; seed = seed; kappa = Free })
         (lengthsOf (arrays (now (labels .entry)) (now (responsibilities .entry)) (now («group_weights» .entry))
         (now (directions .entry)) (now (concentrations .entry)) (now (logw .entry)))
         (length (now (work .entry))) (length (now (marks .entry))))) r ⌝ }

@@ -47,7 +47,8 @@ fn refusal(
     work: usize,
     marks: usize,
 ) -> u32
-    ensures { λ r. ⌜ r ≡ refusalOf (now (weights .entry)) (now (coords .entry)) d k rounds restarts labels directions work marks ⌝ }
+    ensures { λ r. ⌜ r ≡ refusalOf (now (weights .entry)) (now (coords .entry)) d k rounds restarts labels directions
+        work marks ⌝ }
 {
     let m = weights.len();
     if !limits::sizes_ok(m, d, coords.len()) {
@@ -84,7 +85,8 @@ fn run_at(
     a: usize,
     b: usize,
 ) -> kmeans_lloyd::RunEnd
-    requires { ⌜ Runnable (length (now work)) (length (now marks)) (length (now weights)) (length (now coords)) m k d rounds ⌝ }
+    requires { ⌜ Runnable (length (now work)) (length (now marks)) (length (now weights)) (length (now coords)) m k d
+        rounds ⌝ }
     requires { ⌜ (a + half m k d ≤ length (now work)) × (b + (m + k) ≤ length (now marks)) ⌝ }
     ensures { λ r. ⌜ RunAt (resultOf (now (weights .entry)) (now (coords .entry)) m k d rounds generator)
         (now (work .entry)) (now (work .exit)) (now (marks .entry)) (now (marks .exit)) a b m k d r ⌝ }
@@ -122,7 +124,8 @@ fn restart(
     d: usize,
     rounds: usize,
 ) -> Restarts
-    requires { ⌜ Runnable (length (now work)) (length (now marks)) (length (now weights)) (length (now coords)) m k d rounds ⌝ }
+    requires { ⌜ Runnable (length (now work)) (length (now marks)) (length (now weights)) (length (now coords)) m k d
+        rounds ⌝ }
     requires { ⌜ AtMost (ofRuns 64) (h .held .counts) ⌝ }
     ensures { λ q. ⌜ Restarted (resultOf (now (weights .entry)) (now (coords .entry)) m k d rounds (h .generator))
         (now (work .entry)) (now (work .exit)) (now (marks .entry)) (now (marks .exit)) m k d h q ⌝ }
@@ -164,7 +167,8 @@ fn run_all(
     rounds: usize,
     restarts: usize,
 ) -> Restarts
-    requires { ⌜ Runnable (length (now work)) (length (now marks)) (length (now weights)) (length (now coords)) m k d rounds ⌝ }
+    requires { ⌜ Runnable (length (now work)) (length (now marks)) (length (now weights)) (length (now coords)) m k d
+        rounds ⌝ }
     requires { ⌜ restarts ≤ mostRestarts ⌝ }
     ensures { λ h. ⌜ Holds (kmeansOf (now (weights .entry)) (now (coords .entry)) m k d rounds restarts seed)
         (now (work .exit)) (now (marks .exit)) m k d 64 h ⌝ }
@@ -210,7 +214,8 @@ fn fill_outputs(
     k: usize,
     d: usize,
 )
-    requires { ⌜ Fillable (length (now labels)) (length (now directions)) (length (now work)) (length (now marks)) m k d ⌝ }
+    requires { ⌜ Fillable (length (now labels)) (length (now directions)) (length (now work)) (length (now marks)) m k
+        d ⌝ }
     ensures { λ _. ⌜ now (labels .exit) ≡ stateAt m k d (now (work .entry)) (now (marks .entry)) (heldAt second (half m k d))
         (heldAt second (m + k)) .labels ++ drop m (now (labels .entry)) ⌝ }
     ensures { λ _. ⌜ now (directions .exit) ≡ stateAt m k d (now (work .entry)) (now (marks .entry))
