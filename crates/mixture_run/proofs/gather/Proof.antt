@@ -26,7 +26,7 @@ fill-at2-at p = let q = p .before .before .before .before in q .before .before .
 
 -- the start, and the area where the loop begins
 abbrev start : tie.After-fill-at2 Inv-loop μ-loop → tie.Start Inv-loop μ-loop
-start f = start f
+start f = let q = f .before .before .before .before .before in q .before .before .before .before
 
 abbrev begun : tie.After-fill-at2 Inv-loop μ-loop → List Float
 begun f = f .fill-at2 .last .0
