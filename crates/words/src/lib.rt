@@ -77,7 +77,8 @@ pub fn read(to: &mut [u64], text: &[u8]) -> usize
 // The place of the first byte b from place `from` on; the text's end where there is none.
 pub fn place_of(text: &[u8], from: usize, b: u8) -> usize
     requires { ⌜ from ≤ length (now text) ⌝ }
-    ensures { λ r. ⌜ (from ≤ r) × (r ≤ length (now (text .entry))) ⌝ }
+    ensures { λ r. ⌜ from ≤ r ⌝ }
+    ensures { λ r. ⌜ Counted r (now (text .entry)) ⌝ }
     ensures { λ r. ⌜ r ≡ from + placeOf b (drop from (now (text .entry))) ⌝ }
 {
     let mut i = from;
@@ -132,6 +133,52 @@ pub fn load(v: &mut [f64], words: &[u64], from: usize, last: usize, n: usize) ->
         j += 1;
     }
     m
+}
+
+// A list of `count` bytes from word `from` on: packed eight to a word, the first lowest, or one to a word, of which
+// elements 0 to `last` are written and the last of them stands for the rest.
+pub struct Bytes {
+    pub count: usize,
+    pub from: usize,
+    pub last: usize,
+    pub packed: bool,
+}
+
+// Byte j of a list.
+fn byte(words: &[u64], list: Bytes, j: usize) -> u8 {
+    if list.packed {
+        return ((word(words, plus(list.from, j / 8)) >> (j % 8 * 8)) % 256) as u8;
+    }
+    (element(words, list.from, list.last, j) % 256) as u8
+}
+
+// Puts a list at the start of v, and answers its length; no more than v holds.
+pub fn load_bytes(v: &mut [u8], words: &[u64], list: Bytes) -> usize
+    ensures { λ r. ⌜ Counted r (now (v .exit)) ⌝ }
+    ensures { λ r. ⌜ r ≡ min (list .count) (length (now (v .entry))) ⌝ }
+{
+    let m = least(list.count, v.len());
+    let mut j = 0;
+    while j < m {
+        v[j] = byte(words, list, j);
+        j += 1;
+    }
+    m
+}
+
+// Whether the first n of v are the list, and the rest are still 7.
+pub fn are_bytes(v: &[u8; 4096], n: usize, words: &[u64], list: Bytes) -> bool {
+    let mut same = n == list.count;
+    let mut j = 0;
+    while j < 4096 {
+        if j < n {
+            same = same & (v[j] == byte(words, list, j));
+        } else {
+            same = same & (v[j] == 7);
+        }
+        j += 1;
+    }
+    same
 }
 
 // Kinds 1 to 6 of an example: root, exp, ln, max, clamp, abs.

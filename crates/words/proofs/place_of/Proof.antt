@@ -1,9 +1,10 @@
 -- `words::place_of` meets its contract. The loop's invariant: the first place in what is left is the first from `from` on. The measure is
 -- what is left of the length. Assumes nothing.
-use mathlib.Core.Path.{_≡_, refl, _∙_}
+use mathlib.Core.Path.{_≡_, refl, sym, _∙_}
 use Prim.Native.Nat.{_+_, _≤_, _-_}
 use native.Mathlib.Omega.{arith}
 use lib.ListN.{length, drop}
+use lib.Seq.{length-take-le}
 use borrow.Author.Needs.{needs}
 use Rattle.words.specs.Words.{placeOf}
 use Rattle.words.proofs.Turns.{place-turn, place-here, place-end}
@@ -22,8 +23,13 @@ loop-holds c = (omega arith, c .pre, refl)
 returns : tie.Need-returns Inv-loop μ-loop
 returns c =
     let l = c .before .before .before .loop in
-    let a = c .before .before .before .before .args in
-    ((l .inv .0, l .inv .1), place-here (a .b) (a .text .now) (l .i) (omega arith) (c .if1 .taken) ∙ l .inv .2)
+    let a = c .before .before .before .before .args in (
+      l .inv .0,
+      (
+        (l .inv .1, sym (length-take-le (l .i) (a .text .now) (l .inv .1))),
+        place-here (a .b) (a .text .now) (l .i) (omega arith) (c .if1 .taken) ∙ l .inv .2,
+      ),
+    )
 
 loop-again : tie.Need-loop-again Inv-loop μ-loop
 loop-again c =
@@ -34,8 +40,13 @@ loop-again c =
 returns-2 : tie.Need-returns-2 Inv-loop μ-loop
 returns-2 c =
     let l = c .before .loop in
-    let a = c .before .before .args in
-    ((l .inv .0, l .inv .1), place-end (a .b) (a .text .now) (l .i) (omega arith) ∙ l .inv .2)
+    let a = c .before .before .args in (
+      l .inv .0,
+      (
+        (l .inv .1, sym (length-take-le (l .i) (a .text .now) (l .inv .1))),
+        place-end (a .b) (a .text .now) (l .i) (omega arith) ∙ l .inv .2,
+      ),
+    )
 
 pub place-of-spec : {M : Type 1} → statement M
 place-of-spec =

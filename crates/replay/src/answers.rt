@@ -1,0 +1,121 @@
+// What the three fits answer, and what a case says of it.
+use super::outputs::Place;
+use words::is_number;
+use words::plus;
+use words::word;
+
+// What a fit answers: the number of groups, 0 where none is kept or asked; the cohesion or the log-likelihood; the score; the
+// counts.
+pub(crate) struct Answer {
+    done: bool,
+    unscored: bool,
+    k: u64,
+    x: f64,
+    score: f64,
+    made: u64,
+    saved: u64,
+}
+
+// Whether the answer is done and its counts are the words from word `at` on.
+fn counts_agree(a: Answer, case: &[u64], at: usize) -> bool {
+    a.done & (a.made == word(case, at)) & (a.saved == word(case, plus(at, 1)))
+}
+
+// Whether an answer with k groups has the words from word `at` on: the place after them.
+pub(crate) fn answer_agrees(a: Answer, k: u64, case: &[u64], at: usize, digest: bool) -> Place {
+    let same = (a.k == k) & is_number(a.x, case, at) & counts_agree(a, case, plus(at, 1));
+    Place {
+        at: plus(at, 3),
+        digest,
+        same,
+    }
+}
+
+// Whether the answer is what the words from word `at` on say: the number, 0 where none is kept, its log-likelihood and score, and
+// the counts. The place after them.
+pub(crate) fn choice_agrees(a: Answer, case: &[u64], at: usize) -> Place {
+    let x = is_number(a.x, case, plus(at, 1));
+    let score = is_number(a.score, case, plus(at, 2));
+    let same = (a.k == word(case, at))
+        & (a.unscored | (x & score))
+        & counts_agree(a, case, plus(at, 3));
+    Place {
+        at: plus(at, 5),
+        digest: true,
+        same,
+    }
+}
+
+// The answer of a fit that keeps no number.
+fn unanswered(made: u64, saved: u64, done: bool) -> Answer {
+    Answer {
+        done,
+        unscored: true,
+        k: 0,
+        x: 0.0,
+        score: 0.0,
+        made,
+        saved,
+    }
+}
+
+pub(crate) fn clustered(r: spherical::Clustered) -> Answer {
+    match r {
+        spherical::Clustered::Refused(_) => unanswered(0, 0, false),
+        spherical::Clustered::Done {
+            cohesion,
+            made,
+            saved,
+        } => Answer {
+            done: true,
+            unscored: false,
+            k: 0,
+            x: cohesion,
+            score: 0.0,
+            made,
+            saved,
+        },
+    }
+}
+
+pub(crate) fn fitted(r: movmf::Fitted) -> Answer {
+    match r {
+        movmf::Fitted::Refused(_) => unanswered(0, 0, false),
+        movmf::Fitted::Done {
+            k,
+            loglik,
+            made,
+            saved,
+        } => Answer {
+            done: true,
+            unscored: false,
+            k: k as u64,
+            x: loglik,
+            score: 0.0,
+            made,
+            saved,
+        },
+    }
+}
+
+pub(crate) fn chosen(r: auto::Chosen) -> Answer {
+    match r {
+        auto::Chosen::Refused(_) => unanswered(0, 0, false),
+        auto::Chosen::Unscored { made, saved } => unanswered(made, saved, true),
+        auto::Chosen::Done {
+            k,
+            loglik,
+            score,
+            made,
+            saved,
+        } => Answer {
+            done: true,
+            unscored: false,
+            k: k as u64,
+            x: loglik,
+            score,
+            made,
+            saved,
+        },
+    }
+}
