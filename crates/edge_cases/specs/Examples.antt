@@ -97,5 +97,6 @@ allSay (r ∷ rs) = r .says ∷ allSay rs
 
 -- every definition gives what document 01 says
 pub examples : allGive table ≡ allSay table
-unfolding table rootOf expOf lnOf estimateOf shiftLower shiftUpper slowestUpTo chosen maxOf clampOf add sub mul div neg lt le isNan ofInt ofBits round size
+unfolding table rootOf expOf lnOf estimateOf shiftLower shiftUpper slowestUpTo chosen maxOf clampOf add sub mul div neg
+    lt le isNan ofInt ofBits round size
 examples = refl

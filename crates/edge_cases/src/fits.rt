@@ -41,7 +41,8 @@ fn code(r: spherical::Clustered) -> u32 {
     }
 }
 
-// What spherical k-means answers with arrays of the lengths from word `at` on: labels, directions and the two work arrays.
+// What spherical k-means answers with arrays of the lengths from word `at` on: labels, directions and the two work
+// arrays.
 fn clustered(weights: &[f64], coords: &[f64], c: Call, line: &[u64], at: usize) -> u32 {
     let mut labels = [9u32; 4096];
     let mut directions = [9.0; 256];
@@ -125,8 +126,8 @@ fn refusal(c: u32) -> u64 {
     c as u64
 }
 
-// Whether r is as words 1 to 3 say: refused with word 1; or with 7, and words 2 and 3 groups looked at and skipped; or word 1
-// is 0, and word 2 is the number kept and word 3 its score, each 0 where any is right.
+// Whether r is as words 1 to 3 say: refused with word 1; or with 7, and words 2 and 3 groups looked at and skipped; or
+// word 1 is 0, and word 2 is the number kept and word 3 its score, each 0 where any is right.
 pub(crate) fn chosen_is(r: auto::Chosen, line: &[u64]) -> bool {
     let c = word(line, 1);
     let a = word(line, 2);
@@ -173,8 +174,8 @@ fn choice_holds(weights: &[f64], coords: &[f64], c: Call, line: &[u64]) -> bool 
     chosen_is(r, line)
 }
 
-// Kinds 10 to 12 with these leaves: spherical k-means and the mixture fit, whose arrays' lengths are from word `at` on, and the
-// automatic fit.
+// Kinds 10 to 12 with these leaves: spherical k-means and the mixture fit, whose arrays' lengths are from word `at` on,
+// and the automatic fit.
 fn fit_holds(kind: u64, weights: &[f64], coords: &[f64], line: &[u64], at: usize) -> bool {
     if kind == 10 {
         return refusal(clustered(weights, coords, call_of(line), line, at)) == word(line, 1);
@@ -185,8 +186,8 @@ fn fit_holds(kind: u64, weights: &[f64], coords: &[f64], line: &[u64], at: usize
     choice_holds(weights, coords, call_of(line), line)
 }
 
-// Kinds 10 to 12: the answer in words 1 to 3, d, k_min, k or k_max, rounds, restarts, the weights, the coordinates, and the
-// arrays' lengths.
+// Kinds 10 to 12: the answer in words 1 to 3, d, k_min, k or k_max, rounds, restarts, the weights, the coordinates, and
+// the arrays' lengths.
 pub(crate) fn fits_hold(kind: u64, line: &[u64]) -> bool {
     let mut weights = [0.0; 4097];
     let mut coords = [0.0; 4097];

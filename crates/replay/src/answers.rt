@@ -4,8 +4,8 @@ use words::is_number;
 use words::plus;
 use words::word;
 
-// What a fit answers: the number of groups, 0 where none is kept or asked; the cohesion or the log-likelihood; the score; the
-// counts.
+// What a fit answers: the number of groups, 0 where none is kept or asked; the cohesion or the log-likelihood; the
+// score; the counts.
 pub(crate) struct Answer {
     done: bool,
     unscored: bool,
@@ -31,8 +31,8 @@ pub(crate) fn answer_agrees(a: Answer, k: u64, case: &[u64], at: usize, digest: 
     }
 }
 
-// Whether the answer is what the words from word `at` on say: the number, 0 where none is kept, its log-likelihood and score, and
-// the counts. The place after them.
+// Whether the answer is what the words from word `at` on say: the number, 0 where none is kept, its log-likelihood and
+// score, and the counts. The place after them.
 pub(crate) fn choice_agrees(a: Answer, case: &[u64], at: usize) -> Place {
     let x = is_number(a.x, case, plus(at, 1));
     let score = is_number(a.score, case, plus(at, 2));

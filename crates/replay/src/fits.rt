@@ -31,9 +31,9 @@ fn head_of(case: &[u64]) -> Head {
     }
 }
 
-// Kind 21 with these leaves, spherical k-means: m, d, k, rounds, restarts, seed, m weights, m * d coordinates; cohesion, made,
-// saved, the labels, the directions. The answer's words are from word `at` on. The outputs are longer than needed, and
-// their rest is looked at too.
+// Kind 21 with these leaves, spherical k-means: m, d, k, rounds, restarts, seed, m weights, m * d coordinates;
+// cohesion, made, saved, the labels, the directions. The answer's words are from word `at` on. The outputs are longer
+// than needed, and their rest is looked at too.
 fn groups_agree(case: &[u64], weights: &[f64], coords: &[f64], h: Head, at: usize) -> bool {
     let d = h.w1 as usize;
     let k = h.w2 as usize;
@@ -163,8 +163,8 @@ fn labelled(k: usize, m: usize) -> usize {
     if k == 0 { 0 } else { m }
 }
 
-// Kind 24 with these leaves, the automatic fit: m, d, k_min, k_max, rounds, seed, Kappa, m weights, m * d coordinates; the number,
-// the log-likelihood, the score, made, saved, and a digest of each output.
+// Kind 24 with these leaves, the automatic fit: m, d, k_min, k_max, rounds, seed, Kappa, m weights, m * d coordinates;
+// the number, the log-likelihood, the score, made, saved, and a digest of each output.
 fn auto_agrees(case: &[u64], weights: &[f64], coords: &[f64], h: Head, at: usize) -> bool {
     let k = word(case, at) as usize;
     let s = shaped(labelled(k, weights.len()), k, h.w1);

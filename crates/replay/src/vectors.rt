@@ -12,7 +12,8 @@ fn unit_same(to: &mut [f64], v: &[f64], case: &[u64]) -> bool {
     outputs::rows_agree(to, v.len(), case, outputs::place_at(v.len())).same
 }
 
-// Whether the pick among the weights v gives the place in word `at` and leaves the state in the next; word 0 is the state.
+// Whether the pick among the weights v gives the place in word `at` and leaves the state in the next; word 0 is the
+// state.
 fn pick_same(v: &[f64], case: &[u64], at: usize) -> bool {
     let p = pick::weighted_pick(v, word(case, 0));
     (p.index as u64 == word(case, at)) & (p.state == word(case, plus(at, 1)))
@@ -60,8 +61,8 @@ fn loaded_agree(
     vectors_agree(kind, &v[..a], &mut w[..b], case, at)
 }
 
-// Kinds 11 to 16: a product, two lengths and the vectors; and of one vector norm, unit, argmax, argmin and a pick, before whose
-// weights the generator's state stands.
+// Kinds 11 to 16: a product, two lengths and the vectors; and of one vector norm, unit, argmax, argmin and a pick,
+// before whose weights the generator's state stands.
 pub(crate) fn vector_agrees(kind: u64, case: &[u64], ins: usize) -> bool {
     if kind == 11 {
         let n = word(case, 0) as usize;

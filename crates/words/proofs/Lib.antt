@@ -1,2 +1,3 @@
--- Laws that the functions' proofs cite.
+-- Laws that other proofs cite, each file named after what it is about.
 pub mod Turns
+pub mod Parts

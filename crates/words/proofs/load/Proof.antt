@@ -1,12 +1,12 @@
 -- `words::load` meets its contract. The loop's invariant: the elements passed are those of the list. The measure is what is left of them.
 -- Assumes nothing.
-use mathlib.Core.Path.{_≡_, refl, sym, ap, subst, _∙_}
+use mathlib.Core.Path.{_≡_, refl, ap, subst, _∙_}
 use Prim.Native.Nat.{ℕ, _≤_, _-_}
 use native.Mathlib.Omega.{arith}
 use lib.ListN.{length, take, length-set}
-use lib.Seq.{length-take-le}
 use lib.Ieee.{binary64, ofBits}
 use borrow.Author.Needs.{needs}
+use Rattle.words.proofs.Parts.{within}
 use Rattle.words.specs.Words.{valuesUpTo}
 use Rattle.words.proofs.Turns.{values-turn}
 use Rattle.words.proofs.load.Statement.{statement}
@@ -40,7 +40,7 @@ returns c =
     let h : m .result ≤ length (l .v) = rw (l .inv .0) (m .ensures .0) in
     let e : l .j ≡ m .result = omega arith in
     let t = subst (λ (k : ℕ). take k (l .v) ≡ valuesUpTo (a .words .now) (a .from) (a .last) k) e (l .inv .2) in
-    ((h, sym (length-take-le (m .result) (l .v) h)), (m .ensures .1, t))
+    ((h, within (m .result) (l .v) h), (m .ensures .1, t))
 
 pub load-spec : {M : Type 1} → statement M
 load-spec =

@@ -1,10 +1,10 @@
 -- `words::load_bytes` meets its contract. The loop's invariant: the array keeps its length. The measure is what is left of the list.
 -- Assumes nothing.
-use mathlib.Core.Path.{_≡_, sym}
+use mathlib.Core.Path.{_≡_}
 use Prim.Native.Nat.{_≤_, _-_}
 use lib.ListN.{length}
-use lib.Seq.{length-take-le}
 use borrow.Author.Needs.{needs}
+use Rattle.words.proofs.Parts.{within}
 use Rattle.words.proofs.load_bytes.Statement.{statement}
 use Rattle.words.proofs.load_bytes.Tie as tie
 
@@ -19,7 +19,7 @@ returns c =
     let m = c .before .before .least in
     let l = c .before .loop in
     let h : m .result ≤ length (l .v) = rw (l .inv .0) (m .ensures .0) in
-    ((h, sym (length-take-le (m .result) (l .v) h)), m .ensures .1)
+    ((h, within (m .result) (l .v) h), m .ensures .1)
 
 pub load-bytes-spec : {M : Type 1} → statement M
 load-bytes-spec =

@@ -1,11 +1,11 @@
 -- `words::place_of` meets its contract. The loop's invariant: the first place in what is left is the first from `from` on. The measure is
 -- what is left of the length. Assumes nothing.
-use mathlib.Core.Path.{_≡_, refl, sym, _∙_}
+use mathlib.Core.Path.{_≡_, refl, _∙_}
 use Prim.Native.Nat.{_+_, _≤_, _-_}
 use native.Mathlib.Omega.{arith}
 use lib.ListN.{length, drop}
-use lib.Seq.{length-take-le}
 use borrow.Author.Needs.{needs}
+use Rattle.words.proofs.Parts.{within}
 use Rattle.words.specs.Words.{placeOf}
 use Rattle.words.proofs.Turns.{place-turn, place-here, place-end}
 use Rattle.words.proofs.place_of.Statement.{statement}
@@ -26,7 +26,7 @@ returns c =
     let a = c .before .before .before .before .args in (
       l .inv .0,
       (
-        (l .inv .1, sym (length-take-le (l .i) (a .text .now) (l .inv .1))),
+        (l .inv .1, within (l .i) (a .text .now) (l .inv .1)),
         place-here (a .b) (a .text .now) (l .i) (omega arith) (c .if1 .taken) ∙ l .inv .2,
       ),
     )
@@ -43,7 +43,7 @@ returns-2 c =
     let a = c .before .before .args in (
       l .inv .0,
       (
-        (l .inv .1, sym (length-take-le (l .i) (a .text .now) (l .inv .1))),
+        (l .inv .1, within (l .i) (a .text .now) (l .inv .1)),
         place-end (a .b) (a .text .now) (l .i) (omega arith) ∙ l .inv .2,
       ),
     )

@@ -1,12 +1,12 @@
 -- `words::read` meets its contract. The loop's invariant: the words read, and behind them those of what is left of the text, are the text's
 -- words. The measure is what is left of the length. Assumes nothing.
-use mathlib.Core.Path.{refl, sym, _∙_}
+use mathlib.Core.Path.{refl, _∙_}
 use mathlib.Core.Logic.{⊎-elim}
 use Prim.Native.Nat.{_-_}
 use native.Mathlib.Omega.{arith}
 use lib.ListN.{length}
-use lib.Seq.{length-take-le}
 use borrow.Author.Needs.{needs}
+use Rattle.words.proofs.Parts.{within}
 use Rattle.words.proofs.Turns.{Reading, digit-turn, word-turn, words-end, full, ended}
 use Rattle.words.proofs.read.Statement.{statement}
 use Rattle.words.proofs.read.Tie as tie
@@ -23,7 +23,7 @@ loop-holds c = (refl, omega arith, omega arith, refl)
 returns : tie.Need-returns Inv-loop μ-loop
 returns c =
     let l = c .before .before .loop in (
-      (l .inv .1, sym (length-take-le (l .n) (l .to) (l .inv .1))),
+      (l .inv .1, within (l .n) (l .to) (l .inv .1)),
       full _ (l .to) _ (l .n) _ (l .inv .3) (c .if1 .taken ∙ l .inv .0) (l .inv .1),
     )
 
@@ -44,7 +44,7 @@ returns-2 : tie.Need-returns-2 Inv-loop μ-loop
 returns-2 c =
     let l = c .before .loop in
     let a = c .before .before .before .before .args in (
-      (l .inv .1, sym (length-take-le (l .n) (l .to) (l .inv .1))),
+      (l .inv .1, within (l .n) (l .to) (l .inv .1)),
       ended _ (l .to) _ (l .n) (length (a .to .now)) (l .inv .3)
           (words-end (a .text .now) (l .x) (l .i) (omega arith)) (omega (arith, l .inv .0)) (l .inv .1),
     )
