@@ -13,7 +13,7 @@ use Rattle.exponential.specs.Exponential.{expOf}
 use Rattle.logarithm.specs.Logarithm.{lnOf}
 use Rattle.bessel.specs.Concentration.{estimateOf, kappaMax}
 use Rattle.kmeans_bounds.specs.declared.Slowest.{Slowest}
-use Rattle.kmeans_bounds.specs.Shifts.{shiftLower, shiftUpper, slowestUpTo}
+use Rattle.kmeans_bounds.specs.Shifts.{shiftLower, shiftUpper, slowestOf, slowestFrom}
 use Rattle.auto_choice.specs.Choice.{chosen}
 use Rattle.auto_choice.specs.declared.Choice.{Choice}
 use Rattle.auto_choice.specs.declared.Choice.the-variants.{Number, Nothing}
@@ -80,8 +80,8 @@ table =
     ∷ row (one (float (shiftUpper half half))) (one (float (number 1)))
     ∷ row (one (float (shiftUpper plusZero (number 1)))) (one (float plusZero))
     -- two smallest of 0.5, 0.5, 0.25: index 2, 0.25, 0.5; of 0.5 alone: index 0, 0.5, +infinity
-    ∷ row (slowest (slowestUpTo (half ∷ half ∷ quarter ∷ []) 3)) (slow 2 quarter half)
-    ∷ row (slowest (slowestUpTo (half ∷ []) 1)) (slow 0 half (inf false))
+    ∷ row (slowest (slowestOf (half ∷ half ∷ quarter ∷ []))) (slow 2 quarter half)
+    ∷ row (slowest (slowestOf (half ∷ []))) (slow 0 half (inf false))
     -- scores 3, NaN, 1, 1 from k_lo 2 choose 4; NaN, +infinity choose none
     ∷ row (choice (chosen (scored (number 3 ∷ nan ∷ number 1 ∷ number 1 ∷ []) 2) 2 4)) (whole 4 ∷ float (number 1) ∷ [])
     ∷ row (choice (chosen (scored (nan ∷ inf false ∷ []) 1) 1 2)) (one none)
@@ -97,5 +97,6 @@ allSay (r ∷ rs) = r .says ∷ allSay rs
 
 -- every definition gives what document 01 says
 pub examples : allGive table ≡ allSay table
-unfolding table rootOf expOf lnOf estimateOf shiftLower shiftUpper slowestUpTo chosen maxOf clampOf add sub mul div neg lt le isNan ofInt ofBits round size
+unfolding table rootOf expOf lnOf estimateOf shiftLower shiftUpper slowestFrom chosen maxOf clampOf add sub mul div neg
+    lt le isNan ofInt ofBits round size
 examples = refl

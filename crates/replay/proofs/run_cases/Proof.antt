@@ -7,10 +7,10 @@ use Rattle.replay.proofs.run_cases.Statement.{statement}
 use Rattle.replay.proofs.run_cases.Tie as tie
 
 abbrev Inv-loop : tie.InvT-loop
-Inv-loop space₀ kind ins outs count width agreed₀ i₀ space agreed i = (length space ≡ length space₀) × (i ≤ count)
+Inv-loop space₀ to₀ b width agreed₀ i₀ space to agreed i = (length space ≡ length space₀) × (length to ≡ length to₀) × (i ≤ b .count)
 
 abbrev μ-loop : tie.MeasureT-loop
-μ-loop space₀ kind ins outs count width agreed₀ i₀ space agreed i = count - i
+μ-loop space₀ to₀ b width agreed₀ i₀ space to agreed i = b .count - i
 
 pub run-cases-spec : {M : Type 1} → statement M
 run-cases-spec =
@@ -21,9 +21,9 @@ run-cases-spec =
     (λ c κs. search needs)
     (λ c. search needs)
     (λ c κs. search needs)
-    (λ c κs. search needs)
     (λ c. search needs)
     (λ c κs. search needs)
+    (λ c. search needs)
     (λ c. search needs)
     (λ c. search needs)
     (λ c. search needs)

@@ -7,10 +7,10 @@ use Rattle.replay.proofs.run_list.Statement.{statement}
 use Rattle.replay.proofs.run_list.Tie as tie
 
 abbrev Inv-loop : tie.InvT-loop
-Inv-loop space₀ t₀ blocks₀ space t blocks = (length space ≡ length space₀) × (blocks ≤ 4096)
+Inv-loop space₀ to₀ t₀ blocks₀ space to t blocks = (length space ≡ length space₀) × (length to ≡ length to₀) × (blocks ≤ 4096)
 
 abbrev μ-loop : tie.MeasureT-loop
-μ-loop space₀ t₀ blocks₀ space t blocks = 4096 - blocks
+μ-loop space₀ to₀ t₀ blocks₀ space to t blocks = 4096 - blocks
 
 pub run-list-spec : {M : Type 1} → statement M
 run-list-spec =
@@ -20,6 +20,8 @@ run-list-spec =
     μ-loop
     (λ c. search needs)
     (λ c κs. search needs)
+    (λ c. search needs)
+    (λ c. search needs)
     (λ c. search needs)
     (λ c. search needs)
     (λ c. search needs)
