@@ -12,9 +12,6 @@ int-to-float-result : tie.Need-int-to-float-result
 unfolding inFloat
 int-to-float-result c = le→leb _ _ (le-of-lt (shr-lt 53 11 (c .before .fits .x .fits)))
 
-returns : tie.Need-returns
-unfolding div unitOf ofInt ofBits
-returns c = search needs
-
 pub unit-f64-spec : {M : Type 1} → statement M
-unit-f64-spec = tie.close (tie.spec int-to-float-result returns)
+unfolding div unitOf ofInt ofBits
+unit-f64-spec = tie.close (tie.spec int-to-float-result (λ c. search needs))
