@@ -10,7 +10,8 @@ use lib.ListN.{length, getD, take, drop, set, drop-of-length-le, length-set}
 use lib.Seq.{drop-cons, take-suc-set, take-append-le, take-all, length-take-le, take-take}
 use lib.Ieee.{Float, binary64, ofBits}
 use borrow.Author.Tests.{lt-ltb, le-ltb, eq-eqb, ne-eqb}
-use Rattle.words.specs.Words.{digitOf, wordsFrom, wordsOf, placeOf, elementOf, valuesUpTo}
+use Rattle.words.specs.Words.{digitOf, wordsFrom, wordsOf, placeOf, elementOf, valuesUpTo, byteOf, bytesUpTo}
+use Rattle.words.specs.declared.Bytes.{Bytes}
 
 -- while a text is read: n words stand in `to`, which has room for m, and x is the value of the digits behind them, up to place i
 abbrev pub Reading : (text : List ℕ) (m : ℕ) (to : List ℕ) (n x i : ℕ) → Type 0
@@ -68,3 +69,7 @@ module _ (words : List ℕ) (from last : ℕ) where
   pub values-turn : (v : List Float) (j : ℕ) (x : Float) → j < length v → x ≡ ofBits binary64 (elementOf words from last j)
       → take j v ≡ valuesUpTo words from last j → take (j + 1) (set v j x) ≡ valuesUpTo words from last (j + 1)
   values-turn v j x h e done = rw (add-one, take-suc-set v j x h, done, e)
+
+pub bytes-turn : (words : List ℕ) (list : Bytes) (v : List ℕ) (j x : ℕ) → j < length v → x ≡ byteOf words list j
+    → take j v ≡ bytesUpTo words list j → take (j + 1) (set v j x) ≡ bytesUpTo words list (j + 1)
+bytes-turn words list v j x h e done = rw (add-one, take-suc-set v j x h, done, e)

@@ -3,7 +3,7 @@
 use mathlib.Core.Path.{_≡_}
 use mathlib.Core.Bool.{cond}
 use mathlib.Core.List.{List, [], _∷_, _++_}
-use Prim.Native.Nat.{ℕ, zero, suc, _+_, _-_, _*_, _%_, _≤_, min}
+use Prim.Native.Nat.{ℕ, zero, suc, _+_, _-_, _*_, _/_, _%_, _^_, _≤_, min}
 use lib.Dec.{eqb, ltb}
 use lib.ListN.{length, take, getD}
 use lib.Ieee.{Float, binary64, ofBits}
@@ -11,6 +11,7 @@ use Rattle.float.specs.Arithmetic.{maxOf, clampOf, absOf}
 use Rattle.root.specs.Root.{rootOf}
 use Rattle.exponential.specs.Exponential.{expOf}
 use Rattle.logarithm.specs.Logarithm.{lnOf}
+use Rattle.words.specs.declared.Bytes.{Bytes}
 
 -- n counts elements at the start of an array. The second part follows from the first; both are stated, since lending
 -- that part of the array asks for both
@@ -50,6 +51,17 @@ abbrev pub valuesUpTo : List ℕ → (from last n : ℕ) → List Float
 valuesUpTo words from last zero = []
 valuesUpTo words from last (suc n) =
     valuesUpTo words from last n ++ (ofBits binary64 (elementOf words from last n) ∷ [])
+
+-- byte j of a list of bytes, which are packed eight to a word, the first lowest, or stand one to a word; and the first
+abbrev pub byteOf : List ℕ → Bytes → ℕ → ℕ
+byteOf words list j =
+    cond (list .packed)
+    (getD words (plusOf (list .from) (j / 8)) 0 / 2 ^ (j % 8 * 8) % 256)
+    (elementOf words (list .from) (list .last) j % 256)
+
+abbrev pub bytesUpTo : List ℕ → Bytes → ℕ → List ℕ
+bytesUpTo words list zero = []
+bytesUpTo words list (suc n) = bytesUpTo words list n ++ (byteOf words list n ∷ [])
 
 -- the function that a kind of example names
 abbrev pub arithmeticOf : ℕ → (x y z : Float) → Float

@@ -7,7 +7,7 @@ ghost use lib.Dec.{eqb};
 ghost use lib.ListN.{length, take, drop, getD};
 ghost use lib.Ieee.{binary64, ofBits, toBits};
 ghost use Rattle.words.specs.Words.{Counted, digitOf, wordsOf, placeOf};
-ghost use Rattle.words.specs.Words.{plusOf, elementOf, valuesUpTo, arithmeticOf};
+ghost use Rattle.words.specs.Words.{plusOf, elementOf, valuesUpTo, byteOf, bytesUpTo, arithmeticOf};
 
 // The smaller of two numbers.
 pub fn least(a: usize, b: usize) -> usize
@@ -145,7 +145,9 @@ pub struct Bytes {
 }
 
 // Byte j of a list.
-fn byte(words: &[u64], list: Bytes, j: usize) -> u8 {
+fn byte(words: &[u64], list: Bytes, j: usize) -> u8
+    ensures { λ r. ⌜ r ≡ byteOf (now (words .entry)) list j ⌝ }
+{
     if list.packed {
         return ((word(words, plus(list.from, j / 8)) >> (j % 8 * 8)) % 256) as u8;
     }
@@ -156,6 +158,7 @@ fn byte(words: &[u64], list: Bytes, j: usize) -> u8 {
 pub fn load_bytes(v: &mut [u8], words: &[u64], list: Bytes) -> usize
     ensures { λ r. ⌜ Counted r (now (v .exit)) ⌝ }
     ensures { λ r. ⌜ r ≡ min (list .count) (length (now (v .entry))) ⌝ }
+    ensures { λ r. ⌜ take r (now (v .exit)) ≡ bytesUpTo (now (words .entry)) list r ⌝ }
 {
     let m = least(list.count, v.len());
     let mut j = 0;
