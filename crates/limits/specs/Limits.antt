@@ -13,13 +13,17 @@ abbrev pub need : Bool → ℕ → ℕ → ℕ
 need true code rest = rest
 need false code rest = code
 
+-- from low to high, and so no NaN
+abbrev pub within : (low high x : Float) → Bool
+within low high x = le low x && le x high
+
 -- from 0 to 2^40, and so finite; either zero is allowed
 abbrev pub weightOk : Float → Bool
-weightOk w = le plusZero w && le w (number 1099511627776)
+weightOk w = within plusZero (number 1099511627776) w
 
 -- within ±2, and so finite
 abbrev pub coordinateOk : Float → Bool
-coordinateOk x = le (neg (number 2)) x && le x (number 2)
+coordinateOk x = within (neg (number 2)) (number 2) x
 
 abbrev pub every : (Float → Bool) → List Float → Bool
 every ok [] = true

@@ -1,50 +1,42 @@
 // The limits that the entries share (document 01, 'Leaves, settings, fit' and 'Refusals by call').
 ghost use mathlib.Core.Path.{_≡_};
 ghost use Prim.Native.Nat.{_≤_};
-ghost use Rattle.limits.specs.Limits.{weightOk, coordinateOk, every, leavesRefusal, sizesOk, groupsOk, workOk};
+ghost use Rattle.limits.specs.Limits.{within, weightOk, coordinateOk, every, leavesRefusal, sizesOk, groupsOk, workOk};
 
-// A weight from 0 to 2^40.
-fn weight_ok(w: f64) -> bool
-    ensures { λ r. ⌜ r ≡ weightOk w ⌝ }
+// x from low to high.
+fn is_within(x: f64, low: f64, high: f64) -> bool
+    ensures { λ r. ⌜ r ≡ within low high x ⌝ }
 {
-    (0.0 <= w) & (w <= 1099511627776.0)
+    (low <= x) & (x <= high)
 }
 
-// A coordinate within +-2.
-fn coordinate_ok(x: f64) -> bool
-    ensures { λ r. ⌜ r ≡ coordinateOk x ⌝ }
-{
-    (-2.0 <= x) & (x <= 2.0)
-}
-
-// Every weight is one.
-pub fn weights_ok(ws: &[f64]) -> bool
-    ensures { λ r. ⌜ r ≡ every weightOk (now (ws .entry)) ⌝ }
-{
-    let mut j = 0;
-    while j < ws.len() {
-        if weight_ok(ws[j]) {
-            j += 1;
-        } else {
-            return false;
-        }
-    }
-    true
-}
-
-// Every coordinate is one.
-pub fn coordinates_ok(xs: &[f64]) -> bool
-    ensures { λ r. ⌜ r ≡ every coordinateOk (now (xs .entry)) ⌝ }
+// Every element is.
+fn all_within(xs: &[f64], low: f64, high: f64) -> bool
+    ensures { λ r. ⌜ r ≡ every (within low high) (now (xs .entry)) ⌝ }
 {
     let mut j = 0;
     while j < xs.len() {
-        if coordinate_ok(xs[j]) {
+        if is_within(xs[j], low, high) {
             j += 1;
         } else {
             return false;
         }
     }
     true
+}
+
+// Every weight is from 0 to 2^40.
+pub fn weights_ok(ws: &[f64]) -> bool
+    ensures { λ r. ⌜ r ≡ every weightOk (now (ws .entry)) ⌝ }
+{
+    all_within(ws, 0.0, 1099511627776.0)
+}
+
+// Every coordinate is within +-2.
+pub fn coordinates_ok(xs: &[f64]) -> bool
+    ensures { λ r. ⌜ r ≡ every coordinateOk (now (xs .entry)) ⌝ }
+{
+    all_within(xs, -2.0, 2.0)
 }
 
 // 5 for a bad weight, 6 for a bad coordinate, 0 for neither.
