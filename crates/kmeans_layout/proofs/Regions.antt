@@ -100,8 +100,8 @@ module _ (m k d : ℕ) (w : List Float) (u : List ℕ) where
   in-work : {a b : List (List Float)} → a ≡ b → named a (cut (markLengths m k) u) ≡ named b (cut (markLengths m k) u)
   in-work e = ap (λ (l : List (List Float)). named l (cut (markLengths m k) u)) e
 
-  in-marks : {a b : List (List ℕ)} → a ≡ b → named (cut (lengths m k d) w) a ≡ named (cut (lengths m k d) w) b
-  in-marks e = ap (λ (l : List (List ℕ)). named (cut (lengths m k d) w) l) e
+  in-workU32 : {a b : List (List ℕ)} → a ≡ b → named (cut (lengths m k d) w) a ≡ named (cut (lengths m k d) w) b
+  in-workU32 e = ap (λ (l : List (List ℕ)). named (cut (lengths m k d) w) l) e
 
   -- one element stored
   pub set-scale : (i : ℕ) (x : Float) → i < m → stateIn m k d (set w (scaleAt m k d + i) x) u ≡ withScale (set (stateIn m k d w u .scale) i x) (stateIn m k d w u)
@@ -126,11 +126,11 @@ module _ (m k d : ℕ) (w : List Float) (u : List ℕ) where
 
   pub set-labels : (i x : ℕ) → i < m → stateIn m k d w (set u i x) ≡ withLabels (set (stateIn m k d w u .labels) i x) (stateIn m k d w u)
   unfolding stateIn
-  set-labels i x h = in-marks (cut-set (markLengths m k) u 0 i i x (omega arith) h)
+  set-labels i x h = in-workU32 (cut-set (markLengths m k) u 0 i i x (omega arith) h)
 
   pub set-counts-state : (i x : ℕ) → i < k → stateIn m k d w (set u (m + i) x) ≡ stateIn m k d w u
   unfolding stateIn
-  set-counts-state i x h = in-marks (cut-set (markLengths m k) u 1 (m + i) i x (omega arith) h)
+  set-counts-state i x h = in-workU32 (cut-set (markLengths m k) u 1 (m + i) i x (omega arith) h)
 
   -- one element read
   pub get-scale : (i : ℕ) (z : Float) → i < m → getD w (scaleAt m k d + i) z ≡ getD (stateIn m k d w u .scale) i z
@@ -223,11 +223,11 @@ module _ (m k d : ℕ) (w : List Float) (u : List ℕ) where
 
   pub put-labels-all : (v : List ℕ) → length v ≡ m → m + k ≤ length u → stateIn m k d w (putPart u 0 m v) ≡ withLabels v (stateIn m k d w u)
   unfolding stateIn
-  put-labels-all v e g = in-marks (cut-put-whole (markLengths m k) u 0 0 m v refl refl e (omega arith))
+  put-labels-all v e g = in-workU32 (cut-put-whole (markLengths m k) u 0 0 m v refl refl e (omega arith))
 
   pub put-counts-all-state : (v : List ℕ) → length v ≡ k → m + k ≤ length u → stateIn m k d w (putPart u m k v) ≡ stateIn m k d w u
   unfolding stateIn
-  put-counts-all-state v e g = in-marks (cut-put-whole (markLengths m k) u 1 m k v (omega arith) refl e (omega arith))
+  put-counts-all-state v e g = in-workU32 (cut-put-whole (markLengths m k) u 1 m k v (omega arith) refl e (omega arith))
 
   -- the lengths of the fields
   pub length-centers : total m k d ≤ length w → length (stateIn m k d w u .centers) ≡ k * d

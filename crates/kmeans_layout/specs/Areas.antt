@@ -61,10 +61,10 @@ abbrev pub driftAt : ℕ → ℕ → ℕ → ℕ
 driftAt m k d = k * d + k * d + m + m + m + m
 
 -- the lengths of the two areas and of the coordinates: m leaves of d coordinates, k groups
-pub record Sized (work marks coords m k d : ℕ) : Type 0 where
+pub record Sized (work workU32 coords m k d : ℕ) : Type 0 where
   pub sizes : Sizes m k d
   pub work-long : total m k d ≤ work
-  pub marks-long : m + k ≤ marks
+  pub workU32-long : m + k ≤ workU32
   pub coords-long : coords ≡ m * d
 
 -- leaf i and its row; group c and its row
