@@ -23,12 +23,12 @@ one-of x n w h p = by-inside x n w h (p .whole) (p .power) ∙ by-inner x (insid
 
 pub all-inside : (x : Four) → allInside x ≡ true → AllInside x
 all-inside x k =
-    let t = each (inside (x .a)) (inside (x .b)) (inside (x .c)) (inside (x .e)) k in
+    let t = each (inside (x .x0)) (inside (x .x1)) (inside (x .x2)) (inside (x .x3)) k in
     record {
-      at-a = of-true (inside (x .a)) (t .first);
-      at-b = of-true (inside (x .b)) (t .second);
-      at-c = of-true (inside (x .c)) (t .third);
-      at-e = of-true (inside (x .e)) (t .last);
+      at-0 = of-true (inside (x .x0)) (t .first);
+      at-1 = of-true (inside (x .x1)) (t .second);
+      at-2 = of-true (inside (x .x2)) (t .third);
+      at-3 = of-true (inside (x .x3)) (t .last);
     }
 
 -- the same of two fours
@@ -41,12 +41,12 @@ both-inside x y false q e f h = absurd (true≢false (sym h))
 abbrev pub under : Float → Bool
 under x = lt x (neg (number 745))
 
-pub all-below : (x : Four) → under (x .a) && under (x .b) && under (x .c) && under (x .e) ≡ true
-    → _≡_ {A = Four} (record { a = plusZero; b = plusZero; c = plusZero; e = plusZero }) (exponentials x)
+pub all-below : (x : Four) → under (x .x0) && under (x .x1) && under (x .x2) && under (x .x3) ≡ true
+    → _≡_ {A = Four} (record { x0 = plusZero; x1 = plusZero; x2 = plusZero; x3 = plusZero }) (exponentials x)
 all-below x k =
-    let t = each (under (x .a)) (under (x .b)) (under (x .c)) (under (x .e)) k in
+    let t = each (under (x .x0)) (under (x .x1)) (under (x .x2)) (under (x .x3)) k in
     four-of expOf x plusZero plusZero plusZero plusZero
-    (by-low (x .a) (t .first)) (by-low (x .b) (t .second)) (by-low (x .c) (t .third)) (by-low (x .e) (t .last))
+    (by-low (x .x0) (t .first)) (by-low (x .x1) (t .second)) (by-low (x .x2) (t .third)) (by-low (x .x3) (t .last))
 
 -- ---- the series of each of the four
 
@@ -68,10 +68,10 @@ series-end r p j e = rw e
 four-times : (x n w : Four) → AllInside x → PowersOf x n w → timesFour (seriesFour 13 (leftFour x n) onesFour) w ≡ exponentials x
 four-times x n w h p =
     four-of expOf x _ _ _ _
-    (one-of (x .a) (n .a) (w .a) (h .at-a) (p .at-a))
-    (one-of (x .b) (n .b) (w .b) (h .at-b) (p .at-b))
-    (one-of (x .c) (n .c) (w .c) (h .at-c) (p .at-c))
-    (one-of (x .e) (n .e) (w .e) (h .at-e) (p .at-e))
+    (one-of (x .x0) (n .x0) (w .x0) (h .at-0) (p .at-0))
+    (one-of (x .x1) (n .x1) (w .x1) (h .at-1) (p .at-1))
+    (one-of (x .x2) (n .x2) (w .x2) (h .at-2) (p .at-2))
+    (one-of (x .x3) (n .x3) (w .x3) (h .at-3) (p .at-3))
 
 -- what is left of each x, its series, and that times the power
 pub four-done : (x n w r p v : Four) → AllInside x → PowersOf x n w → r ≡ leftFour x n → p ≡ seriesFour 13 r onesFour →

@@ -56,36 +56,41 @@ stepped r p j = add binary64 (f64 0x3FF0000000000000) (div binary64 (mul binary6
 abbrev pub steppedFour : Four → Four → Float → Four
 steppedFour r p j =
     record {
-      a = stepped (r .a) (p .a) j;
-      b = stepped (r .b) (p .b) j;
-      c = stepped (r .c) (p .c) j;
-      e = stepped (r .e) (p .e) j;
+      x0 = stepped (r .x0) (p .x0) j;
+      x1 = stepped (r .x1) (p .x1) j;
+      x2 = stepped (r .x2) (p .x2) j;
+      x3 = stepped (r .x3) (p .x3) j;
     }
 
 abbrev pub leftFour : Four → Four → Four
 leftFour x n =
-    record { a = leftOf (x .a) (n .a); b = leftOf (x .b) (n .b); c = leftOf (x .c) (n .c); e = leftOf (x .e) (n .e) }
+    record {
+      x0 = leftOf (x .x0) (n .x0);
+      x1 = leftOf (x .x1) (n .x1);
+      x2 = leftOf (x .x2) (n .x2);
+      x3 = leftOf (x .x3) (n .x3);
+    }
 
 -- the series of each from p, with j steps left; p begins at 1
 abbrev pub seriesFour : ℕ → Four → Four → Four
 seriesFour j r p =
     record {
-      a = expFrom j (r .a) (p .a);
-      b = expFrom j (r .b) (p .b);
-      c = expFrom j (r .c) (p .c);
-      e = expFrom j (r .e) (p .e);
+      x0 = expFrom j (r .x0) (p .x0);
+      x1 = expFrom j (r .x1) (p .x1);
+      x2 = expFrom j (r .x2) (p .x2);
+      x3 = expFrom j (r .x3) (p .x3);
     }
 
 abbrev pub onesFour : Four
-onesFour = record { a = number 1; b = number 1; c = number 1; e = number 1 }
+onesFour = record { x0 = number 1; x1 = number 1; x2 = number 1; x3 = number 1 }
 
 abbrev pub timesFour : Four → Four → Four
 timesFour p w =
     record {
-      a = mul binary64 (p .a) (w .a);
-      b = mul binary64 (p .b) (w .b);
-      c = mul binary64 (p .c) (w .c);
-      e = mul binary64 (p .e) (w .e);
+      x0 = mul binary64 (p .x0) (w .x0);
+      x1 = mul binary64 (p .x1) (w .x1);
+      x2 = mul binary64 (p .x2) (w .x2);
+      x3 = mul binary64 (p .x3) (w .x3);
     }
 
 -- n is x's whole number as a float, and w is 2^n
@@ -94,16 +99,16 @@ pub record OnePower (x n w : Float) : Type 0 where
   pub power : w ≡ fin false 1 (floorOf (turnsOf x))
 
 pub record PowersOf (x n w : Four) : Type 0 where
-  pub at-a : OnePower (x .a) (n .a) (w .a)
-  pub at-b : OnePower (x .b) (n .b) (w .b)
-  pub at-c : OnePower (x .c) (n .c) (w .c)
-  pub at-e : OnePower (x .e) (n .e) (w .e)
+  pub at-0 : OnePower (x .x0) (n .x0) (w .x0)
+  pub at-1 : OnePower (x .x1) (n .x1) (w .x1)
+  pub at-2 : OnePower (x .x2) (n .x2) (w .x2)
+  pub at-3 : OnePower (x .x3) (n .x3) (w .x3)
 
 abbrev pub allInside : Four → Bool
-allInside x = inside (x .a) && inside (x .b) && inside (x .c) && inside (x .e)
+allInside x = inside (x .x0) && inside (x .x1) && inside (x .x2) && inside (x .x3)
 
 pub record AllInside (x : Four) : Type 0 where
-  pub at-a : T (inside (x .a))
-  pub at-b : T (inside (x .b))
-  pub at-c : T (inside (x .c))
-  pub at-e : T (inside (x .e))
+  pub at-0 : T (inside (x .x0))
+  pub at-1 : T (inside (x .x1))
+  pub at-2 : T (inside (x .x2))
+  pub at-3 : T (inside (x .x3))

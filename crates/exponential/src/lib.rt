@@ -116,10 +116,10 @@ fn step4(r: float::Four, p: float::Four, j: f64) -> float::Four
     ensures { λ q. ⌜ q ≡ steppedFour r p j ⌝ }
 {
     float::Four {
-        a: 1.0 + (r.a * p.a) / j,
-        b: 1.0 + (r.b * p.b) / j,
-        c: 1.0 + (r.c * p.c) / j,
-        e: 1.0 + (r.e * p.e) / j,
+        x0: 1.0 + (r.x0 * p.x0) / j,
+        x1: 1.0 + (r.x1 * p.x1) / j,
+        x2: 1.0 + (r.x2 * p.x2) / j,
+        x3: 1.0 + (r.x3 * p.x3) / j,
     }
 }
 
@@ -128,10 +128,10 @@ fn left4(x: float::Four, n: float::Four) -> float::Four
     ensures { λ q. ⌜ q ≡ leftFour x n ⌝ }
 {
     float::Four {
-        a: (x.a - n.a * 0.6931471803691238) - n.a * 1.9082149292705877e-10,
-        b: (x.b - n.b * 0.6931471803691238) - n.b * 1.9082149292705877e-10,
-        c: (x.c - n.c * 0.6931471803691238) - n.c * 1.9082149292705877e-10,
-        e: (x.e - n.e * 0.6931471803691238) - n.e * 1.9082149292705877e-10,
+        x0: (x.x0 - n.x0 * 0.6931471803691238) - n.x0 * 1.9082149292705877e-10,
+        x1: (x.x1 - n.x1 * 0.6931471803691238) - n.x1 * 1.9082149292705877e-10,
+        x2: (x.x2 - n.x2 * 0.6931471803691238) - n.x2 * 1.9082149292705877e-10,
+        x3: (x.x3 - n.x3 * 0.6931471803691238) - n.x3 * 1.9082149292705877e-10,
     }
 }
 
@@ -140,10 +140,10 @@ fn series4(r: float::Four) -> float::Four
     ensures { λ q. ⌜ q ≡ seriesFour 13 r onesFour ⌝ }
 {
     let mut p = float::Four {
-        a: 1.0,
-        b: 1.0,
-        c: 1.0,
-        e: 1.0,
+        x0: 1.0,
+        x1: 1.0,
+        x2: 1.0,
+        x3: 1.0,
     };
     let mut j: u64 = 13;
     while 0 < j {
@@ -158,10 +158,10 @@ fn times4(p: float::Four, w: float::Four) -> float::Four
     ensures { λ q. ⌜ q ≡ timesFour p w ⌝ }
 {
     float::Four {
-        a: p.a * w.a,
-        b: p.b * w.b,
-        c: p.c * w.c,
-        e: p.e * w.e,
+        x0: p.x0 * w.x0,
+        x1: p.x1 * w.x1,
+        x2: p.x2 * w.x2,
+        x3: p.x3 * w.x3,
     }
 }
 
@@ -176,21 +176,21 @@ fn powers4(x: float::Four) -> Powers
     requires { ⌜ AllInside x ⌝ }
     ensures { λ r. ⌜ PowersOf x (r .n) (r .w) ⌝ }
 {
-    let i = power(x.a);
-    let j = power(x.b);
-    let k = power(x.c);
-    let l = power(x.e);
+    let i = power(x.x0);
+    let j = power(x.x1);
+    let k = power(x.x2);
+    let l = power(x.x3);
     let n = float::Four {
-        a: i.n,
-        b: j.n,
-        c: k.n,
-        e: l.n,
+        x0: i.n,
+        x1: j.n,
+        x2: k.n,
+        x3: l.n,
     };
     let w = float::Four {
-        a: i.w,
-        b: j.w,
-        c: k.w,
-        e: l.w,
+        x0: i.w,
+        x1: j.w,
+        x2: k.w,
+        x3: l.w,
     };
     Powers { n, w }
 }
@@ -210,29 +210,29 @@ fn inner_exp4(x: float::Four) -> float::Four
 fn all_inside(x: float::Four) -> bool
     ensures { λ r. ⌜ r ≡ allInside x ⌝ }
 {
-    is_inside(x.a) & is_inside(x.b) & is_inside(x.c) & is_inside(x.e)
+    is_inside(x.x0) & is_inside(x.x1) & is_inside(x.x2) & is_inside(x.x3)
 }
 
 // Four exponentials: zeros where all are below -745, side by side where all are from -708 to 709, else one by one.
 fn exp4(x: float::Four) -> float::Four
     ensures { λ r. ⌜ r ≡ exponentials x ⌝ }
 {
-    if (x.a < -745.0) & (x.b < -745.0) & (x.c < -745.0) & (x.e < -745.0) {
+    if (x.x0 < -745.0) & (x.x1 < -745.0) & (x.x2 < -745.0) & (x.x3 < -745.0) {
         return float::Four {
-            a: 0.0,
-            b: 0.0,
-            c: 0.0,
-            e: 0.0,
+            x0: 0.0,
+            x1: 0.0,
+            x2: 0.0,
+            x3: 0.0,
         };
     }
     if all_inside(x) {
         return inner_exp4(x);
     }
     float::Four {
-        a: exp(x.a),
-        b: exp(x.b),
-        c: exp(x.c),
-        e: exp(x.e),
+        x0: exp(x.x0),
+        x1: exp(x.x1),
+        x2: exp(x.x2),
+        x3: exp(x.x3),
     }
 }
 
@@ -247,10 +247,10 @@ fn series8(r: float::Four, t: float::Four) -> Eight
     ensures { λ q. ⌜ q ≡ eightOf (seriesFour 13 r onesFour) (seriesFour 13 t onesFour) ⌝ }
 {
     let mut p = float::Four {
-        a: 1.0,
-        b: 1.0,
-        c: 1.0,
-        e: 1.0,
+        x0: 1.0,
+        x1: 1.0,
+        x2: 1.0,
+        x3: 1.0,
     };
     let mut q = p;
     let mut j: u64 = 13;

@@ -62,10 +62,10 @@ pub fn bits_of(x: f64) -> u64
 
 // Four floats, for what is computed of four at once.
 pub struct Four {
-    pub a: f64,
-    pub b: f64,
-    pub c: f64,
-    pub e: f64,
+    pub x0: f64,
+    pub x1: f64,
+    pub x2: f64,
+    pub x3: f64,
 }
 
 // 2^(n - 1023): the float whose exponent's field is n.

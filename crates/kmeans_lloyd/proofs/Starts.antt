@@ -63,23 +63,23 @@ module _ (m k d : ℕ) (coords : List Float) (u : List ℕ) (s : State) (ls : le
   pub norms-four : (w : List Float) (scale i : ℕ) (f : Four) → scale ≡ scaleAt m k d → i + 4 ≤ m → f ≡ fourNorms coords d i
       → stateIn m k d w u ≡ normed coords d i s
       → let at = scale + i in
-      stateIn m k d (set (set (set (set w at (f .a)) (at + 1) (f .b)) (at + 2) (f .c)) (at + 3) (f .e)) u ≡ normed coords d (i + 4) s
+      stateIn m k d (set (set (set (set w at (f .x0)) (at + 1) (f .x1)) (at + 2) (f .x2)) (at + 3) (f .x3)) u ≡ normed coords d (i + 4) s
   norms-four w scale i f es h e g =
       let at = scale + i in
       let p₂ : i + 1 + 1 ≡ i + 2 = omega arith in
       let p₃ : i + 2 + 1 ≡ i + 3 = omega arith in
       let p₄ : i + 3 + 1 ≡ i + 4 = omega arith in
-      let w₁ = set w at (f .a) in
-      let w₂ = set w₁ (at + 1) (f .b) in
-      let w₃ = set w₂ (at + 2) (f .c) in
-      let t₁ = norms-next w i at (f .a) (omega arith) (omega (arith, es)) (ap (λ (v : Four). v .a) e) g in
+      let w₁ = set w at (f .x0) in
+      let w₂ = set w₁ (at + 1) (f .x1) in
+      let w₃ = set w₂ (at + 2) (f .x2) in
+      let t₁ = norms-next w i at (f .x0) (omega arith) (omega (arith, es)) (ap (λ (v : Four). v .x0) e) g in
       let t₂ =
-      norms-next w₁ (i + 1) (at + 1) (f .b) (omega arith) (omega (arith, es)) (ap (λ (v : Four). v .b) e) t₁
+      norms-next w₁ (i + 1) (at + 1) (f .x1) (omega arith) (omega (arith, es)) (ap (λ (v : Four). v .x1) e) t₁
       ∙ ap (λ (n : ℕ). normed coords d n s) p₂ in
       let t₃ =
-      norms-next w₂ (i + 2) (at + 2) (f .c) (omega arith) (omega (arith, es)) (ap (λ (v : Four). v .c) e) t₂
+      norms-next w₂ (i + 2) (at + 2) (f .x2) (omega arith) (omega (arith, es)) (ap (λ (v : Four). v .x2) e) t₂
       ∙ ap (λ (n : ℕ). normed coords d n s) p₃ in
-      norms-next w₃ (i + 3) (at + 3) (f .e) (omega arith) (omega (arith, es)) (ap (λ (v : Four). v .e) e) t₃
+      norms-next w₃ (i + 3) (at + 3) (f .x3) (omega arith) (omega (arith, es)) (ap (λ (v : Four). v .x3) e) t₃
       ∙ ap (λ (n : ℕ). normed coords d n s) p₄
 
   pub norms-end : (w : List Float) (i : ℕ) → i ≡ m → stateIn m k d w u ≡ normed coords d i s

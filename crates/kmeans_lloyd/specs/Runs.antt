@@ -24,10 +24,10 @@ use Rattle.kmeans_layout.specs.Areas.{stateIn, sumsIn, Sized, Labelled}
 abbrev pub fourNorms : (coords : List Float) (d i : ℕ) → Four
 fourNorms coords d i =
     record {
-      a = normOf (rowOf coords d i);
-      b = normOf (rowOf coords d (i + 1));
-      c = normOf (rowOf coords d (i + 2));
-      e = normOf (rowOf coords d (i + 3));
+      x0 = normOf (rowOf coords d i);
+      x1 = normOf (rowOf coords d (i + 1));
+      x2 = normOf (rowOf coords d (i + 2));
+      x3 = normOf (rowOf coords d (i + 3));
     }
 
 -- ---- the rounds

@@ -96,10 +96,10 @@ fn four_norms(coords: &[f64], i: usize, d: usize) -> float::Four
     let z = &coords[r..s];
     let w = &coords[s..s + d];
     root::root4(float::Four {
-        a: vector::dot(x, x),
-        b: vector::dot(y, y),
-        c: vector::dot(z, z),
-        e: vector::dot(w, w),
+        x0: vector::dot(x, x),
+        x1: vector::dot(y, y),
+        x2: vector::dot(z, z),
+        x3: vector::dot(w, w),
     })
 }
 
@@ -114,10 +114,10 @@ fn leaf_norms(work: &mut [f64], coords: &[f64], m: usize, k: usize, d: usize)
     while 4 <= m - i {
         let n = four_norms(coords, i, d);
         let to = scale + i;
-        work[to] = n.a;
-        work[to + 1] = n.b;
-        work[to + 2] = n.c;
-        work[to + 3] = n.e;
+        work[to] = n.x0;
+        work[to + 1] = n.x1;
+        work[to + 2] = n.x2;
+        work[to + 3] = n.x3;
         i += 4;
     }
     while i < m {

@@ -38,17 +38,17 @@ module _ (x centers : List Float) (d : ℕ) where
       → b' ≡ bestTo x centers d (c + 4 - 1)
   best-three c b b' f e dots g =
       let p : c + 3 ≡ c + 4 - 1 = omega arith in
-      let b₁ = betterOf b (c + 1) (f .b) in
-      let b₂ = betterOf b₁ (c + 2) (f .c) in
-      let t₁ = best-next c (c + 1) b b₁ (f .b) refl e (ap (λ (v : Four). v .b) dots) refl in
-      let t₂ = best-next (c + 1) (c + 2) b₁ b₂ (f .c) (omega arith) t₁ (ap (λ (v : Four). v .c) dots) refl in
-      best-next (c + 2) (c + 3) b₂ b' (f .e) (omega arith) t₂ (ap (λ (v : Four). v .e) dots) g ∙ ap (bestTo x centers d) p
+      let b₁ = betterOf b (c + 1) (f .x1) in
+      let b₂ = betterOf b₁ (c + 2) (f .x2) in
+      let t₁ = best-next c (c + 1) b b₁ (f .x1) refl e (ap (λ (v : Four). v .x1) dots) refl in
+      let t₂ = best-next (c + 1) (c + 2) b₁ b₂ (f .x2) (omega arith) t₁ (ap (λ (v : Four). v .x2) dots) refl in
+      best-next (c + 2) (c + 3) b₂ b' (f .x3) (omega arith) t₂ (ap (λ (v : Four). v .x3) dots) g ∙ ap (bestTo x centers d) p
 
   -- centres c to c + 3, whose dots are f
   pub best-four : (c : ℕ) (b b₁ b' : Best) (f : Four) → 0 < c → b ≡ bestTo x centers d (c - 1) → f ≡ rowDots x centers d c
-      → b₁ ≡ betterOf b c (f .a) → b' ≡ withThree b₁ c f → b' ≡ bestTo x centers d (c + 4 - 1)
+      → b₁ ≡ betterOf b c (f .x0) → b' ≡ withThree b₁ c f → b' ≡ bestTo x centers d (c + 4 - 1)
   best-four c b b₁ b' f h e dots g₁ g =
-      best-three c b₁ b' f (best-next (c - 1) c b b₁ (f .a) (omega arith) e (ap (λ (v : Four). v .a) dots) g₁) dots g
+      best-three c b₁ b' f (best-next (c - 1) c b b₁ (f .x0) (omega arith) e (ap (λ (v : Four). v .x0) dots) g₁) dots g
 
   -- the best of the centres 0 to c is one of them
   pub best-below : (c n : ℕ) → c < n → bestTo x centers d c .index < n

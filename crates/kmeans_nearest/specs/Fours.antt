@@ -16,7 +16,7 @@ rowDots x centers d c =
 
 -- with centres c + 1 to c + 3, whose dots are the last three of f
 abbrev pub withThree : Best → ℕ → Four → Best
-withThree b c f = betterOf (betterOf (betterOf b (c + 1) (f .b)) (c + 2) (f .c)) (c + 3) (f .e)
+withThree b c f = betterOf (betterOf (betterOf b (c + 1) (f .x1)) (c + 2) (f .x2)) (c + 3) (f .x3)
 
 -- what the search for the best asks: k centres of d coordinates, at most 64 and 16,384 numbers
 pub record Centers (numbers k d : ℕ) : Type 0 where

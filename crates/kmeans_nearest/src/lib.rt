@@ -68,9 +68,9 @@ fn with_three(b: Best, c: usize, f: float::Four) -> Best
     requires { ⌜ c ≤ 64 ⌝ }
     ensures { λ r. ⌜ r ≡ withThree b c f ⌝ }
 {
-    let b = better(b, c + 1, f.b);
-    let b = better(b, c + 2, f.c);
-    better(b, c + 3, f.e)
+    let b = better(b, c + 1, f.x1);
+    let b = better(b, c + 2, f.x2);
+    better(b, c + 3, f.x3)
 }
 
 // The best of k centres from the best of those before centre c: by fours, then singly.
@@ -83,7 +83,7 @@ fn best_from(x: &[f64], centers: &[f64], start: Best, at: usize, k: usize, d: us
     let mut c = at;
     while 4 <= k - c {
         let f = row_dots(x, centers, c, d);
-        b = better(b, c, f.a);
+        b = better(b, c, f.x0);
         b = with_three(b, c, f);
         c += 4;
     }
@@ -111,7 +111,7 @@ pub fn best_of(x: &[f64], centers: &[f64], k: usize, d: usize) -> Best
     let f = row_dots(x, centers, 0, d);
     let b = Best {
         index: 0,
-        dot: f.a,
+        dot: f.x0,
         second: -1.0 / 0.0,
     };
     best_from(x, centers, with_three(b, 0, f), 4, k, d)

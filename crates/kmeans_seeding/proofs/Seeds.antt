@@ -66,10 +66,10 @@ cosine-distance-done m k d w coords u c i h p r e f = f ∙ rw (e, row-cut coord
 
 -- four of them, the centre's row being the first of each dot
 pub four-done : (m k d : ℕ) (w coords : List Float) (u : List ℕ) (c i : ℕ) → c < k → (f : Four) (p q r t : Float)
-    → f ≡ rowDots (take (c * d + d - c * d) (drop (c * d) w)) coords d i → p ≡ maxOf (sub binary64 (number 1) (f .a)) plusZero
-    → q ≡ maxOf (sub binary64 (number 1) (f .b)) plusZero → r ≡ maxOf (sub binary64 (number 1) (f .c)) plusZero
-    → t ≡ maxOf (sub binary64 (number 1) (f .e)) plusZero
-    → _≡_ {A = Four} (record { a = p; b = q; c = r; e = t }) (fourCosineDistances coords d (rowOf (stateIn m k d w u .centers) d c) i)
+    → f ≡ rowDots (take (c * d + d - c * d) (drop (c * d) w)) coords d i → p ≡ maxOf (sub binary64 (number 1) (f .x0)) plusZero
+    → q ≡ maxOf (sub binary64 (number 1) (f .x1)) plusZero → r ≡ maxOf (sub binary64 (number 1) (f .x2)) plusZero
+    → t ≡ maxOf (sub binary64 (number 1) (f .x3)) plusZero
+    → _≡_ {A = Four} (record { x0 = p; x1 = q; x2 = r; x3 = t }) (fourCosineDistances coords d (rowOf (stateIn m k d w u .centers) d c) i)
 four-done m k d w coords u c i h f p q r t e ep eq er et =
     let row = rowOf (stateIn m k d w u .centers) d c in
     let g : take (c * d + d - c * d) (drop (c * d) w) ≡ row = row-cut w d c ∙ row-centers m k d w u c h in
@@ -78,10 +78,10 @@ four-done m k d w coords u c i h f p q r t e ep eq er et =
     → x ≡ cosineDistance (rowOf coords d n) row =
     λ n x y ex ey. ex ∙ rw (ey, dot-comm minusZero row (rowOf coords d n)) in
     rw (
-      turned i p (f .a) ep (ap (λ (v : Four). v .a) dots),
-      turned (i + 1) q (f .b) eq (ap (λ (v : Four). v .b) dots),
-      turned (i + 2) r (f .c) er (ap (λ (v : Four). v .c) dots),
-      turned (i + 3) t (f .e) et (ap (λ (v : Four). v .e) dots),
+      turned i p (f .x0) ep (ap (λ (v : Four). v .x0) dots),
+      turned (i + 1) q (f .x1) eq (ap (λ (v : Four). v .x1) dots),
+      turned (i + 2) r (f .x2) er (ap (λ (v : Four). v .x2) dots),
+      turned (i + 3) t (f .x3) et (ap (λ (v : Four). v .x3) dots),
     )
 
 -- the distances lowered where a further centre is nearer
@@ -149,15 +149,15 @@ module _ (m k d : ℕ) (coords : List Float) (u : List ℕ) (c : ℕ) (s : State
       let p₂ : i + 1 + 1 ≡ i + 2 = omega arith in
       let p₃ : i + 2 + 1 ≡ i + 3 = omega arith in
       let p₄ : i + 3 + 1 ≡ i + 4 = omega arith in
-      let w₁ = lowerAt w at (f .a) in
-      let w₂ = lowerAt w₁ (at + 1) (f .b) in
-      let w₃ = lowerAt w₂ (at + 2) (f .c) in
-      let t₁ = lowering-next w i at (f .a) (omega arith) (omega arith) (ap (λ (v : Four). v .a) e') g in
-      let t₂ = lowering-next w₁ (i + 1) (at + 1) (f .b) (omega arith) (omega arith) (ap (λ (v : Four). v .b) e') t₁
+      let w₁ = lowerAt w at (f .x0) in
+      let w₂ = lowerAt w₁ (at + 1) (f .x1) in
+      let w₃ = lowerAt w₂ (at + 2) (f .x2) in
+      let t₁ = lowering-next w i at (f .x0) (omega arith) (omega arith) (ap (λ (v : Four). v .x0) e') g in
+      let t₂ = lowering-next w₁ (i + 1) (at + 1) (f .x1) (omega arith) (omega arith) (ap (λ (v : Four). v .x1) e') t₁
       ∙ ap (λ (n : ℕ). lowering coords d c n s) p₂ in
-      let t₃ = lowering-next w₂ (i + 2) (at + 2) (f .c) (omega arith) (omega arith) (ap (λ (v : Four). v .c) e') t₂
+      let t₃ = lowering-next w₂ (i + 2) (at + 2) (f .x2) (omega arith) (omega arith) (ap (λ (v : Four). v .x2) e') t₂
       ∙ ap (λ (n : ℕ). lowering coords d c n s) p₃ in
-      lowering-next w₃ (i + 3) (at + 3) (f .e) (omega arith) (omega arith) (ap (λ (v : Four). v .e) e') t₃
+      lowering-next w₃ (i + 3) (at + 3) (f .x3) (omega arith) (omega arith) (ap (λ (v : Four). v .x3) e') t₃
       ∙ ap (λ (n : ℕ). lowering coords d c n s) p₄
 
   pub lowering-end : (w : List Float) (i : ℕ) → i ≡ m → stateIn m k d w u ≡ lowering coords d c i s

@@ -19,10 +19,10 @@ use Rattle.kmeans_layout.specs.Areas.{total}
 abbrev pub fourCosineDistances : List Float → ℕ → List Float → ℕ → Four
 fourCosineDistances coords d c i =
     record {
-      a = cosineDistance (rowOf coords d i) c;
-      b = cosineDistance (rowOf coords d (i + 1)) c;
-      c = cosineDistance (rowOf coords d (i + 2)) c;
-      e = cosineDistance (rowOf coords d (i + 3)) c;
+      x0 = cosineDistance (rowOf coords d i) c;
+      x1 = cosineDistance (rowOf coords d (i + 1)) c;
+      x2 = cosineDistance (rowOf coords d (i + 2)) c;
+      x3 = cosineDistance (rowOf coords d (i + 3)) c;
     }
 
 -- the element at a place lowered where v is below it, and four from it on
@@ -30,7 +30,7 @@ unfoldable pub lowerAt : List Float → ℕ → Float → List Float
 lowerAt w at v = let held = getD w at nan in set w at (cond (lt v held) v held)
 
 abbrev pub lowerFour : List Float → ℕ → Four → List Float
-lowerFour w at f = lowerAt (lowerAt (lowerAt (lowerAt w at (f .a)) (at + 1) (f .b)) (at + 2) (f .c)) (at + 3) (f .e)
+lowerFour w at f = lowerAt (lowerAt (lowerAt (lowerAt w at (f .x0)) (at + 1) (f .x1)) (at + 2) (f .x2)) (at + 3) (f .x3)
 
 -- ---- the state with other distances, with other chances, and with one centre more
 unfoldable pub putLow : List Float → State → State

@@ -54,10 +54,10 @@ fn four_cosine_distances(
     let row = c * d;
     let f = kmeans_nearest::row_dots(&work[row..row + d], coords, i, d);
     float::Four {
-        a: float::max(1.0 - f.a, 0.0),
-        b: float::max(1.0 - f.b, 0.0),
-        c: float::max(1.0 - f.c, 0.0),
-        e: float::max(1.0 - f.e, 0.0),
+        x0: float::max(1.0 - f.x0, 0.0),
+        x1: float::max(1.0 - f.x1, 0.0),
+        x2: float::max(1.0 - f.x2, 0.0),
+        x3: float::max(1.0 - f.x3, 0.0),
     }
 }
 
@@ -81,10 +81,10 @@ fn lower_four(work: &mut [f64], at: usize, f: float::Four)
     requires { ⌜ at + 4 ≤ length (now work) ⌝ }
     ensures { λ _. ⌜ now (work .exit) ≡ lowerFour (now (work .entry)) at f ⌝ }
 {
-    lower_at(work, at, f.a);
-    lower_at(work, at + 1, f.b);
-    lower_at(work, at + 2, f.c);
-    lower_at(work, at + 3, f.e);
+    lower_at(work, at, f.x0);
+    lower_at(work, at + 1, f.x1);
+    lower_at(work, at + 2, f.x2);
+    lower_at(work, at + 3, f.x3);
 }
 
 // The distance of each leaf lowered where centre c is nearer: by fours, then singly.

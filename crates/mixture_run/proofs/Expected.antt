@@ -63,17 +63,17 @@ pub four-done : (m k d : ℕ) (w coords : List Float) (i c : ℕ) (f : Four) (co
     (fourIn d (partsIn m k d w) (rowOf coords d i) c)
 four-done m k d w coords i c f coefficient kappa b q h is =
     let one = log-density-done m k d w coords i in
-    let at-a = one c (f .a) coefficient kappa (c * d) d b q refl refl (omega arith) (ap (λ (g : Four). g .a) is) in
-    let at-b =
-    one (c + 1) (f .b) (coefficient + 1) (kappa + 1) ((c + 1) * d) d (omega arith) (omega arith) refl refl (omega arith)
-    (ap (λ (g : Four). g .b) is) in
-    let at-c =
-    one (c + 2) (f .c) (coefficient + 2) (kappa + 2) ((c + 2) * d) d (omega arith) (omega arith) refl refl (omega arith)
-    (ap (λ (g : Four). g .c) is) in
-    let at-e =
-    one (c + 3) (f .e) (coefficient + 3) (kappa + 3) ((c + 3) * d) d (omega arith) (omega arith) refl refl (omega arith)
-    (ap (λ (g : Four). g .e) is) in
-    rw (at-a, at-b, at-c, at-e)
+    let at-0 = one c (f .x0) coefficient kappa (c * d) d b q refl refl (omega arith) (ap (λ (g : Four). g .x0) is) in
+    let at-1 =
+    one (c + 1) (f .x1) (coefficient + 1) (kappa + 1) ((c + 1) * d) d (omega arith) (omega arith) refl refl (omega arith)
+    (ap (λ (g : Four). g .x1) is) in
+    let at-2 =
+    one (c + 2) (f .x2) (coefficient + 2) (kappa + 2) ((c + 2) * d) d (omega arith) (omega arith) refl refl (omega arith)
+    (ap (λ (g : Four). g .x2) is) in
+    let at-3 =
+    one (c + 3) (f .x3) (coefficient + 3) (kappa + 3) ((c + 3) * d) d (omega arith) (omega arith) refl refl (omega arith)
+    (ap (λ (g : Four). g .x3) is) in
+    rw (at-0, at-1, at-2, at-3)
 
 module _ (m k d : ℕ) (w₀ coords : List Float) (i : ℕ) where
   -- the first n, where the responsibilities will stand
@@ -112,19 +112,19 @@ module _ (m k d : ℕ) (w₀ coords : List Float) (i : ℕ) where
     -- four stored
     pub row-four : (w w' : List Float) (at c : ℕ) (v : Four) → at ≡ responsibilitiesAt k d + i * k + c → c + 4 ≤ k
         → v ≡ fourIn d (partsIn m k d w) (rowOf coords d i) c
-        → w' ≡ set (set (set (set w at (v .a)) (at + 1) (v .b)) (at + 2) (v .c)) (at + 3) (v .e) → partsIn m k d w ≡ rowDone c
+        → w' ≡ set (set (set (set w at (v .x0)) (at + 1) (v .x1)) (at + 2) (v .x2)) (at + 3) (v .x3) → partsIn m k d w ≡ rowDone c
         → partsIn m k d w' ≡ rowDone (c + 4)
     row-four w w' at c v a h e s f =
         let is : v ≡ fourIn d (partsIn m k d w₀) (rowOf coords d i) c =
         e ∙ ap (λ (p : Parts). fourIn d p (rowOf coords d i) c) f in
-        let w₁ = set w at (v .a) in
-        let w₂ = set w₁ (at + 1) (v .b) in
-        let w₃ = set w₂ (at + 2) (v .c) in
-        let f₁ = row-store w at c (c + 1) (v .a) a refl (omega arith) (ap (λ (g : Four). g .a) is) f in
-        let f₂ = row-store w₁ (at + 1) (c + 1) (c + 2) (v .b) (omega arith) (omega arith) (omega arith) (ap (λ (g : Four). g .b) is) f₁ in
-        let f₃ = row-store w₂ (at + 2) (c + 2) (c + 3) (v .c) (omega arith) (omega arith) (omega arith) (ap (λ (g : Four). g .c) is) f₂ in
-        ap (partsIn m k d) s ∙ row-store w₃ (at + 3) (c + 3) (c + 4) (v .e) (omega arith) (omega arith) (omega arith)
-        (ap (λ (g : Four). g .e) is) f₃
+        let w₁ = set w at (v .x0) in
+        let w₂ = set w₁ (at + 1) (v .x1) in
+        let w₃ = set w₂ (at + 2) (v .x2) in
+        let f₁ = row-store w at c (c + 1) (v .x0) a refl (omega arith) (ap (λ (g : Four). g .x0) is) f in
+        let f₂ = row-store w₁ (at + 1) (c + 1) (c + 2) (v .x1) (omega arith) (omega arith) (omega arith) (ap (λ (g : Four). g .x1) is) f₁ in
+        let f₃ = row-store w₂ (at + 2) (c + 2) (c + 3) (v .x2) (omega arith) (omega arith) (omega arith) (ap (λ (g : Four). g .x2) is) f₂ in
+        ap (partsIn m k d) s ∙ row-store w₃ (at + 3) (c + 3) (c + 4) (v .x3) (omega arith) (omega arith) (omega arith)
+        (ap (λ (g : Four). g .x3) is) f₃
 
 -- where the first c₀ of an area as long stand in u, the first n of it stand in w
 abbrev pub RowFrom : (m k d : ℕ) (u coords : List Float) (i c₀ : ℕ) (w : List Float) (n : ℕ) → Type 0

@@ -127,17 +127,17 @@ module _ (w : List Float) where
   abbrev pub logDensitiesBy : (coefficient kappa : ℕ) → Four → Four
   logDensitiesBy coefficient kappa f =
       record {
-        a = logDensityBy coefficient kappa (f .a);
-        b = logDensityBy (coefficient + 1) (kappa + 1) (f .b);
-        c = logDensityBy (coefficient + 2) (kappa + 2) (f .c);
-        e = logDensityBy (coefficient + 3) (kappa + 3) (f .e);
+        x0 = logDensityBy coefficient kappa (f .x0);
+        x1 = logDensityBy (coefficient + 1) (kappa + 1) (f .x1);
+        x2 = logDensityBy (coefficient + 2) (kappa + 2) (f .x2);
+        x3 = logDensityBy (coefficient + 3) (kappa + 3) (f .x3);
       }
 
 -- the log densities of a leaf in four groups, from c on
 abbrev pub fourLogDensities : (d : ℕ) (coefficients : List Float) → Model → (x : List Float) (c : ℕ) → Four
 fourLogDensities d coefficients p x c =
     let at = logDensityAt d coefficients p x in
-    record { a = at c; b = at (c + 1); c = at (c + 2); e = at (c + 3) }
+    record { x0 = at c; x1 = at (c + 1); x2 = at (c + 2); x3 = at (c + 3) }
 
 -- the length of an area: m leaves of d coordinates, k groups
 pub record Area (work m k d : ℕ) : Type 0 where

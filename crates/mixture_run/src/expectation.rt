@@ -83,10 +83,10 @@ fn log_densities_by(work: &[f64], coefficient: usize, kappa: usize, f: float::Fo
     ensures { λ r. ⌜ r ≡ logDensitiesBy (now (work .entry)) coefficient kappa f ⌝ }
 {
     float::Four {
-        a: log_density_by(work, coefficient, kappa, f.a),
-        b: log_density_by(work, coefficient + 1, kappa + 1, f.b),
-        c: log_density_by(work, coefficient + 2, kappa + 2, f.c),
-        e: log_density_by(work, coefficient + 3, kappa + 3, f.e),
+        x0: log_density_by(work, coefficient, kappa, f.x0),
+        x1: log_density_by(work, coefficient + 1, kappa + 1, f.x1),
+        x2: log_density_by(work, coefficient + 2, kappa + 2, f.x2),
+        x3: log_density_by(work, coefficient + 3, kappa + 3, f.x3),
     }
 }
 
@@ -116,12 +116,12 @@ fn four_log_densities(
 fn put_four(work: &mut [f64], at: usize, f: float::Four)
     requires { ⌜ at + 4 ≤ length (now work) ⌝ }
     ensures { λ _. ⌜ (let w = now (work .entry) in
-        now (work .exit) ≡ set (set (set (set w at (f .a)) (at + 1) (f .b)) (at + 2) (f .c)) (at + 3) (f .e)) ⌝ }
+        now (work .exit) ≡ set (set (set (set w at (f .x0)) (at + 1) (f .x1)) (at + 2) (f .x2)) (at + 3) (f .x3)) ⌝ }
 {
-    work[at] = f.a;
-    work[at + 1] = f.b;
-    work[at + 2] = f.c;
-    work[at + 3] = f.e;
+    work[at] = f.x0;
+    work[at + 1] = f.x1;
+    work[at + 2] = f.x2;
+    work[at + 3] = f.x3;
 }
 
 // The log densities of leaf i stand where its responsibilities will: by fours, then singly.

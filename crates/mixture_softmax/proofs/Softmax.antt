@@ -51,10 +51,10 @@ shares-length lse (x ∷ row) = ap suc (shares-length lse row)
 -- eight read, and stored
 pub eight-done : (l : List Float) (f : Eight) → length l ≡ 8
     → f
-    ≡ eightOf (exponentials (record { a = getD l 0 nan; b = getD l 1 nan; c = getD l 2 nan; e = getD l 3 nan }))
-    (exponentials (record { a = getD l 4 nan; b = getD l 5 nan; c = getD l 6 nan; e = getD l 7 nan }))
-    → set (set (set (set (set (set (set (set l 0 (f .first .a)) 1 (f .first .b)) 2 (f .first .c)) 3 (f .first .e)) 4 (f .last .a)) 5
-    (f .last .b)) 6 (f .last .c)) 7 (f .last .e)
+    ≡ eightOf (exponentials (record { x0 = getD l 0 nan; x1 = getD l 1 nan; x2 = getD l 2 nan; x3 = getD l 3 nan }))
+    (exponentials (record { x0 = getD l 4 nan; x1 = getD l 5 nan; x2 = getD l 6 nan; x3 = getD l 7 nan }))
+    → set (set (set (set (set (set (set (set l 0 (f .first .x0)) 1 (f .first .x1)) 2 (f .first .x2)) 3 (f .first .x3)) 4 (f .last .x0)) 5
+    (f .last .x1)) 6 (f .last .x2)) 7 (f .last .x3)
     ≡ map expOf l
 eight-done [] f h e = absurd (omega arith)
 eight-done (_ ∷ []) f h e = absurd (omega arith)

@@ -54,28 +54,28 @@ fn exp_eight(e: &mut [f64])
     ensures { λ _. ⌜ now (e .exit) ≡ map expOf (now (e .entry)) ⌝ }
 {
     let x = float::Four {
-        a: e[0],
-        b: e[1],
-        c: e[2],
-        e: e[3],
+        x0: e[0],
+        x1: e[1],
+        x2: e[2],
+        x3: e[3],
     };
     let y = float::Four {
-        a: e[4],
-        b: e[5],
-        c: e[6],
-        e: e[7],
+        x0: e[4],
+        x1: e[5],
+        x2: e[6],
+        x3: e[7],
     };
     let f = exponential::exp8(x, y);
     let p = f.first;
     let q = f.last;
-    e[0] = p.a;
-    e[1] = p.b;
-    e[2] = p.c;
-    e[3] = p.e;
-    e[4] = q.a;
-    e[5] = q.b;
-    e[6] = q.c;
-    e[7] = q.e;
+    e[0] = p.x0;
+    e[1] = p.x1;
+    e[2] = p.x2;
+    e[3] = p.x3;
+    e[4] = q.x0;
+    e[5] = q.x1;
+    e[6] = q.x2;
+    e[7] = q.x3;
 }
 
 // The first n elements become their exponentials, sixteen at a time; so do up to fifteen after them. In two calls a

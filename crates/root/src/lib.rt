@@ -146,8 +146,8 @@ pub fn root2(x: f64, w: f64) -> Two
 
 // As positive_pair, of four.
 fn positive_four(x: f64, y: f64, z: f64, w: f64) -> float::Four
-    requires { ⌜ AllPositive (record { a = x; b = y; c = z; e = w }) ⌝ }
-    ensures { λ r. ⌜ r ≡ rootsOf (record { a = x; b = y; c = z; e = w }) ⌝ }
+    requires { ⌜ AllPositive (record { x0 = x; x1 = y; x2 = z; x3 = w }) ⌝ }
+    ensures { λ r. ⌜ r ≡ rootsOf (record { x0 = x; x1 = y; x2 = z; x3 = w }) ⌝ }
 {
     let mut a = begin(x);
     let mut b = begin(y);
@@ -163,10 +163,10 @@ fn positive_four(x: f64, y: f64, z: f64, w: f64) -> float::Four
         top = top / 2;
     }
     float::Four {
-        a: finish(a),
-        b: finish(b),
-        c: finish(c),
-        e: finish(e),
+        x0: finish(a),
+        x1: finish(b),
+        x2: finish(c),
+        x3: finish(e),
     }
 }
 
@@ -174,13 +174,13 @@ fn positive_four(x: f64, y: f64, z: f64, w: f64) -> float::Four
 pub fn root4(x: float::Four) -> float::Four
     ensures { λ r. ⌜ r ≡ rootsOf x ⌝ }
 {
-    if is_positive(x.a) & is_positive(x.b) & is_positive(x.c) & is_positive(x.e) {
-        return positive_four(x.a, x.b, x.c, x.e);
+    if is_positive(x.x0) & is_positive(x.x1) & is_positive(x.x2) & is_positive(x.x3) {
+        return positive_four(x.x0, x.x1, x.x2, x.x3);
     }
     float::Four {
-        a: root(x.a),
-        b: root(x.b),
-        c: root(x.c),
-        e: root(x.e),
+        x0: root(x.x0),
+        x1: root(x.x1),
+        x2: root(x.x2),
+        x3: root(x.x3),
     }
 }

@@ -39,7 +39,8 @@ module _ (x p q r s : List Float) where
     at-s = dot-turn e x s j (omega arith) (omega arith) ∙ g .at-s;
   }
 
-  pub gone : (n : ℕ) (a b c e : Float) (j : ℕ) → n ≤ j → Going n a b c e j → _≡_ {A = Four} (record { a = a; b = b; c = c; e = e }) (dotsOf x p q r s)
+  pub gone : (n : ℕ) (a b c e : Float) (j : ℕ) → n ≤ j → Going n a b c e j
+      → _≡_ {A = Four} (record { x0 = a; x1 = b; x2 = c; x3 = e }) (dotsOf x p q r s)
   gone n a b c e j h g =
       let at-p : a ≡ dotOf x p = sym (dot-end a x p j (omega arith)) ∙ g .at-p in
       let at-q : b ≡ dotOf x q = sym (dot-end b x q j (omega arith)) ∙ g .at-q in

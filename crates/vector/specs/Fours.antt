@@ -14,4 +14,4 @@ pub record FourRows (p q r s : List Float) : Type 0 where
 
 -- the dot of x with each of the four
 abbrev pub dotsOf : List Float → List Float → List Float → List Float → List Float → Four
-dotsOf x p q r s = record { a = dotOf x p; b = dotOf x q; c = dotOf x r; e = dotOf x s }
+dotsOf x p q r s = record { x0 = dotOf x p; x1 = dotOf x q; x2 = dotOf x r; x3 = dotOf x s }

@@ -46,7 +46,12 @@ pub fn dot4(x: &[f64], p: &[f64], q: &[f64], r: &[f64], s: &[f64]) -> float::Fou
         e = e + v * s[j];
         j += 1;
     }
-    float::Four { a, b, c, e }
+    float::Four {
+        x0: a,
+        x1: b,
+        x2: c,
+        x3: e,
+    }
 }
 
 // The root of the sum of the squares.

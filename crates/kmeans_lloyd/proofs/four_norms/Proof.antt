@@ -22,7 +22,7 @@ own-dot l at n i d ea en e = e ∙ rw (ea, en)
 norms-done : (l : List Float) (d i : ℕ) (p q r s : Float) → p ≡ dotOf (rowOf l d i) (rowOf l d i)
     → q ≡ dotOf (rowOf l d (i + 1)) (rowOf l d (i + 1))
     → r ≡ dotOf (rowOf l d (i + 2)) (rowOf l d (i + 2)) → s ≡ dotOf (rowOf l d (i + 3)) (rowOf l d (i + 3))
-    → _≡_ {A = Four} (rootsOf (record { a = p; b = q; c = r; e = s })) (fourNorms l d i)
+    → _≡_ {A = Four} (rootsOf (record { x0 = p; x1 = q; x2 = r; x3 = s })) (fourNorms l d i)
 norms-done l d i p q r s ep eq er es = rw (ep, eq, er, es)
 
 returns : tie.Need-returns

@@ -40,7 +40,7 @@ best-from-requires-2 c κs =
       (
         omega arith,
         omega (arith, r .before .if1 .left),
-        best-three (a .x .now) (a .centers .now) (a .d) 0 (record { index = 0; dot = f .a; second = inf true }) (c .with-three .result) f
+        best-three (a .x .now) (a .centers .now) (a .d) 0 (record { index = 0; dot = f .x0; second = inf true }) (c .with-three .result) f
             (rw (r .row-dots .ensures))
             (r .row-dots .ensures)
             (c .with-three .ensures),
