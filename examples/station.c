@@ -19,14 +19,14 @@ int main(void) {
     uint32_t labels[SHOPS];
     double responsibilities[SHOPS * MOST], group_weights[MOST], directions[MOST * GOODS], concentrations[MOST], logw[MOST];
     double work[2 * SHOPS * MOST + 4 * MOST * GOODS + 8 * SHOPS + 16 * MOST];
-    uint32_t marks[2 * SHOPS + 2 * MOST];
+    uint32_t work_u32[2 * SHOPS + 2 * MOST];
     uint64_t groups, counts[2];
     double loglik, score;
     uint32_t refused = mosterklomp_movmf_auto_with(
         weights, LENGTH(weights), sales, LENGTH(sales), GOODS, 1, MOST, 100, 7, false,
         labels, LENGTH(labels), responsibilities, LENGTH(responsibilities), group_weights, LENGTH(group_weights),
         directions, LENGTH(directions), concentrations, LENGTH(concentrations), logw, LENGTH(logw),
-        work, LENGTH(work), marks, LENGTH(marks), &groups, &loglik, &score, counts);
+        work, LENGTH(work), work_u32, LENGTH(work_u32), &groups, &loglik, &score, counts);
     if (refused != 0) {
         printf("refused %u\n", (unsigned)refused);
         return 1;

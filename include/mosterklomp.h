@@ -8,7 +8,7 @@
  * Every array is a pointer and, behind it, its length in entries. An array may be longer than asked for; the entries past what is asked for are left alone. Arrays must
  * not overlap, and no pointer may be null, not even with length 0. `counts` has room for two numbers: made, saved.
  *
- * The work arrays have at least 2*m*k + 4*k*d + 8*m + 16*k doubles (`work`) and 2*m + 2*k numbers (`marks`); what they hold before does not matter, and what they
+ * The work arrays have at least 2*m*k + 4*k*d + 8*m + 16*k doubles (`work`) and 2*m + 2*k numbers (`work_u32`); what they hold before does not matter, and what they
  * hold afterwards means nothing.
  *
  * Each function returns 0, or the number of the first refusal that holds:
@@ -37,7 +37,7 @@ extern "C" {
 uint32_t mosterklomp_spherical_kmeans(
     const double *weights, size_t m, const double *coords, size_t coords_len, size_t d, size_t k, size_t rounds, size_t restarts, uint64_t seed,
     uint32_t *labels, size_t labels_len, double *directions, size_t directions_len,
-    double *work, size_t work_len, uint32_t *marks, size_t marks_len,
+    double *work, size_t work_len, uint32_t *work_u32, size_t work_u32_len,
     double *cohesion, uint64_t *counts);
 
 /* The von Mises-Fisher mixture with k groups, the best of four runs. Fills labels (m), responsibilities (m * k, row by
@@ -48,7 +48,7 @@ uint32_t mosterklomp_movmf_with(
     const double *weights, size_t m, const double *coords, size_t coords_len, size_t d, size_t k, size_t rounds, uint64_t seed, bool shared,
     uint32_t *labels, size_t labels_len, double *responsibilities, size_t responsibilities_len, double *group_weights, size_t group_weights_len,
     double *directions, size_t directions_len, double *concentrations, size_t concentrations_len, double *logw, size_t logw_len,
-    double *work, size_t work_len, uint32_t *marks, size_t marks_len,
+    double *work, size_t work_len, uint32_t *work_u32, size_t work_u32_len,
     uint64_t *groups, double *loglik, uint64_t *counts);
 
 /* The mixture with the best number of groups: every number from max(k_min, 1) to min(k_max, m) is fitted, and the first with the lowest score is kept. Fills and
@@ -58,7 +58,7 @@ uint32_t mosterklomp_movmf_auto_with(
     const double *weights, size_t m, const double *coords, size_t coords_len, size_t d, size_t k_min, size_t k_max, size_t rounds, uint64_t seed, bool shared,
     uint32_t *labels, size_t labels_len, double *responsibilities, size_t responsibilities_len, double *group_weights, size_t group_weights_len,
     double *directions, size_t directions_len, double *concentrations, size_t concentrations_len, double *logw, size_t logw_len,
-    double *work, size_t work_len, uint32_t *marks, size_t marks_len,
+    double *work, size_t work_len, uint32_t *work_u32, size_t work_u32_len,
     uint64_t *groups, double *loglik, double *score, uint64_t *counts);
 
 #ifdef __cplusplus

@@ -120,7 +120,7 @@ fn lengthen(l: &mut Lent, g: &mut SplitMix64) {
     for v in [&mut l.responsibilities, &mut l.weights, &mut l.directions, &mut l.concentrations, &mut l.logw, &mut l.work] {
         v.resize(v.len() + below(g, 6), 0.0);
     }
-    for v in [&mut l.labels, &mut l.marks] {
+    for v in [&mut l.labels, &mut l.work_u32] {
         v.resize(v.len() + below(g, 6), 0);
     }
 }
@@ -130,7 +130,7 @@ fn mark(l: &mut Lent) {
     for v in [&mut l.responsibilities, &mut l.weights, &mut l.directions, &mut l.concentrations, &mut l.logw, &mut l.work] {
         v.iter_mut().enumerate().for_each(|(i, x)| *x = f64::from_bits(0x6A5A_0000_0000_0000 + i as u64));
     }
-    for v in [&mut l.labels, &mut l.marks] {
+    for v in [&mut l.labels, &mut l.work_u32] {
         v.iter_mut().enumerate().for_each(|(i, x)| *x = 0xA500_0000 + i as u32);
     }
     (l.groups, l.cohesion, l.loglik, l.score, l.counts) = (77, 1.25e200, 1.5e200, 1.75e200, [81, 82, 83]);
@@ -184,7 +184,7 @@ fn shorten(c: &mut Call, g: &mut SplitMix64) {
     let cut = |n: usize, g: &mut SplitMix64| if below(g, 4) == 0 { 0 } else { n.saturating_sub(1 + below(g, 8)) };
     let any = below(g, 8);
     if any < 2 {
-        let v = if any == 0 { &mut l.labels } else { &mut l.marks };
+        let v = if any == 0 { &mut l.labels } else { &mut l.work_u32 };
         v.truncate(cut(v.len(), g));
         return;
     }

@@ -20,7 +20,7 @@ pub fn refusal(c: &Call) -> u32 {
         return 3;
     }
     let l = &c.lent;
-    let mut long = l.labels.len() >= m && l.directions.len() >= k * c.d && l.work.len() >= 2 * m * k + 4 * k * c.d + 8 * m + 16 * k && l.marks.len() >= 2 * m + 2 * k;
+    let mut long = l.labels.len() >= m && l.directions.len() >= k * c.d && l.work.len() >= 2 * m * k + 4 * k * c.d + 8 * m + 16 * k && l.work_u32.len() >= 2 * m + 2 * k;
     if c.fit != Fit::Spherical {
         long &= l.responsibilities.len() >= m * k && l.weights.len() >= k && l.concentrations.len() >= k && l.logw.len() >= k;
     }

@@ -7,20 +7,20 @@ mod c {
     extern "C" {
         pub fn mosterklomp_spherical_kmeans(
             weights: *const f64, m: usize, coords: *const f64, n: usize, d: usize, k: usize, rounds: usize, restarts: usize, seed: u64,
-            labels: *mut u32, labels_len: usize, directions: *mut f64, directions_len: usize, work: *mut f64, work_len: usize, marks: *mut u32, marks_len: usize,
+            labels: *mut u32, labels_len: usize, directions: *mut f64, directions_len: usize, work: *mut f64, work_len: usize, work_u32: *mut u32, work_u32_len: usize,
             cohesion: *mut f64, counts: *mut u64,
         ) -> u32;
         pub fn mosterklomp_movmf_with(
             weights: *const f64, m: usize, coords: *const f64, n: usize, d: usize, k: usize, rounds: usize, seed: u64, shared: bool,
             labels: *mut u32, labels_len: usize, responsibilities: *mut f64, responsibilities_len: usize, group_weights: *mut f64, group_weights_len: usize,
             directions: *mut f64, directions_len: usize, concentrations: *mut f64, concentrations_len: usize, logw: *mut f64, logw_len: usize,
-            work: *mut f64, work_len: usize, marks: *mut u32, marks_len: usize, groups: *mut u64, loglik: *mut f64, counts: *mut u64,
+            work: *mut f64, work_len: usize, work_u32: *mut u32, work_u32_len: usize, groups: *mut u64, loglik: *mut f64, counts: *mut u64,
         ) -> u32;
         pub fn mosterklomp_movmf_auto_with(
             weights: *const f64, m: usize, coords: *const f64, n: usize, d: usize, k_min: usize, k_max: usize, rounds: usize, seed: u64, shared: bool,
             labels: *mut u32, labels_len: usize, responsibilities: *mut f64, responsibilities_len: usize, group_weights: *mut f64, group_weights_len: usize,
             directions: *mut f64, directions_len: usize, concentrations: *mut f64, concentrations_len: usize, logw: *mut f64, logw_len: usize,
-            work: *mut f64, work_len: usize, marks: *mut u32, marks_len: usize, groups: *mut u64, loglik: *mut f64, score: *mut f64, counts: *mut u64,
+            work: *mut f64, work_len: usize, work_u32: *mut u32, work_u32_len: usize, groups: *mut u64, loglik: *mut f64, score: *mut f64, counts: *mut u64,
         ) -> u32;
     }
 }
@@ -42,7 +42,7 @@ pub struct Lent {
     pub concentrations: Vec<f64>,
     pub logw: Vec<f64>,
     pub work: Vec<f64>,
-    pub marks: Vec<u32>,
+    pub work_u32: Vec<u32>,
     pub groups: u64,
     pub cohesion: f64,
     pub loglik: f64,
@@ -62,7 +62,7 @@ impl Lent {
             concentrations: vec![0.0; k],
             logw: vec![0.0; k],
             work: vec![0.0; 2 * m * k + 4 * k * d + 8 * m + 16 * k],
-            marks: vec![0; 2 * m + 2 * k],
+            work_u32: vec![0; 2 * m + 2 * k],
             groups: 0,
             cohesion: 0.0,
             loglik: 0.0,
@@ -76,7 +76,7 @@ impl Lent {
             c::mosterklomp_spherical_kmeans(
                 f.weights.as_ptr(), f.weights.len(), f.coords.as_ptr(), f.coords.len(), d, k, rounds, restarts, seed,
                 self.labels.as_mut_ptr(), self.labels.len(), self.directions.as_mut_ptr(), self.directions.len(),
-                self.work.as_mut_ptr(), self.work.len(), self.marks.as_mut_ptr(), self.marks.len(), &mut self.cohesion, self.counts.as_mut_ptr(),
+                self.work.as_mut_ptr(), self.work.len(), self.work_u32.as_mut_ptr(), self.work_u32.len(), &mut self.cohesion, self.counts.as_mut_ptr(),
             )
         }
     }
@@ -88,7 +88,7 @@ impl Lent {
                 self.labels.as_mut_ptr(), self.labels.len(), self.responsibilities.as_mut_ptr(), self.responsibilities.len(),
                 self.weights.as_mut_ptr(), self.weights.len(), self.directions.as_mut_ptr(), self.directions.len(),
                 self.concentrations.as_mut_ptr(), self.concentrations.len(), self.logw.as_mut_ptr(), self.logw.len(),
-                self.work.as_mut_ptr(), self.work.len(), self.marks.as_mut_ptr(), self.marks.len(), &mut self.groups, &mut self.loglik, self.counts.as_mut_ptr(),
+                self.work.as_mut_ptr(), self.work.len(), self.work_u32.as_mut_ptr(), self.work_u32.len(), &mut self.groups, &mut self.loglik, self.counts.as_mut_ptr(),
             )
         }
     }
@@ -101,7 +101,7 @@ impl Lent {
                 self.labels.as_mut_ptr(), self.labels.len(), self.responsibilities.as_mut_ptr(), self.responsibilities.len(),
                 self.weights.as_mut_ptr(), self.weights.len(), self.directions.as_mut_ptr(), self.directions.len(),
                 self.concentrations.as_mut_ptr(), self.concentrations.len(), self.logw.as_mut_ptr(), self.logw.len(),
-                self.work.as_mut_ptr(), self.work.len(), self.marks.as_mut_ptr(), self.marks.len(), &mut self.groups, &mut self.loglik, &mut self.score,
+                self.work.as_mut_ptr(), self.work.len(), self.work_u32.as_mut_ptr(), self.work_u32.len(), &mut self.groups, &mut self.loglik, &mut self.score,
                 self.counts.as_mut_ptr(),
             )
         }

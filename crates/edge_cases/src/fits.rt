@@ -46,7 +46,7 @@ fn clustered(weights: &[f64], coords: &[f64], c: Call, line: &[u64], at: usize) 
     let mut labels = [9u32; 4096];
     let mut directions = [9.0; 256];
     let mut work = [0.0; 40980];
-    let mut marks = [0u32; 8194];
+    let mut work_u32 = [0u32; 8194];
     let i = room(line, at, 0, 4096);
     let j = room(line, at, 1, 256);
     let n = room(line, at, 2, 40980);
@@ -62,7 +62,7 @@ fn clustered(weights: &[f64], coords: &[f64], c: Call, line: &[u64], at: usize) 
         &mut labels[..i],
         &mut directions[..j],
         &mut work[..n],
-        &mut marks[..p],
+        &mut work_u32[..p],
     ))
 }
 
@@ -94,7 +94,7 @@ fn fitted(weights: &[f64], coords: &[f64], c: Call, line: &[u64], at: usize) -> 
     let mut concentrations = [9.0; 8];
     let mut logw = [9.0; 8];
     let mut work = [0.0; 256];
-    let mut marks = [0u32; 32];
+    let mut work_u32 = [0u32; 32];
     let i1 = room(line, at, 0, 8);
     let i2 = room(line, at, 1, 32);
     let i3 = room(line, at, 2, 8);
@@ -116,7 +116,7 @@ fn fitted(weights: &[f64], coords: &[f64], c: Call, line: &[u64], at: usize) -> 
         &mut concentrations[..i5],
         &mut logw[..i6],
         &mut work[..i7],
-        &mut marks[..i8],
+        &mut work_u32[..i8],
     ))
 }
 
@@ -151,7 +151,7 @@ fn choice_holds(weights: &[f64], coords: &[f64], c: Call, line: &[u64]) -> bool 
     let mut concentrations = [9.0; 8];
     let mut logw = [9.0; 8];
     let mut work = [0.0; 256];
-    let mut marks = [0u32; 32];
+    let mut work_u32 = [0u32; 32];
     let r = auto::movmf_auto_with(
         weights,
         coords,
@@ -166,7 +166,7 @@ fn choice_holds(weights: &[f64], coords: &[f64], c: Call, line: &[u64]) -> bool 
         &mut concentrations,
         &mut logw,
         &mut work,
-        &mut marks,
+        &mut work_u32,
     );
     chosen_is(r, line)
 }

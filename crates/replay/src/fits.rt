@@ -40,7 +40,7 @@ fn groups_agree(case: &[u64], weights: &[f64], coords: &[f64], h: Head, at: usiz
     let mut labels = [7u32; 132];
     let mut directions = [7.5; 640];
     let mut work = [0.0; 12288];
-    let mut marks = [0u32; 384];
+    let mut work_u32 = [0u32; 384];
     let r = spherical::spherical_kmeans(
         weights,
         coords,
@@ -52,10 +52,10 @@ fn groups_agree(case: &[u64], weights: &[f64], coords: &[f64], h: Head, at: usiz
         &mut labels,
         &mut directions,
         &mut work,
-        &mut marks,
+        &mut work_u32,
     );
     let p = answers::answer_agrees(answers::clustered(r), 0, case, at, false);
-    let q = outputs::marks_agree(&labels, weights.len(), case, p);
+    let q = outputs::labels_agree(&labels, weights.len(), case, p);
     outputs::rows_agree(&directions, times(k, d), case, q).same
 }
 
@@ -102,7 +102,7 @@ fn outputs_agree(
     case: &[u64],
     p: Place,
 ) -> bool {
-    let a = outputs::marks_agree(labels, s.m, case, p);
+    let a = outputs::labels_agree(labels, s.m, case, p);
     let b = outputs::rows_agree(responsibilities, times(s.m, s.k), case, a);
     let c = outputs::rows_agree(group_weights, s.k, case, b);
     let e = outputs::rows_agree(directions, times(s.k, s.d), case, c);
@@ -128,7 +128,7 @@ fn mixture_agrees(
     let mut concentrations = [7.5; 65];
     let mut logw = [7.5; 66];
     let mut work = [0.0; 18432];
-    let mut marks = [0u32; 384];
+    let mut work_u32 = [0u32; 384];
     let r = movmf::movmf_with(
         weights,
         coords,
@@ -142,7 +142,7 @@ fn mixture_agrees(
         &mut concentrations,
         &mut logw,
         &mut work,
-        &mut marks,
+        &mut work_u32,
     );
     let p = answers::answer_agrees(answers::fitted(r), h.w2, case, at, digest);
     outputs_agree(
@@ -175,7 +175,7 @@ fn auto_agrees(case: &[u64], weights: &[f64], coords: &[f64], h: Head, at: usize
     let mut concentrations = [7.5; 65];
     let mut logw = [7.5; 66];
     let mut work = [0.0; 8192];
-    let mut marks = [0u32; 384];
+    let mut work_u32 = [0u32; 384];
     let r = auto::movmf_auto_with(
         weights,
         coords,
@@ -190,7 +190,7 @@ fn auto_agrees(case: &[u64], weights: &[f64], coords: &[f64], h: Head, at: usize
         &mut concentrations,
         &mut logw,
         &mut work,
-        &mut marks,
+        &mut work_u32,
     );
     let p = answers::choice_agrees(answers::chosen(r), case, at);
     outputs_agree(

@@ -64,7 +64,7 @@ fn mark(x: u32) -> u64 {
 }
 
 // Compares the first n of v with what p says, and the rest with 7: the place after it.
-pub(crate) fn marks_agree(v: &[u32], n: usize, case: &[u64], p: Place) -> Place {
+pub(crate) fn labels_agree(v: &[u32], n: usize, case: &[u64], p: Place) -> Place {
     let mut s = Seen { h: 0, same: true };
     let mut j = 0;
     while j < v.len() {
