@@ -8,10 +8,10 @@ use native.Mathlib.Omega.{arith}
 use lib.ListN.{length, drop}
 use lib.Seq.{drop-drop, drop-at}
 use Rattle.rows.specs.Rows.{rowOf}
+use Rattle.rows.proofs.Tabulate.{tabulate-length}
 use Rattle.pick.specs.Places.{argmaxOf}
 use Rattle.mixture_run.specs.Mixture.{Em}
 use Rattle.mixture_run.specs.Fits.{labelsOf, logwAt, logwOf}
-use Rattle.mixture_run.proofs.Regions.{tabulate-length}
 use Rattle.mixture_outputs.specs.Outputs.{Outputs, written}
 use Rattle.auto_tries.specs.Tries.{Full, Tails}
 

@@ -7,8 +7,8 @@ use lib.ListN.{length, take, drop, replicate}
 use lib.Seq.{length-take-le, take-at}
 use lib.Ieee.{Float}
 use Rattle.float.specs.Arithmetic.{plusZero}
-use Rattle.mixture_kappa.specs.Kappas.{tabulate}
-use Rattle.mixture_run.proofs.Regions.{tabulate-length}
+use Rattle.rows.specs.Tabulate.{tabulate}
+use Rattle.rows.proofs.Tabulate.{tabulate-length}
 use Rattle.mixture_outputs.specs.Outputs.{arrays}
 use Rattle.auto.specs.Outcome.{Outcome, outcome}
 use Rattle.auto.specs.Best.{AnswerKeepsBest}

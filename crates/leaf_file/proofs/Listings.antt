@@ -5,7 +5,7 @@ use Prim.Native.Nat.{ℕ, zero, suc, _≤_}
 use native.Mathlib.Omega.{arith}
 use lib.ListN.{length, take, drop, length-append, take-append-drop}
 use lib.Seq.{length-take-le}
-use Rattle.mixture_run.proofs.Regions.{tabulate-length}
+use Rattle.rows.proofs.Tabulate.{tabulate-length}
 use Rattle.leaf_file.specs.LeafFile.{FileFit, Leaves, wholeAt, leavesIn, fileRefusal, fileFitBy, fileFit}
 use Rattle.leaf_file.specs.Listing.{textOf, blank, listingBy, listing}
 use Rattle.leaf_file.specs.Texts.{Put, Counted}

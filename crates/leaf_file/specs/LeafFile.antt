@@ -7,8 +7,8 @@ use lib.Dec.{leb, eqb}
 use lib.ListN.{length, getD, replicate}
 use lib.Ieee.{Float, binary64, ofBits}
 use Rattle.float.specs.Arithmetic.{plusZero}
+use Rattle.rows.specs.Tabulate.{tabulate}
 use Rattle.limits.specs.Limits.{need, workLength, workU32Length}
-use Rattle.mixture_kappa.specs.Kappas.{tabulate}
 use Rattle.mixture_kappa.specs.declared.Settings.{Settings}
 use Rattle.mixture_kappa.specs.declared.Kappa.the-variants.{Free}
 use Rattle.mixture_outputs.specs.Outputs.{Outputs, arrays}

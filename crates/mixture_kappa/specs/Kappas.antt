@@ -1,20 +1,16 @@
 -- Document 01, 'Mixture' and 'Choosing the number of groups': all that hangs on Kappa. The concentrations of k groups,
 -- from the lengths and the weights of their resultants, at the start of a run and after each of its rounds; and the
 -- number of parameters. Definitions only.
-use mathlib.Core.List.{List, [], _∷_, _++_}
+use mathlib.Core.List.{List}
 use mathlib.Core.Bool.{cond}
-use Prim.Native.Nat.{ℕ, zero, suc, _+_, _-_, _*_}
+use Prim.Native.Nat.{ℕ, _+_, _-_, _*_}
 use lib.ListN.{getD, replicate}
 use lib.Ieee.{Float, nan, binary64, div, lt}
 use Rattle.float.specs.Arithmetic.{plusZero, sumFrom}
+use Rattle.rows.specs.Tabulate.{tabulate}
 use Rattle.bessel.specs.Concentration.{estimateOf}
 use Rattle.mixture_kappa.specs.declared.Kappa.{Kappa}
 use Rattle.mixture_kappa.specs.declared.Kappa.the-variants.{Free, Shared}
-
--- f 0, f 1, .. f (n − 1)
-unfoldable pub tabulate : {A : Type 0} → (ℕ → A) → ℕ → List A
-tabulate f zero = []
-tabulate f (suc n) = tabulate f n ++ (f n ∷ [])
 
 -- the mean resultant length; 0 where the weight is not above 0
 abbrev pub meanLength : (resultant weight : Float) → Float

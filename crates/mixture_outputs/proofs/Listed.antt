@@ -9,15 +9,16 @@ use lib.ListN.{length, getD, take, set}
 use lib.Seq.{take-suc-set}
 use lib.Ieee.{Float, nan, binary64, add}
 use Rattle.rows.specs.Rows.{part}
+use Rattle.rows.specs.Tabulate.{tabulate}
 use Rattle.pick.specs.Places.{argmaxOf}
 use Rattle.rows.proofs.Rows.{length-part, part-cut}
 use Rattle.rows.proofs.Fills.{take-end}
+use Rattle.rows.proofs.Tabulate.{tabulate-turn}
 use Rattle.pick.proofs.Places.{argmax-below}
-use Rattle.mixture_kappa.specs.Kappas.{tabulate}
 use Rattle.mixture_kappa.specs.Groups.{logNormOf}
 use Rattle.mixture_run.specs.Fits.{lnWeight, logwAt}
 use Rattle.mixture_run.specs.Areas.{partsIn, modelOf, weightsAt, kappasAt}
-use Rattle.mixture_run.proofs.Regions.{weightsR, kappasR, get-in, tabulate-turn}
+use Rattle.mixture_run.proofs.Regions.{weightsR, kappasR, get-in}
 
 -- ---- a list of which the first i places are written
 module _ {A : Type 0} (f : ℕ → A) (s : List A) (i : ℕ) where

@@ -10,20 +10,21 @@ use lib.Ieee.{Float, nan, binary64, add, mul}
 use Rattle.float.specs.Arithmetic.{plusZero}
 use Rattle.float.specs.declared.Four.{Four}
 use Rattle.rows.specs.Rows.{part, putPart, rowOf}
+use Rattle.rows.specs.Tabulate.{tabulate}
 use Rattle.vector.specs.Vectors.{dotOf}
 use Rattle.kmeans_nearest.specs.Fours.{rowDots}
 use Rattle.rows.proofs.Rows.{row-within, put-more, part-cut}
+use Rattle.rows.proofs.Tabulate.{tabulate-length, tabulate-turn}
 use Rattle.mixture_softmax.specs.Softmax.{logSumExp}
 use Rattle.mixture_softmax.specs.Leaves.{logSumAt, sharesAt, joined, weighed, sharesUpTo, logsUpTo}
 use Rattle.mixture_softmax.proofs.Softmax.{shares-length}
 use Rattle.mixture_softmax.proofs.Joined.{joined-length, joined-row, joined-none, joined-turn, joined-same, weighed-same}
 use Rattle.rows.proofs.Fills.{front-end}
-use Rattle.mixture_kappa.specs.Kappas.{tabulate}
 use Rattle.mixture_run.specs.Mixture.{Model, Expected, logDensityAt, logDensities, softmax, expectUpTo}
 use Rattle.mixture_run.specs.Areas.{Parts, partsIn, kappasAt, logCoefficientsAt, responsibilitiesAt, total, modelOf, withResp}
 use Rattle.mixture_run.specs.Areas.{logDensitiesBy, fourLogDensities}
 use Rattle.mixture_run.proofs.Regions.{directionsR, kappasR, logCoefficientsR, respR, set-in, get-in, part-in, whole-in}
-use Rattle.mixture_run.proofs.Regions.{put-whole-in, length-in, tabulate-length, tabulate-turn}
+use Rattle.mixture_run.proofs.Regions.{put-whole-in, length-in}
 
 -- ---- what the parts of an area give
 

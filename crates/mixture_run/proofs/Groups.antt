@@ -7,11 +7,11 @@ use Prim.Native.Nat.{ℕ, _+_, _-_, _≤_, _<_}
 use lib.ListN.{length, getD, drop, set, replicate, length-replicate}
 use lib.Ieee.{Float, nan}
 use Rattle.rows.specs.Rows.{part, putPart, startOf}
+use Rattle.rows.specs.Tabulate.{tabulate}
 use Rattle.rows.proofs.Rows.{part-cut}
-use Rattle.mixture_kappa.specs.Kappas.{tabulate}
+use Rattle.rows.proofs.Tabulate.{tabulate-length, tabulate-turn}
 use Rattle.mixture_run.specs.Areas.{Parts, lengths, total, partsIn}
 use Rattle.mixture_run.proofs.Regions.{Region, get-in, whole-in, put-whole-in, frontIn, front-in-start, front-in-turn, front-in-end}
-use Rattle.mixture_run.proofs.Regions.{tabulate-length, tabulate-turn}
 
 -- ---- a region written place by place
 module _ (R : Region) (f : ℕ → Float) (m k d : ℕ) (w₀ : List Float) where

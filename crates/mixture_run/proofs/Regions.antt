@@ -2,15 +2,13 @@
 -- holds, and leaves the other parts; a read of the area is a read of the part. By the laws of `cut`. Assumes nothing.
 use mathlib.Core.Path.{_≡_, refl, ap, sym, _∙_}
 use mathlib.Core.List.{List, [], _∷_, _++_}
-use Prim.Native.Nat.{ℕ, zero, suc, _+_, _≤_, _<_}
-use native.Mathlib.Numerals.{add-one}
+use Prim.Native.Nat.{ℕ, _+_, _≤_, _<_}
 use native.Mathlib.Omega.{arith}
-use lib.ListN.{length, getD, drop, set, length-append}
+use lib.ListN.{length, getD, drop, set}
 use lib.Ieee.{Float, nan}
 use Rattle.rows.specs.Rows.{part, putPart, cut, startOf}
 use Rattle.rows.proofs.Rows.{cut-set, cut-put, cut-whole, cut-length, cut-put-whole, cut-get, cut-part}
 use Rattle.rows.proofs.Fills.{front-turn, front-end}
-use Rattle.mixture_kappa.specs.Kappas.{tabulate}
 use Rattle.mixture_run.specs.Areas.{Parts, lengths, total, named, partsIn, withDirections, withSums, withWeights, withKappas}
 use Rattle.mixture_run.specs.Areas.{withLogCoefficients, withTotals, withNorms, withResp}
 
@@ -176,14 +174,3 @@ module _ (R : Region) (m k d : ℕ) (w₀ : List Float) where
   front-in-end w t n e g f =
       let p₀ = partsIn m k d w₀ in
       f ∙ ap (λ (y : List Float). R .put y p₀) (front-end t (R .get p₀) n (length-in R m k d w₀ g ∙ sym e))
-
--- ---- the list f 0, .. f (n − 1)
-module _ {A : Type 0} (f : ℕ → A) where
-  pub tabulate-length : (n : ℕ) → length (tabulate f n) ≡ n
-  unfolding tabulate
-  tabulate-length zero = refl
-  tabulate-length (suc n) = length-append (tabulate f n) (f n ∷ []) ∙ omega (arith, tabulate-length n)
-
-  pub tabulate-turn : (i : ℕ) (v : A) → v ≡ f i → tabulate f i ++ (v ∷ []) ≡ tabulate f (i + 1)
-  unfolding tabulate
-  tabulate-turn i v e = rw (add-one, e)

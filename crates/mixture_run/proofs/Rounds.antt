@@ -6,8 +6,9 @@ use mathlib.Core.Bool.{Bool, true, false}
 use Prim.Native.Nat.{ℕ, suc, _+_}
 use lib.Ieee.{Float}
 use Rattle.float.specs.Arithmetic.{minusZero, sumFrom}
+use Rattle.rows.specs.Tabulate.{tabulate}
 use Rattle.kmeans_sums.specs.Sums.{normsUpTo}
-use Rattle.mixture_kappa.specs.Kappas.{tabulate, kappasOf}
+use Rattle.mixture_kappa.specs.Kappas.{kappasOf}
 use Rattle.mixture_run.specs.Mixture.{Statistics, Em, weightAt, directionsUpTo, maximize, maximizeBy, logCoefficients, expectUpTo}
 use Rattle.mixture_run.specs.Mixture.{statisticsUpTo, emRound, stopsAt, emFrom}
 use Rattle.mixture_run.specs.Areas.{Parts, modelOf, emOf, withStatistics, withNorms, withWeights, withDirections, withKappas}

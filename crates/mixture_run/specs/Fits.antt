@@ -9,10 +9,11 @@ use Rattle.float.specs.Arithmetic.{f64, plusZero, sumFrom, maxOf}
 use Rattle.logarithm.specs.Logarithm.{lnOf}
 use Rattle.counts.specs.declared.Counts.{Counts}
 use Rattle.rows.specs.Rows.{rowOf}
+use Rattle.rows.specs.Tabulate.{tabulate}
 use Rattle.pick.specs.Places.{argmaxOf}
 use Rattle.kmeans_sums.specs.Sums.{normsUpTo, sumsUpTo}
 use Rattle.kmeans_lloyd.specs.Results.{Result, resultOf}
-use Rattle.mixture_kappa.specs.Kappas.{tabulate, kappasOf}
+use Rattle.mixture_kappa.specs.Kappas.{kappasOf}
 use Rattle.mixture_run.specs.Mixture.{Model, Em, evenWeight, emFrom}
 use Rattle.mixture_kappa.specs.Groups.{logNormOf}
 use Rattle.mixture_kappa.specs.declared.Kappa.{Kappa}

@@ -7,11 +7,12 @@ use lib.ListN.{getD, set, replicate}
 use lib.Ieee.{Float, nan, binary64, add, sub, mul, div, lt, le}
 use Rattle.float.specs.Arithmetic.{f64, number, plusZero, minusZero, sumFrom, maxOf, absOf}
 use Rattle.rows.specs.Rows.{rowOf, putPart}
+use Rattle.rows.specs.Tabulate.{tabulate}
 use Rattle.vector.specs.Vectors.{dotOf}
 use Rattle.kmeans_sums.specs.Sums.{addLeaf, normsUpTo, centerBy}
 use Rattle.mixture_softmax.specs.Softmax.{logSumExp, sharesOf}
 use Rattle.mixture_kappa.specs.Groups.{logCoefficient}
-use Rattle.mixture_kappa.specs.Kappas.{tabulate, kappasOf}
+use Rattle.mixture_kappa.specs.Kappas.{kappasOf}
 use Rattle.mixture_kappa.specs.declared.Kappa.{Kappa}
 
 -- what the groups are: their weights, directions row by row, and concentrations

@@ -3,8 +3,9 @@ ghost use mathlib.Core.Path.{_≡_};
 ghost use Prim.Native.Nat.{_+_, _<_};
 ghost use lib.ListN.{length, replicate};
 ghost use Rattle.float.specs.Arithmetic.{plusZero, sumFrom};
+ghost use Rattle.rows.specs.Tabulate.{tabulate};
 ghost use Rattle.bessel.specs.Concentration.{Dimension, estimateOf};
-ghost use Rattle.mixture_kappa.specs.Kappas.{tabulate, meanLength, sharedKappa, kappaAt, kappasOf};
+ghost use Rattle.mixture_kappa.specs.Kappas.{meanLength, sharedKappa, kappaAt, kappasOf};
 ghost use Rattle.mixture_run.specs.Areas.{partsIn, withKappas, Area};
 use super::layout;
 

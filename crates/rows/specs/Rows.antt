@@ -21,9 +21,9 @@ pub record Alike {A : Type 0} {B : Type 0} (a : List A) (b : List B) : Type 0 wh
   pub same : length a ≡ length b
 
 -- what a copy within one array asks: two parts of n elements that do not meet, the one written before the one read
-pub record Apart (length from to n : ℕ) : Type 0 where
+pub record Apart (whole from to n : ℕ) : Type 0 where
   pub order : to + n ≤ from
-  pub within : from + n ≤ length
+  pub within : from + n ≤ whole
 
 -- the list cut into regions of these lengths, in this order; what is left over is in none
 abbrev pub cut : {A : Type 0} → List ℕ → List A → List (List A)

@@ -5,7 +5,7 @@ use native.Mathlib.Omega.{arith}
 use lib.ListN.{length}
 use lib.Seq.{length-take-le}
 use lib.Ieee.{Float}
-use Rattle.mixture_run.proofs.Regions.{tabulate-length}
+use Rattle.rows.proofs.Tabulate.{tabulate-length}
 use Rattle.leaf_file.specs.LeafFile.{f64At}
 use Rattle.leaf_file.proofs.Fits.{fit-read, front-read}
 use borrow.Author.Needs.{needs}

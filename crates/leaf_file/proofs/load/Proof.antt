@@ -4,7 +4,7 @@ use Prim.Native.Nat.{ℕ, _+_, _*_, _-_, _≤_}
 use native.Mathlib.Omega.{arith}
 use lib.ListN.{length, take}
 use lib.Ieee.{Float}
-use Rattle.mixture_kappa.specs.Kappas.{tabulate}
+use Rattle.rows.specs.Tabulate.{tabulate}
 use Rattle.mixture_outputs.proofs.Listed.{listed-turn, listed-end}
 use Rattle.leaf_file.specs.LeafFile.{f64At, f64sAt}
 use borrow.Author.Needs.{needs}

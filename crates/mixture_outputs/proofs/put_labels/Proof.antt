@@ -4,9 +4,9 @@ use Prim.Native.Nat.{ℕ, _+_, _*_, _-_, _≤_}
 use native.Mathlib.Omega.{arith}
 use lib.ListN.{length, take}
 use Rattle.rows.specs.Rows.{rowOf}
+use Rattle.rows.specs.Tabulate.{tabulate}
 use Rattle.pick.specs.Places.{argmaxOf}
 use Rattle.rows.proofs.Rows.{row-within, row-cut}
-use Rattle.mixture_kappa.specs.Kappas.{tabulate}
 use Rattle.mixture_outputs.proofs.Listed.{listed-turn, listed-end, label-below}
 use borrow.Author.Needs.{needs}
 use Rattle.mixture_outputs.proofs.put_labels.Statement.{statement}

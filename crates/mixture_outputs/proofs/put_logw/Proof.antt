@@ -6,7 +6,7 @@ use native.Mathlib.Omega.{arith}
 use lib.ListN.{length, take}
 use lib.Ieee.{binary64, add}
 use borrow.Author.Needs.{needs}
-use Rattle.mixture_kappa.specs.Kappas.{tabulate}
+use Rattle.rows.specs.Tabulate.{tabulate}
 use Rattle.mixture_run.specs.Fits.{logwAt}
 use Rattle.mixture_run.specs.Areas.{partsIn, modelOf}
 use Rattle.mixture_outputs.proofs.Listed.{listed-turn, listed-end, logw-is}
