@@ -39,5 +39,5 @@ not-refused weights coords d kMax k s l some most e =
     fewer-groups (leb hi mostGroups) (groupsOk k m) weights coords d hi k s l (few-ok k m some few below) most e
 
 pub lone-is-the-entry : LoneIsTheEntry
-lone-is-the-entry o weights coords d s kMin kMax work marks k e least most =
-    rw (not-refused weights coords d kMax k s (lengthsOf o work marks) (omega arith) most e)
+lone-is-the-entry o weights coords d s kMin kMax work workU32 k e least most =
+    rw (not-refused weights coords d kMax k s (lengthsOf o work workU32) (omega arith) most e)

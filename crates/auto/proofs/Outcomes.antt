@@ -53,17 +53,17 @@ tallied weights coords d s counts Nothing = refl
 tallied weights coords d s counts (Number k x) = refl
 
 -- ---- the ends, the range from lo to hi
-module _ (o : Outputs) (weights coords : List Float) (d kMin kMax : ℕ) (s : Settings) (work marks lo hi : ℕ)
+module _ (o : Outputs) (weights coords : List Float) (d kMin kMax : ℕ) (s : Settings) (work workU32 lo hi : ℕ)
     (eh : hi ≡ highest kMax (length weights)) (el : lo ≡ lowest kMin hi) (code : ℕ)
-    (ec : code ≡ refusalOf weights coords d hi s (lengthsOf o work marks)) where
+    (ec : code ≡ refusalOf weights coords d hi s (lengthsOf o work workU32)) where
   abbrev whole : Outcome
-  whole = outcome o weights coords d s kMin kMax work marks
+  whole = outcome o weights coords d s kMin kMax work workU32
 
-  in-range : outcomeIn o weights coords d s lo hi work marks ≡ whole
+  in-range : outcomeIn o weights coords d s lo hi work workU32 ≡ whole
   in-range = rw (el, eh)
 
-  refused-in : (n : ℕ) → n ≡ refusalOf weights coords d hi s (lengthsOf o work marks) → (n ≡ 0 → ⊥)
-      → _≡_ {A = Outcome} (record { answer = Refused n; outputs = o }) (outcomeIn o weights coords d s lo hi work marks)
+  refused-in : (n : ℕ) → n ≡ refusalOf weights coords d hi s (lengthsOf o work workU32) → (n ≡ 0 → ⊥)
+      → _≡_ {A = Outcome} (record { answer = Refused n; outputs = o }) (outcomeIn o weights coords d s lo hi work workU32)
   refused-in zero e h = absurd (h refl)
   refused-in (suc n) e h = rw (← e)
 
@@ -71,9 +71,9 @@ module _ (o : Outputs) (weights coords : List Float) (d kMin kMax : ℕ) (s : Se
   refused h = refused-in code ec h ∙ in-range
 
   -- a call that is refused has nothing to keep
-  pub refused-best : (code ≡ 0 → ⊥) → AnswerKeepsBest o weights coords d s kMin kMax work marks (Refused code) o
+  pub refused-best : (code ≡ 0 → ⊥) → AnswerKeepsBest o weights coords d s kMin kMax work workU32 (Refused code) o
   refused-best h found z =
-      absurd (h (ec ∙ ap (λ (n : ℕ). refusalOf weights coords d n s (lengthsOf o work marks)) eh ∙ z))
+      absurd (h (ec ∙ ap (λ (n : ℕ). refusalOf weights coords d n s (lengthsOf o work workU32)) eh ∙ z))
 
   module _ (t : Tally) (r : Chosen) (o' : Outputs) (fit : Fitted weights coords d s o lo (hi + 1 - lo) t o') (er : r ≡ answerOf t) where
     done-in : _≡_ {A = Outcome} (record { answer = r; outputs = o' }) (ended o weights coords d s lo hi)
@@ -89,11 +89,11 @@ module _ (o : Outputs) (weights coords : List Float) (d kMin kMax : ℕ) (s : Se
 
     pub done : code ≡ 0 → _≡_ {A = Outcome} (record { answer = r; outputs = o' }) whole
     done z =
-        let f : _≡_ {A = Outcome} (record { answer = r; outputs = o' }) (outcomeIn o weights coords d s lo hi work marks) = rw (← ec, z) done-in in
+        let f : _≡_ {A = Outcome} (record { answer = r; outputs = o' }) (outcomeIn o weights coords d s lo hi work workU32) = rw (← ec, z) done-in in
         f ∙ in-range
 
     -- what holds of the best of the range holds of the call's own answer
-    pub done-best : AnswerKeepsBest o weights coords d s kMin kMax work marks r o'
+    pub done-best : AnswerKeepsBest o weights coords d s kMin kMax work workU32 r o'
     done-best found z =
         let order = lowest-most kMin hi lo el in
         let b = ended-best o weights coords d s lo hi order found in

@@ -50,14 +50,14 @@ module _ (weights coords : List Float) (d : ℕ) (s : Settings) where
     pub limit : n .counts .made + n .counts .saved ≤ 200 * length weights * sumOver (λ (j : ℕ). j) lo (hi + 1 - lo)
 
 -- ---- the third demand, of a call that 1 to 6 do not refuse: of the numbers that it gives, and the arrays after it
-abbrev pub KeepsBest : (o : Outputs) (weights coords : List Float) (d : ℕ) (s : Settings) (kMin kMax work marks : ℕ)
+abbrev pub KeepsBest : (o : Outputs) (weights coords : List Float) (d : ℕ) (s : Settings) (kMin kMax work workU32 : ℕ)
     → Numbers → Outputs → Type 0
-KeepsBest o weights coords d s kMin kMax work marks n o' =
+KeepsBest o weights coords d s kMin kMax work workU32 n o' =
     let hi = highest kMax (length weights) in
-    refusalOf weights coords d hi s (lengthsOf o work marks) ≡ 0 → Best weights coords d s (lowest kMin hi) hi n o o'
+    refusalOf weights coords d hi s (lengthsOf o work workU32) ≡ 0 → Best weights coords d s (lowest kMin hi) hi n o o'
 
 -- of its answer, whatever was found where the numbers are put
-abbrev pub AnswerKeepsBest : (o : Outputs) (weights coords : List Float) (d : ℕ) (s : Settings) (kMin kMax work marks : ℕ)
+abbrev pub AnswerKeepsBest : (o : Outputs) (weights coords : List Float) (d : ℕ) (s : Settings) (kMin kMax work workU32 : ℕ)
     → Chosen → Outputs → Type 0
-AnswerKeepsBest o weights coords d s kMin kMax work marks answer o' =
-    (found : Numbers) → KeepsBest o weights coords d s kMin kMax work marks (numbersOf found answer) o'
+AnswerKeepsBest o weights coords d s kMin kMax work workU32 answer o' =
+    (found : Numbers) → KeepsBest o weights coords d s kMin kMax work workU32 (numbersOf found answer) o'

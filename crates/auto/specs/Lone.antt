@@ -15,11 +15,11 @@ use Rattle.auto.specs.Refusals.{refusalOf}
 -- in a call of the automatic fit that 1 to 6 do not refuse, for each k of its range, with the same arrays
 abbrev pub LoneIsTheEntry : Type 0
 LoneIsTheEntry =
-    (o : Outputs) (weights coords : List Float) (d : ℕ) (s : Settings) (kMin kMax work marks k : ℕ)
+    (o : Outputs) (weights coords : List Float) (d : ℕ) (s : Settings) (kMin kMax work workU32 k : ℕ)
     → let hi = highest kMax (length weights) in
-    refusalOf weights coords d hi s (lengthsOf o work marks) ≡ 0 → lowest kMin hi ≤ k → k ≤ hi
+    refusalOf weights coords d hi s (lengthsOf o work workU32) ≡ 0 → lowest kMin hi ≤ k → k ≤ hi
     → let fit = lone weights coords d s k in
-    movmf.outcome o weights coords d k s work marks
+    movmf.outcome o weights coords d k s work workU32
     ≡ record {
       answer = Done k (fit .em .loglik) (fit .counts);
       outputs = written (length weights) k d (fit .em) o;

@@ -44,10 +44,10 @@ module _ (o : Outputs) (weights coords : List Float) (d : ℕ) (s : Settings) wh
   outcomeBy lo hi zero = ended lo hi
   outcomeBy lo hi (suc code) = record { answer = Refused (suc code); outputs = o }
 
-  abbrev pub outcomeIn : (lo hi work marks : ℕ) → Outcome
-  outcomeIn lo hi work marks = outcomeBy lo hi (refusalOf weights coords d hi s (lengthsOf o work marks))
+  abbrev pub outcomeIn : (lo hi work workU32 : ℕ) → Outcome
+  outcomeIn lo hi work workU32 = outcomeBy lo hi (refusalOf weights coords d hi s (lengthsOf o work workU32))
 
-  abbrev pub outcome : (kMin kMax work marks : ℕ) → Outcome
-  outcome kMin kMax work marks =
+  abbrev pub outcome : (kMin kMax work workU32 : ℕ) → Outcome
+  outcome kMin kMax work workU32 =
       let hi = highest kMax (length weights) in
-      outcomeIn (lowest kMin hi) hi work marks
+      outcomeIn (lowest kMin hi) hi work workU32

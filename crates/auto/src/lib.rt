@@ -58,18 +58,18 @@ pub fn movmf_auto_with(
     concentrations: &mut [f64],
     logw: &mut [f64],
     work: &mut [f64],
-    marks: &mut [u32],
+    work_u32: &mut [u32],
 ) -> Chosen
     ensures { λ r. ⌜ answered r (arrays (now (labels .exit)) (now (responsibilities .exit)) (now («group_weights» .exit))
         (now (directions .exit)) (now (concentrations .exit)) (now (logw .exit)))
         ≡ outcome (arrays (now (labels .entry)) (now (responsibilities .entry)) (now («group_weights» .entry))
         (now (directions .entry)) (now (concentrations .entry)) (now (logw .entry)))
         (now (weights .entry)) (now (coords .entry)) d s «k_min» «k_max»
-        (length (now (work .entry))) (length (now (marks .entry))) ⌝ }
+        (length (now (work .entry))) (length (now («work_u32» .entry))) ⌝ }
     ensures { λ r. ⌜ AnswerKeepsBest (arrays (now (labels .entry)) (now (responsibilities .entry)) (now («group_weights» .entry))
         (now (directions .entry)) (now (concentrations .entry)) (now (logw .entry)))
         (now (weights .entry)) (now (coords .entry)) d s «k_min» «k_max»
-        (length (now (work .entry))) (length (now (marks .entry))) r
+        (length (now (work .entry))) (length (now («work_u32» .entry))) r
         (arrays (now (labels .exit)) (now (responsibilities .exit)) (now («group_weights» .exit))
         (now (directions .exit)) (now (concentrations .exit)) (now (logw .exit))) ⌝ }
 {
@@ -84,7 +84,7 @@ pub fn movmf_auto_with(
         concentrations: concentrations.len(),
         logw: logw.len(),
         work: work.len(),
-        marks: marks.len(),
+        work_u32: work_u32.len(),
     };
     let groups = hi <= 64;
     let code = mixture_outputs::refusal(weights, coords, d, hi, groups, s, l);
@@ -107,7 +107,7 @@ pub fn movmf_auto_with(
         concentrations,
         logw,
         work,
-        marks,
+        work_u32,
     );
     answer(t)
 }
@@ -128,18 +128,18 @@ pub fn movmf_auto(
     concentrations: &mut [f64],
     logw: &mut [f64],
     work: &mut [f64],
-    marks: &mut [u32],
+    work_u32: &mut [u32],
 ) -> Chosen
     ensures { λ r. ⌜ answered r (arrays (now (labels .exit)) (now (responsibilities .exit)) (now («group_weights» .exit))
         (now (directions .exit)) (now (concentrations .exit)) (now (logw .exit)))
         ≡ outcome (arrays (now (labels .entry)) (now (responsibilities .entry)) (now («group_weights» .entry))
         (now (directions .entry)) (now (concentrations .entry)) (now (logw .entry)))
         (now (weights .entry)) (now (coords .entry)) d (record { rounds = rounds; seed = seed; kappa = Free }) «k_min» «k_max»
-        (length (now (work .entry))) (length (now (marks .entry))) ⌝ }
+        (length (now (work .entry))) (length (now («work_u32» .entry))) ⌝ }
     ensures { λ r. ⌜ AnswerKeepsBest (arrays (now (labels .entry)) (now (responsibilities .entry)) (now («group_weights» .entry))
         (now (directions .entry)) (now (concentrations .entry)) (now (logw .entry)))
         (now (weights .entry)) (now (coords .entry)) d (record { rounds = rounds; seed = seed; kappa = Free }) «k_min» «k_max»
-        (length (now (work .entry))) (length (now (marks .entry))) r
+        (length (now (work .entry))) (length (now («work_u32» .entry))) r
         (arrays (now (labels .exit)) (now (responsibilities .exit)) (now («group_weights» .exit))
         (now (directions .exit)) (now (concentrations .exit)) (now (logw .exit))) ⌝ }
 {
@@ -162,6 +162,6 @@ pub fn movmf_auto(
         concentrations,
         logw,
         work,
-        marks,
+        work_u32,
     )
 }

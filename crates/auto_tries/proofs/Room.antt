@@ -26,7 +26,7 @@ fittable-below weights coords m hi k d rounds l some most v =
                   sizes = sizes-of m k d (z .m-some) (z .m-small) some (omega (arith, z .k-small)) (z .d-some) (z .d-small);
                   work-long = omega (arith, r .halves .work-long, rows, groups);
                 };
-            marks-long = omega (arith, r .marks-long);
+            workU32-long = omega (arith, r .workU32-long);
             weights-long = r .weights-long;
             coords-long = r .coords-long;
             rounds-small = r .rounds-small;
@@ -50,8 +50,8 @@ pub fittable-of : (weights coords m k d rounds : ℕ) (l l' : Lengths) → l' �
     → Fittable weights coords m k d rounds l'
 fittable-of weights coords m k d rounds l l' e v = rw e v
 
-pub lengths-of : (o o' : Outputs) (work work' marks marks' : ℕ) → length (o' .labels) ≡ length (o .labels)
+pub lengths-of : (o o' : Outputs) (work work' workU32 workU32' : ℕ) → length (o' .labels) ≡ length (o .labels)
     → length (o' .responsibilities) ≡ length (o .responsibilities) → length (o' .weights) ≡ length (o .weights)
     → length (o' .directions) ≡ length (o .directions) → length (o' .concentrations) ≡ length (o .concentrations)
-    → length (o' .logw) ≡ length (o .logw) → work' ≡ work → marks' ≡ marks → lengthsOf o' work' marks' ≡ lengthsOf o work marks
-lengths-of o o' work work' marks marks' e1 e2 e3 e4 e5 e6 e7 e8 = rw (e1, e2, e3, e4, e5, e6, e7, e8)
+    → length (o' .logw) ≡ length (o .logw) → work' ≡ work → workU32' ≡ workU32 → lengthsOf o' work' workU32' ≡ lengthsOf o work workU32
+lengths-of o o' work work' workU32 workU32' e1 e2 e3 e4 e5 e6 e7 e8 = rw (e1, e2, e3, e4, e5, e6, e7, e8)

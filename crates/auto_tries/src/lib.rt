@@ -34,11 +34,11 @@ fn fit_of_k(
     concentrations: &mut [f64],
     logw: &mut [f64],
     work: &mut [f64],
-    marks: &mut [u32],
+    work_u32: &mut [u32],
 ) -> Tally
     requires { ⌜ Fittable (length (now weights)) (length (now coords)) (length (now weights)) k d (s .rounds)
         (lengthsOf (arrays (now labels) (now responsibilities) (now «group_weights») (now directions) (now concentrations)
-        (now logw)) (length (now work)) (length (now marks))) ⌝ }
+        (now logw)) (length (now work)) (length (now «work_u32»))) ⌝ }
     requires { ⌜ (AtMost (ofRuns 252) (t .counts)) × («ln_total» ≡ lnOf (totalOf (now weights))) ⌝ }
     ensures { λ q. ⌜ FitOfK (now (weights .entry)) (now (coords .entry)) d s k t q
         (arrays (now (labels .entry)) (now (responsibilities .entry)) (now («group_weights» .entry))
@@ -47,7 +47,7 @@ fn fit_of_k(
         (now (directions .exit)) (now (concentrations .exit)) (now (logw .exit))) ⌝ }
 {
     let m = weights.len();
-    let r = mixture_restarts::four_runs(work, marks, weights, coords, s, m, k, d);
+    let r = mixture_restarts::four_runs(work, work_u32, weights, coords, s, m, k, d);
     let loglik = mixture_restarts::kept_loglik(r);
     let kappa = s.kappa;
     let score = auto_choice::score_at(kappa, k, d, loglik, ln_total);
@@ -98,11 +98,11 @@ pub fn fit_range(
     concentrations: &mut [f64],
     logw: &mut [f64],
     work: &mut [f64],
-    marks: &mut [u32],
+    work_u32: &mut [u32],
 ) -> Tally
     requires { ⌜ Fittable (length (now weights)) (length (now coords)) (length (now weights)) hi d (s .rounds)
         (lengthsOf (arrays (now labels) (now responsibilities) (now «group_weights») (now directions) (now concentrations)
-        (now logw)) (length (now work)) (length (now marks))) ⌝ }
+        (now logw)) (length (now work)) (length (now «work_u32»))) ⌝ }
     requires { ⌜ (1 ≤ lo) × (lo ≤ hi) × («ln_total» ≡ lnOf (totalOf (now weights))) ⌝ }
     ensures { λ t. ⌜ Fitted (now (weights .entry)) (now (coords .entry)) d s
         (arrays (now (labels .entry)) (now (responsibilities .entry)) (now («group_weights» .entry))
@@ -132,7 +132,7 @@ pub fn fit_range(
             concentrations,
             logw,
             work,
-            marks,
+            work_u32,
         );
         k += 1;
     }

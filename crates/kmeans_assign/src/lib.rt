@@ -87,17 +87,17 @@ fn bounds_by(b: kmeans_nearest::Best, o: kmeans_bounds::Bounds, k: usize) -> kme
 // Leaf i is given its best centre; whether its label changes.
 fn place_leaf(
     work: &mut [f64],
-    marks: &mut [u32],
+    work_u32: &mut [u32],
     coords: &[f64],
     i: usize,
     m: usize,
     k: usize,
     d: usize,
 ) -> bool
-    requires { ⌜ Sized (length (now work)) (length (now marks)) (length (now coords)) m k d ⌝ }
+    requires { ⌜ Sized (length (now work)) (length (now «work_u32»)) (length (now coords)) m k d ⌝ }
     requires { ⌜ LeafOf i m d ⌝ }
-    ensures { λ r. ⌜ LeafPlaced (now (coords .entry)) k d i (stateIn m k d (now (work .entry)) (now (marks .entry)))
-        (stateIn m k d (now (work .exit)) (now (marks .exit))) r ⌝ }
+    ensures { λ r. ⌜ LeafPlaced (now (coords .entry)) k d i (stateIn m k d (now (work .entry)) (now («work_u32» .entry)))
+        (stateIn m k d (now (work .exit)) (now («work_u32» .exit))) r ⌝ }
 {
     let kd = k * d;
     let at = i * d;
@@ -108,8 +108,8 @@ fn place_leaf(
     work[served + i] = b.dot;
     put_bounds(work, i, bounds_by(b, o, k), m, k, d);
     let label = b.index as u32;
-    let changed = marks[i] != label;
-    marks[i] = label;
+    let changed = work_u32[i] != label;
+    work_u32[i] = label;
     changed
 }
 
@@ -122,7 +122,7 @@ pub struct Turn {
 // Leaf i in a pass of round `it`: skipped, or given its best centre.
 fn assign_leaf(
     work: &mut [f64],
-    marks: &mut [u32],
+    work_u32: &mut [u32],
     coords: &[f64],
     it: usize,
     i: usize,
@@ -130,10 +130,10 @@ fn assign_leaf(
     k: usize,
     d: usize,
 ) -> Turn
-    requires { ⌜ Sized (length (now work)) (length (now marks)) (length (now coords)) m k d ⌝ }
+    requires { ⌜ Sized (length (now work)) (length (now «work_u32»)) (length (now coords)) m k d ⌝ }
     requires { ⌜ LeafOf i m d ⌝ }
-    ensures { λ r. ⌜ LeafPassed (now (coords .entry)) k d it i (stateIn m k d (now (work .entry)) (now (marks .entry)))
-        (stateIn m k d (now (work .exit)) (now (marks .exit))) r ⌝ }
+    ensures { λ r. ⌜ LeafPassed (now (coords .entry)) k d it i (stateIn m k d (now (work .entry)) (now («work_u32» .entry)))
+        (stateIn m k d (now (work .exit)) (now («work_u32» .exit))) r ⌝ }
 {
     let b = bounds_at(work, i, m, k, d);
     if kmeans_bounds::is_skipped(b, it) {
@@ -144,7 +144,7 @@ fn assign_leaf(
     }
     Turn {
         skipped: false,
-        changed: place_leaf(work, marks, coords, i, m, k, d),
+        changed: place_leaf(work, work_u32, coords, i, m, k, d),
     }
 }
 
@@ -152,7 +152,7 @@ fn assign_leaf(
 // anyway.
 fn turn_leaf(
     work: &mut [f64],
-    marks: &mut [u32],
+    work_u32: &mut [u32],
     coords: &[f64],
     t: kmeans_bounds::Slowest,
     it: usize,
@@ -161,13 +161,13 @@ fn turn_leaf(
     k: usize,
     d: usize,
 ) -> Turn
-    requires { ⌜ Sized (length (now work)) (length (now marks)) (length (now coords)) m k d ⌝ }
-    requires { ⌜ (LeafOf i m d) × (getD (now marks) i 0 < k) ⌝ }
+    requires { ⌜ Sized (length (now work)) (length (now «work_u32»)) (length (now coords)) m k d ⌝ }
+    requires { ⌜ (LeafOf i m d) × (getD (now «work_u32») i 0 < k) ⌝ }
     ensures { λ r. ⌜ LeafPassed (now (coords .entry)) k d it i
-        (shiftLeaf k t i (stateIn m k d (now (work .entry)) (now (marks .entry))))
-        (stateIn m k d (now (work .exit)) (now (marks .exit))) r ⌝ }
+        (shiftLeaf k t i (stateIn m k d (now (work .entry)) (now («work_u32» .entry))))
+        (stateIn m k d (now (work .exit)) (now («work_u32» .exit))) r ⌝ }
 {
-    let label = marks[i] as usize;
+    let label = work_u32[i] as usize;
     let drift = kmeans_layout::drift_at(m, k, d);
     let own = work[drift + label];
     let other = other_drift(t, label);
@@ -175,12 +175,12 @@ fn turn_leaf(
     if is_spent(b, own, other, k) {
         return Turn {
             skipped: false,
-            changed: place_leaf(work, marks, coords, i, m, k, d),
+            changed: place_leaf(work, work_u32, coords, i, m, k, d),
         };
     }
     let s = kmeans_bounds::shifted(b, own, other, k > 1);
     put_bounds(work, i, s, m, k, d);
-    assign_leaf(work, marks, coords, it, i, m, k, d)
+    assign_leaf(work, work_u32, coords, it, i, m, k, d)
 }
 
 // What a pass answers: whether a label changed, and the products made and saved.
@@ -217,16 +217,16 @@ fn tally(p: Passed, t: Turn, k: usize) -> Passed
 // The pass of round `it` over the bounds as they are.
 fn assign(
     work: &mut [f64],
-    marks: &mut [u32],
+    work_u32: &mut [u32],
     coords: &[f64],
     it: usize,
     m: usize,
     k: usize,
     d: usize,
 ) -> Passed
-    requires { ⌜ Sized (length (now work)) (length (now marks)) (length (now coords)) m k d ⌝ }
-    ensures { λ r. ⌜ passed (stateIn m k d (now (work .exit)) (now (marks .exit))) r
-        ≡ passUpTo (now (coords .entry)) k d it (stateIn m k d (now (work .entry)) (now (marks .entry))) m ⌝ }
+    requires { ⌜ Sized (length (now work)) (length (now «work_u32»)) (length (now coords)) m k d ⌝ }
+    ensures { λ r. ⌜ passed (stateIn m k d (now (work .exit)) (now («work_u32» .exit))) r
+        ≡ passUpTo (now (coords .entry)) k d it (stateIn m k d (now (work .entry)) (now («work_u32» .entry))) m ⌝ }
     ensures { λ r. ⌜ AtMost ofRound (r .counts) ⌝ }
 {
     let mut p = Passed {
@@ -235,7 +235,7 @@ fn assign(
     };
     let mut i = 0;
     while i < m {
-        let t = assign_leaf(work, marks, coords, it, i, m, k, d);
+        let t = assign_leaf(work, work_u32, coords, it, i, m, k, d);
         p = tally(p, t, k);
         i += 1;
     }
@@ -245,17 +245,17 @@ fn assign(
 // The pass of round `it` after the first, with the shift of the bounds, leaf by leaf.
 fn shift_and_assign(
     work: &mut [f64],
-    marks: &mut [u32],
+    work_u32: &mut [u32],
     coords: &[f64],
     it: usize,
     m: usize,
     k: usize,
     d: usize,
 ) -> Passed
-    requires { ⌜ Sized (length (now work)) (length (now marks)) (length (now coords)) m k d ⌝ }
-    requires { ⌜ Labelled m k (stateIn m k d (now work) (now marks)) ⌝ }
-    ensures { λ r. ⌜ passed (stateIn m k d (now (work .exit)) (now (marks .exit))) r
-        ≡ (let s = stateIn m k d (now (work .entry)) (now (marks .entry)) in
+    requires { ⌜ Sized (length (now work)) (length (now «work_u32»)) (length (now coords)) m k d ⌝ }
+    requires { ⌜ Labelled m k (stateIn m k d (now work) (now «work_u32»)) ⌝ }
+    ensures { λ r. ⌜ passed (stateIn m k d (now (work .exit)) (now («work_u32» .exit))) r
+        ≡ (let s = stateIn m k d (now (work .entry)) (now («work_u32» .entry)) in
         passUpTo (now (coords .entry)) k d it (shiftUpTo k (slowestOf (s .drift)) s m) m) ⌝ }
     ensures { λ r. ⌜ AtMost ofRound (r .counts) ⌝ }
 {
@@ -268,7 +268,7 @@ fn shift_and_assign(
     };
     let mut i = 0;
     while i < m {
-        let turn = turn_leaf(work, marks, coords, t, it, i, m, k, d);
+        let turn = turn_leaf(work, work_u32, coords, t, it, i, m, k, d);
         p = tally(p, turn, k);
         i += 1;
     }
@@ -278,21 +278,21 @@ fn shift_and_assign(
 // The pass, after the first round with the shift.
 pub fn pass(
     work: &mut [f64],
-    marks: &mut [u32],
+    work_u32: &mut [u32],
     coords: &[f64],
     it: usize,
     m: usize,
     k: usize,
     d: usize,
 ) -> Passed
-    requires { ⌜ Sized (length (now work)) (length (now marks)) (length (now coords)) m k d ⌝ }
-    requires { ⌜ Labelled m k (stateIn m k d (now work) (now marks)) ⌝ }
-    ensures { λ r. ⌜ passed (stateIn m k d (now (work .exit)) (now (marks .exit))) r
-        ≡ passOf (now (coords .entry)) m k d it (stateIn m k d (now (work .entry)) (now (marks .entry))) ⌝ }
+    requires { ⌜ Sized (length (now work)) (length (now «work_u32»)) (length (now coords)) m k d ⌝ }
+    requires { ⌜ Labelled m k (stateIn m k d (now work) (now «work_u32»)) ⌝ }
+    ensures { λ r. ⌜ passed (stateIn m k d (now (work .exit)) (now («work_u32» .exit))) r
+        ≡ passOf (now (coords .entry)) m k d it (stateIn m k d (now (work .entry)) (now («work_u32» .entry))) ⌝ }
     ensures { λ r. ⌜ AtMost ofRound (r .counts) ⌝ }
 {
     if it > 0 {
-        return shift_and_assign(work, marks, coords, it, m, k, d);
+        return shift_and_assign(work, work_u32, coords, it, m, k, d);
     }
-    assign(work, marks, coords, it, m, k, d)
+    assign(work, work_u32, coords, it, m, k, d)
 }

@@ -9,7 +9,7 @@ use lib.Ieee.{Float}
 use Rattle.rows.specs.Rows.{part, putPart, cut, rowOf}
 use Rattle.rows.proofs.Rows.{row-within, cut-set, cut-put, cut-whole, cut-length, cut-put-whole, cut-get, cut-part}
 use Rattle.kmeans_layout.specs.State.{State}
-use Rattle.kmeans_layout.specs.Areas.{lengths, markLengths, total, named, stateIn, sumsIn, countsIn, sumsAt, scaleAt, lowAt, highAt, servedAt, driftAt}
+use Rattle.kmeans_layout.specs.Areas.{lengths, workU32Lengths, total, named, stateIn, sumsIn, countsIn, sumsAt, scaleAt, lowAt, highAt, servedAt, driftAt}
 
 -- the state with another list in one field
 abbrev pub withCenters : List Float → State → State
@@ -97,11 +97,11 @@ withLabels l s =
     }
 
 module _ (m k d : ℕ) (w : List Float) (u : List ℕ) where
-  in-work : {a b : List (List Float)} → a ≡ b → named a (cut (markLengths m k) u) ≡ named b (cut (markLengths m k) u)
-  in-work e = ap (λ (l : List (List Float)). named l (cut (markLengths m k) u)) e
+  in-work : {a b : List (List Float)} → a ≡ b → named a (cut (workU32Lengths m k) u) ≡ named b (cut (workU32Lengths m k) u)
+  in-work e = ap (λ (l : List (List Float)). named l (cut (workU32Lengths m k) u)) e
 
-  in-marks : {a b : List (List ℕ)} → a ≡ b → named (cut (lengths m k d) w) a ≡ named (cut (lengths m k d) w) b
-  in-marks e = ap (λ (l : List (List ℕ)). named (cut (lengths m k d) w) l) e
+  in-workU32 : {a b : List (List ℕ)} → a ≡ b → named (cut (lengths m k d) w) a ≡ named (cut (lengths m k d) w) b
+  in-workU32 e = ap (λ (l : List (List ℕ)). named (cut (lengths m k d) w) l) e
 
   -- one element stored
   pub set-scale : (i : ℕ) (x : Float) → i < m → stateIn m k d (set w (scaleAt m k d + i) x) u ≡ withScale (set (stateIn m k d w u .scale) i x) (stateIn m k d w u)
@@ -126,11 +126,11 @@ module _ (m k d : ℕ) (w : List Float) (u : List ℕ) where
 
   pub set-labels : (i x : ℕ) → i < m → stateIn m k d w (set u i x) ≡ withLabels (set (stateIn m k d w u .labels) i x) (stateIn m k d w u)
   unfolding stateIn
-  set-labels i x h = in-marks (cut-set (markLengths m k) u 0 i i x (omega arith) h)
+  set-labels i x h = in-workU32 (cut-set (workU32Lengths m k) u 0 i i x (omega arith) h)
 
   pub set-counts-state : (i x : ℕ) → i < k → stateIn m k d w (set u (m + i) x) ≡ stateIn m k d w u
   unfolding stateIn
-  set-counts-state i x h = in-marks (cut-set (markLengths m k) u 1 (m + i) i x (omega arith) h)
+  set-counts-state i x h = in-workU32 (cut-set (workU32Lengths m k) u 1 (m + i) i x (omega arith) h)
 
   -- one element read
   pub get-scale : (i : ℕ) (z : Float) → i < m → getD w (scaleAt m k d + i) z ≡ getD (stateIn m k d w u .scale) i z
@@ -151,7 +151,7 @@ module _ (m k d : ℕ) (w : List Float) (u : List ℕ) where
 
   pub get-labels : (i z : ℕ) → i < m → getD u i z ≡ getD (stateIn m k d w u .labels) i z
   unfolding stateIn
-  get-labels i z h = cut-get (markLengths m k) u 0 i i z (omega arith) h
+  get-labels i z h = cut-get (workU32Lengths m k) u 0 i i z (omega arith) h
 
   -- a part or a row
   pub part-centers : (i n : ℕ) → i + n ≤ k * d → part w i n ≡ part (stateIn m k d w u .centers) i n
@@ -223,11 +223,11 @@ module _ (m k d : ℕ) (w : List Float) (u : List ℕ) where
 
   pub put-labels-all : (v : List ℕ) → length v ≡ m → m + k ≤ length u → stateIn m k d w (putPart u 0 m v) ≡ withLabels v (stateIn m k d w u)
   unfolding stateIn
-  put-labels-all v e g = in-marks (cut-put-whole (markLengths m k) u 0 0 m v refl refl e (omega arith))
+  put-labels-all v e g = in-workU32 (cut-put-whole (workU32Lengths m k) u 0 0 m v refl refl e (omega arith))
 
   pub put-counts-all-state : (v : List ℕ) → length v ≡ k → m + k ≤ length u → stateIn m k d w (putPart u m k v) ≡ stateIn m k d w u
   unfolding stateIn
-  put-counts-all-state v e g = in-marks (cut-put-whole (markLengths m k) u 1 m k v (omega arith) refl e (omega arith))
+  put-counts-all-state v e g = in-workU32 (cut-put-whole (workU32Lengths m k) u 1 m k v (omega arith) refl e (omega arith))
 
   -- the lengths of the fields
   pub length-centers : total m k d ≤ length w → length (stateIn m k d w u .centers) ≡ k * d
@@ -298,10 +298,10 @@ module _ (m k : ℕ) (u : List ℕ) where
   in-counts e = ap (λ (l : List (List ℕ)). getD l 1 []) e
 
   pub set-counts : (i x : ℕ) → i < k → countsIn m k (set u (m + i) x) ≡ set (countsIn m k u) i x
-  set-counts i x h = in-counts (cut-set (markLengths m k) u 1 (m + i) i x (omega arith) h)
+  set-counts i x h = in-counts (cut-set (workU32Lengths m k) u 1 (m + i) i x (omega arith) h)
 
   pub get-counts : (i z : ℕ) → i < k → getD u (m + i) z ≡ getD (countsIn m k u) i z
-  get-counts i z h = cut-get (markLengths m k) u 1 (m + i) i z (omega arith) h
+  get-counts i z h = cut-get (workU32Lengths m k) u 1 (m + i) i z (omega arith) h
 
   pub put-counts-all : (v : List ℕ) → length v ≡ k → m + k ≤ length u → countsIn m k (putPart u m k v) ≡ v
-  put-counts-all v e g = in-counts (cut-put-whole (markLengths m k) u 1 m k v (omega arith) refl e (omega arith))
+  put-counts-all v e g = in-counts (cut-put-whole (workU32Lengths m k) u 1 m k v (omega arith) refl e (omega arith))

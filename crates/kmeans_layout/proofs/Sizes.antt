@@ -10,11 +10,11 @@ use Rattle.kmeans_layout.specs.State.{State}
 use Rattle.kmeans_layout.proofs.Regions.{get-labels}
 
 -- arrays of the same lengths are sized as well
-pub sized-of : (work work' marks marks' coords m k d : ℕ) → work' ≡ work → marks' ≡ marks → Sized work marks coords m k d → Sized work' marks' coords m k d
-sized-of work work' marks marks' coords m k d e f s = rw (e, f) s
+pub sized-of : (work work' workU32 workU32' coords m k d : ℕ) → work' ≡ work → workU32' ≡ workU32 → Sized work workU32 coords m k d → Sized work' workU32' coords m k d
+sized-of work work' workU32 workU32' coords m k d e f s = rw (e, f) s
 
-pub area-of : (work marks coords m k d : ℕ) → Sized work marks coords m k d → Area work m k d
-area-of work marks coords m k d s = record { sizes = s .sizes; work-long = s .work-long }
+pub area-of : (work workU32 coords m k d : ℕ) → Sized work workU32 coords m k d → Area work m k d
+area-of work workU32 coords m k d s = record { sizes = s .sizes; work-long = s .work-long }
 
 pub leaf-of : (i m d : ℕ) → i < m → LeafOf i m d
 leaf-of i m d h = record { below = h; row = row-within i m d h }

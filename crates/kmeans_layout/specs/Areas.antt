@@ -12,8 +12,8 @@ use Rattle.kmeans_layout.specs.State.{State}
 abbrev pub lengths : ℕ → ℕ → ℕ → List ℕ
 lengths m k d = k * d ∷ k * d ∷ m ∷ m ∷ m ∷ m ∷ k ∷ []
 
-abbrev pub markLengths : ℕ → ℕ → List ℕ
-markLengths m k = m ∷ k ∷ []
+abbrev pub workU32Lengths : ℕ → ℕ → List ℕ
+workU32Lengths m k = m ∷ k ∷ []
 
 abbrev pub total : ℕ → ℕ → ℕ → ℕ
 total m k d = k * d + k * d + m + m + m + m + k
@@ -32,7 +32,7 @@ named w u =
 
 -- the state that two areas hold
 unfoldable pub stateIn : ℕ → ℕ → ℕ → List Float → List ℕ → State
-stateIn m k d w u = named (cut (lengths m k d) w) (cut (markLengths m k) u)
+stateIn m k d w u = named (cut (lengths m k d) w) (cut (workU32Lengths m k) u)
 
 -- the sums and the counts beside it
 abbrev pub sumsIn : ℕ → ℕ → List Float → List Float
@@ -61,10 +61,10 @@ abbrev pub driftAt : ℕ → ℕ → ℕ → ℕ
 driftAt m k d = k * d + k * d + m + m + m + m
 
 -- the lengths of the two areas and of the coordinates: m leaves of d coordinates, k groups
-pub record Sized (work marks coords m k d : ℕ) : Type 0 where
+pub record Sized (work workU32 coords m k d : ℕ) : Type 0 where
   pub sizes : Sizes m k d
   pub work-long : total m k d ≤ work
-  pub marks-long : m + k ≤ marks
+  pub workU32-long : m + k ≤ workU32
   pub coords-long : coords ≡ m * d
 
 -- leaf i and its row; group c and its row

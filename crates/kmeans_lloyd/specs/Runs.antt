@@ -64,8 +64,8 @@ putScale v s =
     }
 
 -- ---- a whole run
-pub record Runnable (work marks weights coords m k d rounds : ℕ) : Type 0 where
-  pub sized : Sized work marks coords m k d
+pub record Runnable (work workU32 weights coords m k d rounds : ℕ) : Type 0 where
+  pub sized : Sized work workU32 coords m k d
   pub weights-long : weights ≡ m
   pub rounds-small : rounds ≤ 10000
 

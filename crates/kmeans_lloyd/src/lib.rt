@@ -21,7 +21,7 @@ pub struct Round {
 // Round `it`: the pass, and unless it ends the run the update.
 fn one_round(
     work: &mut [f64],
-    marks: &mut [u32],
+    work_u32: &mut [u32],
     weights: &[f64],
     coords: &[f64],
     it: usize,
@@ -29,13 +29,13 @@ fn one_round(
     k: usize,
     d: usize,
 ) -> Round
-    requires { ⌜ Sized (length (now work)) (length (now marks)) (length (now coords)) m k d ⌝ }
-    requires { ⌜ (length (now weights) ≡ m) × Labelled m k (stateIn m k d (now work) (now marks)) ⌝ }
+    requires { ⌜ Sized (length (now work)) (length (now «work_u32»)) (length (now coords)) m k d ⌝ }
+    requires { ⌜ (length (now weights) ≡ m) × Labelled m k (stateIn m k d (now work) (now «work_u32»)) ⌝ }
     ensures { λ r. ⌜ RoundDone (now (weights .entry)) (now (coords .entry)) m k d it
-        (stateIn m k d (now (work .entry)) (now (marks .entry)))
-        (stateIn m k d (now (work .exit)) (now (marks .exit))) r ⌝ }
+        (stateIn m k d (now (work .entry)) (now («work_u32» .entry)))
+        (stateIn m k d (now (work .exit)) (now («work_u32» .exit))) r ⌝ }
 {
-    let p = kmeans_assign::pass(work, marks, coords, it, m, k, d);
+    let p = kmeans_assign::pass(work, work_u32, coords, it, m, k, d);
     let c = p.counts;
     if !p.changed & (it > 0) {
         return Round {
@@ -43,7 +43,7 @@ fn one_round(
             counts: c,
         };
     }
-    kmeans_update::update(work, marks, weights, coords, m, k, d);
+    kmeans_update::update(work, work_u32, weights, coords, m, k, d);
     Round {
         ended: false,
         counts: c,
@@ -53,7 +53,7 @@ fn one_round(
 // Rounds until no label changes after the first, at most `rounds`.
 fn lloyd(
     work: &mut [f64],
-    marks: &mut [u32],
+    work_u32: &mut [u32],
     weights: &[f64],
     coords: &[f64],
     m: usize,
@@ -61,16 +61,16 @@ fn lloyd(
     d: usize,
     rounds: usize,
 ) -> counts::Counts
-    requires { ⌜ Sized (length (now work)) (length (now marks)) (length (now coords)) m k d ⌝ }
-    requires { ⌜ (length (now weights) ≡ m) × (rounds ≤ 10000) × Labelled m k (stateIn m k d (now work) (now marks)) ⌝ }
+    requires { ⌜ Sized (length (now work)) (length (now «work_u32»)) (length (now coords)) m k d ⌝ }
+    requires { ⌜ (length (now weights) ≡ m) × (rounds ≤ 10000) × Labelled m k (stateIn m k d (now work) (now «work_u32»)) ⌝ }
     ensures { λ r. ⌜ RunSoFar (roundsFrom (now (weights .entry)) (now (coords .entry)) m k d rounds 0
-        (freshRun (stateIn m k d (now (work .entry)) (now (marks .entry)))))
-        (stateIn m k d (now (work .exit)) (now (marks .exit))) r ⌝ }
+        (freshRun (stateIn m k d (now (work .entry)) (now («work_u32» .entry)))))
+        (stateIn m k d (now (work .exit)) (now («work_u32» .exit))) r ⌝ }
 {
     let mut c = counts::none();
     let mut it = 0;
     while it < rounds {
-        let r = one_round(work, marks, weights, coords, it, m, k, d);
+        let r = one_round(work, work_u32, weights, coords, it, m, k, d);
         c = counts::plus(c, r.counts);
         if r.ended {
             break;
@@ -128,10 +128,10 @@ fn leaf_norms(work: &mut [f64], coords: &[f64], m: usize, k: usize, d: usize)
 }
 
 // Everything but the centres as before the first round.
-fn start(work: &mut [f64], marks: &mut [u32], coords: &[f64], m: usize, k: usize, d: usize)
-    requires { ⌜ Sized (length (now work)) (length (now marks)) (length (now coords)) m k d ⌝ }
-    ensures { λ _. ⌜ stateIn m k d (now (work .exit)) (now (marks .exit))
-        ≡ startedFrom (now (coords .entry)) m k d (stateIn m k d (now (work .entry)) (now (marks .entry)) .centers) ⌝ }
+fn start(work: &mut [f64], work_u32: &mut [u32], coords: &[f64], m: usize, k: usize, d: usize)
+    requires { ⌜ Sized (length (now work)) (length (now «work_u32»)) (length (now coords)) m k d ⌝ }
+    ensures { λ _. ⌜ stateIn m k d (now (work .exit)) (now («work_u32» .exit))
+        ≡ startedFrom (now (coords .entry)) m k d (stateIn m k d (now (work .entry)) (now («work_u32» .entry)) .centers) ⌝ }
 {
     let low = kmeans_layout::low_at(m, k, d);
     let high = kmeans_layout::high_at(m, k, d);
@@ -142,7 +142,7 @@ fn start(work: &mut [f64], marks: &mut [u32], coords: &[f64], m: usize, k: usize
     kmeans_layout::fill_at(work, high, m, 1.0 / 0.0);
     kmeans_layout::fill_at(work, served, m, -1.0 / 0.0);
     kmeans_layout::fill_at(work, drift, k, 1.0);
-    rows::fill_u32(&mut marks[..m], 0);
+    rows::fill_u32(&mut work_u32[..m], 0);
 }
 
 // ---- a whole run
@@ -158,7 +158,7 @@ pub struct RunEnd {
 // areas.
 pub fn run(
     work: &mut [f64],
-    marks: &mut [u32],
+    work_u32: &mut [u32],
     weights: &[f64],
     coords: &[f64],
     generator: u64,
@@ -167,17 +167,17 @@ pub fn run(
     d: usize,
     rounds: usize,
 ) -> RunEnd
-    requires { ⌜ Runnable (length (now work)) (length (now marks)) (length (now weights)) (length (now coords))
+    requires { ⌜ Runnable (length (now work)) (length (now «work_u32»)) (length (now weights)) (length (now coords))
         m k d rounds ⌝ }
     ensures { λ r. ⌜ RunDone (resultOf (now (weights .entry)) (now (coords .entry)) m k d rounds generator)
-        (stateIn m k d (now (work .exit)) (now (marks .exit))) r ⌝ }
+        (stateIn m k d (now (work .exit)) (now («work_u32» .exit))) r ⌝ }
     ensures { λ _. ⌜ RunLeft (now (weights .entry)) (now (coords .entry)) m k d
-        (now (work .exit)) (now (marks .exit)) ⌝ }
+        (now (work .exit)) (now («work_u32» .exit)) ⌝ }
 {
     let next = kmeans_seeding::seed(work, weights, coords, generator, m, k, d);
-    start(work, marks, coords, m, k, d);
-    let c = lloyd(work, marks, weights, coords, m, k, d, rounds);
-    let cohesion = kmeans_sums::cohesion_of(work, marks, weights, coords, m, k, d);
+    start(work, work_u32, coords, m, k, d);
+    let c = lloyd(work, work_u32, weights, coords, m, k, d, rounds);
+    let cohesion = kmeans_sums::cohesion_of(work, work_u32, weights, coords, m, k, d);
     RunEnd {
         cohesion,
         counts: c,

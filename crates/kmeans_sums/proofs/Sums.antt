@@ -73,7 +73,7 @@ unfolding sumsUpTo countsUpTo
 cleared weights coords m k d lc w w' u q z e f =
     let p : m + k - m ≡ k = omega arith in
     let t = z .work-long in
-    let h = z .marks-long in
+    let h = z .workU32-long in
     let f₁ : q ≡ replicate k 0 = f ∙ rw (p, length-part u m k (omega arith)) in
     let zs = replicate (k * d) plusZero in
     let os : List ℕ = replicate k 0 in

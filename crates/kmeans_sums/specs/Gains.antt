@@ -9,13 +9,13 @@ use Rattle.kmeans_sums.specs.Sums.{addLeaf, countOne, sumsUpTo, countsUp
 use Rattle.kmeans_layout.specs.Areas.{stateIn, sumsIn, countsIn}
 
 -- leaf i has a label below k, whose count is far from the end of a u32
-pub record Gains (marks : List ℕ) (weights : List Float) (i m k d : ℕ) : Type 0 where
+pub record Gains (workU32 : List ℕ) (weights : List Float) (i m k d : ℕ) : Type 0 where
   pub below : i < m
   pub row : i * d + d ≤ m * d
   pub weights-long : length weights ≡ m
-  pub label-below : getD marks i 0 < k
-  pub label-row : getD marks i 0 * d + d ≤ k * d
-  pub count-small : getD marks (m + getD marks i 0) 0 ≤ 4096
+  pub label-below : getD workU32 i 0 < k
+  pub label-row : getD workU32 i 0 * d + d ≤ k * d
+  pub count-small : getD workU32 (m + getD workU32 i 0) 0 ≤ 4096
 
 -- leaf i adds its row to the sum of its label, which counts it; the state stays
 pub record Gained (weights coords : List Float) (i m k d : ℕ) (w w' : List Float) (u u' : List ℕ) : Type 0 where

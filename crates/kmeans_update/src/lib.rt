@@ -16,14 +16,14 @@ ghost use Rattle.kmeans_update.specs.Groups.{serveLeaf, serveLeaves, kee
 // ---- how well the leaves are served
 
 // Whether a group has no leaf.
-fn has_empty(marks: &[u32], m: usize, k: usize) -> bool
-    requires { ⌜ (m ≤ 4096) × (k ≤ 64) × (m + k ≤ length (now marks)) ⌝ }
-    ensures { λ r. ⌜ r ≡ emptyUpTo (countsIn m k (now (marks .entry))) k ⌝ }
+fn has_empty(work_u32: &[u32], m: usize, k: usize) -> bool
+    requires { ⌜ (m ≤ 4096) × (k ≤ 64) × (m + k ≤ length (now «work_u32»)) ⌝ }
+    ensures { λ r. ⌜ r ≡ emptyUpTo (countsIn m k (now («work_u32» .entry))) k ⌝ }
 {
     let mut found = false;
     let mut c = 0;
     while c < k {
-        found = found | (marks[m + c] == 0);
+        found = found | (work_u32[m + c] == 0);
         c += 1;
     }
     found
@@ -32,21 +32,21 @@ fn has_empty(marks: &[u32], m: usize, k: usize) -> bool
 // Leaf i is served as well as the centre of its label serves it.
 fn refresh_leaf(
     work: &mut [f64],
-    marks: &[u32],
+    work_u32: &[u32],
     coords: &[f64],
     i: usize,
     m: usize,
     k: usize,
     d: usize,
 )
-    requires { ⌜ Sized (length (now work)) (length (now marks)) (length (now coords)) m k d ⌝ }
-    requires { ⌜ (LeafOf i m d) × GroupOf (getD (now marks) i 0) k d ⌝ }
-    ensures { λ _. ⌜ stateIn m k d (now (work .exit)) (now (marks .entry))
-        ≡ serveLeaf (now (coords .entry)) d i (stateIn m k d (now (work .entry)) (now (marks .entry))) ⌝ }
+    requires { ⌜ Sized (length (now work)) (length (now «work_u32»)) (length (now coords)) m k d ⌝ }
+    requires { ⌜ (LeafOf i m d) × GroupOf (getD (now «work_u32») i 0) k d ⌝ }
+    ensures { λ _. ⌜ stateIn m k d (now (work .exit)) (now («work_u32» .entry))
+        ≡ serveLeaf (now (coords .entry)) d i (stateIn m k d (now (work .entry)) (now («work_u32» .entry))) ⌝ }
     ensures { λ _. ⌜ sumsIn k d (now (work .exit)) ≡ sumsIn k d (now (work .entry)) ⌝ }
 {
     let served = kmeans_layout::served_at(m, k, d);
-    let c = marks[i] as usize;
+    let c = work_u32[i] as usize;
     let at = i * d;
     let row = c * d;
     let s = &work[..];
@@ -55,16 +55,16 @@ fn refresh_leaf(
 }
 
 // Every leaf is served as well as the centre of its label serves it.
-fn refresh(work: &mut [f64], marks: &[u32], coords: &[f64], m: usize, k: usize, d: usize)
-    requires { ⌜ Sized (length (now work)) (length (now marks)) (length (now coords)) m k d ⌝ }
-    requires { ⌜ Labelled m k (stateIn m k d (now work) (now marks)) ⌝ }
-    ensures { λ _. ⌜ stateIn m k d (now (work .exit)) (now (marks .entry))
-        ≡ serveLeaves (now (coords .entry)) d m (stateIn m k d (now (work .entry)) (now (marks .entry))) ⌝ }
+fn refresh(work: &mut [f64], work_u32: &[u32], coords: &[f64], m: usize, k: usize, d: usize)
+    requires { ⌜ Sized (length (now work)) (length (now «work_u32»)) (length (now coords)) m k d ⌝ }
+    requires { ⌜ Labelled m k (stateIn m k d (now work) (now «work_u32»)) ⌝ }
+    ensures { λ _. ⌜ stateIn m k d (now (work .exit)) (now («work_u32» .entry))
+        ≡ serveLeaves (now (coords .entry)) d m (stateIn m k d (now (work .entry)) (now («work_u32» .entry))) ⌝ }
     ensures { λ _. ⌜ sumsIn k d (now (work .exit)) ≡ sumsIn k d (now (work .entry)) ⌝ }
 {
     let mut i = 0;
     while i < m {
-        refresh_leaf(work, marks, coords, i, m, k, d);
+        refresh_leaf(work, work_u32, coords, i, m, k, d);
         i += 1;
     }
 }
@@ -153,21 +153,21 @@ fn reseed(work: &mut [f64], coords: &[f64], c: usize, m: usize, k: usize, d: usi
 // Group c: reseeded where it is empty, else its centre anew.
 fn update_group(
     work: &mut [f64],
-    marks: &[u32],
+    work_u32: &[u32],
     coords: &[f64],
     c: usize,
     m: usize,
     k: usize,
     d: usize,
 )
-    requires { ⌜ Sized (length (now work)) (length (now marks)) (length (now coords)) m k d ⌝ }
+    requires { ⌜ Sized (length (now work)) (length (now «work_u32»)) (length (now coords)) m k d ⌝ }
     requires { ⌜ GroupOf c k d ⌝ }
-    ensures { λ _. ⌜ stateIn m k d (now (work .exit)) (now (marks .entry))
-        ≡ updateGroup (now (coords .entry)) d (sumsIn k d (now (work .entry))) (countsIn m k (now (marks .entry))) c
-        (freshUpdate (stateIn m k d (now (work .entry)) (now (marks .entry)))) .state ⌝ }
+    ensures { λ _. ⌜ stateIn m k d (now (work .exit)) (now («work_u32» .entry))
+        ≡ updateGroup (now (coords .entry)) d (sumsIn k d (now (work .entry))) (countsIn m k (now («work_u32» .entry))) c
+        (freshUpdate (stateIn m k d (now (work .entry)) (now («work_u32» .entry)))) .state ⌝ }
     ensures { λ _. ⌜ LaterRows c k d (now (work .entry)) (now (work .exit)) ⌝ }
 {
-    if marks[m + c] == 0 {
+    if work_u32[m + c] == 0 {
         reseed(work, coords, c, m, k, d);
     } else {
         recenter(work, c, m, k, d);
@@ -175,15 +175,15 @@ fn update_group(
 }
 
 // Every group's centre anew.
-fn update_groups(work: &mut [f64], marks: &[u32], coords: &[f64], m: usize, k: usize, d: usize)
-    requires { ⌜ Sized (length (now work)) (length (now marks)) (length (now coords)) m k d ⌝ }
-    ensures { λ _. ⌜ stateIn m k d (now (work .exit)) (now (marks .entry))
-        ≡ updateUpTo (now (coords .entry)) d (sumsIn k d (now (work .entry))) (countsIn m k (now (marks .entry)))
-        (stateIn m k d (now (work .entry)) (now (marks .entry))) k .state ⌝ }
+fn update_groups(work: &mut [f64], work_u32: &[u32], coords: &[f64], m: usize, k: usize, d: usize)
+    requires { ⌜ Sized (length (now work)) (length (now «work_u32»)) (length (now coords)) m k d ⌝ }
+    ensures { λ _. ⌜ stateIn m k d (now (work .exit)) (now («work_u32» .entry))
+        ≡ updateUpTo (now (coords .entry)) d (sumsIn k d (now (work .entry))) (countsIn m k (now («work_u32» .entry)))
+        (stateIn m k d (now (work .entry)) (now («work_u32» .entry))) k .state ⌝ }
 {
     let mut c = 0;
     while c < k {
-        update_group(work, marks, coords, c, m, k, d);
+        update_group(work, work_u32, coords, c, m, k, d);
         c += 1;
     }
 }
@@ -191,22 +191,22 @@ fn update_groups(work: &mut [f64], marks: &[u32], coords: &[f64], m: usize, k: u
 // The update: sums and counts, served refreshed where a group is empty, and new centres.
 pub fn update(
     work: &mut [f64],
-    marks: &mut [u32],
+    work_u32: &mut [u32],
     weights: &[f64],
     coords: &[f64],
     m: usize,
     k: usize,
     d: usize,
 )
-    requires { ⌜ Sized (length (now work)) (length (now marks)) (length (now coords)) m k d ⌝ }
-    requires { ⌜ (length (now weights) ≡ m) × Labelled m k (stateIn m k d (now work) (now marks)) ⌝ }
-    ensures { λ _. ⌜ stateIn m k d (now (work .exit)) (now (marks .exit))
+    requires { ⌜ Sized (length (now work)) (length (now «work_u32»)) (length (now coords)) m k d ⌝ }
+    requires { ⌜ (length (now weights) ≡ m) × Labelled m k (stateIn m k d (now work) (now «work_u32»)) ⌝ }
+    ensures { λ _. ⌜ stateIn m k d (now (work .exit)) (now («work_u32» .exit))
         ≡ updateOf (now (weights .entry)) (now (coords .entry)) m k d
-        (stateIn m k d (now (work .entry)) (now (marks .entry))) .state ⌝ }
+        (stateIn m k d (now (work .entry)) (now («work_u32» .entry))) .state ⌝ }
 {
-    kmeans_sums::accumulate(work, marks, weights, coords, m, k, d);
-    if has_empty(marks, m, k) {
-        refresh(work, marks, coords, m, k, d);
+    kmeans_sums::accumulate(work, work_u32, weights, coords, m, k, d);
+    if has_empty(work_u32, m, k) {
+        refresh(work, work_u32, coords, m, k, d);
     }
-    update_groups(work, marks, coords, m, k, d);
+    update_groups(work, work_u32, coords, m, k, d);
 }

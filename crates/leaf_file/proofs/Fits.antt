@@ -13,28 +13,28 @@ use Rattle.mixture_outputs.specs.Outputs.{arrays}
 use Rattle.auto.specs.Outcome.{Outcome, outcome}
 use Rattle.auto.specs.Best.{AnswerKeepsBest}
 use Rattle.auto.specs.declared.Chosen.the-variants.{Refused}
-use Rattle.leaf_file.specs.LeafFile.{Leaves, wholeAt, f64sAt, leavesOf, leavesIn, fileRefusal, settings, room, workRoom, marksRoom, leavesFit, LeavesKeepBest, FileFit, fileFitBy, fileFit}
+use Rattle.leaf_file.specs.LeafFile.{Leaves, wholeAt, f64sAt, leavesOf, leavesIn, fileRefusal, settings, room, workRoom, workU32Room, leavesFit, LeavesKeepBest, FileFit, fileFitBy, fileFit}
 
 module _ (weights coords : List Float) (d : ℕ) (labels : List ℕ) where
   abbrev leaves : Leaves
   leaves = record { d = d; weights = weights; coords = coords }
 
   -- an outcome in arrays that are all zeros, with demand 3 of it
-  pub fit-by : (resp groups dirs kappas logw : List Float) (work marks : ℕ) → resp ≡ replicate (64 * 4) plusZero
+  pub fit-by : (resp groups dirs kappas logw : List Float) (work workU32 : ℕ) → resp ≡ replicate (64 * 4) plusZero
       → groups ≡ replicate 4 plusZero → dirs ≡ replicate (4 * 16) plusZero → kappas ≡ replicate 4 plusZero
-      → logw ≡ replicate 4 plusZero → work ≡ workRoom → marks ≡ marksRoom
+      → logw ≡ replicate 4 plusZero → work ≡ workRoom → workU32 ≡ workU32Room
       → let o = arrays labels resp groups dirs kappas logw in
-      (e : Outcome) → e ≡ outcome o weights coords d settings 1 4 work marks
-      → AnswerKeepsBest o weights coords d settings 1 4 work marks (e .answer) (e .outputs)
+      (e : Outcome) → e ≡ outcome o weights coords d settings 1 4 work workU32
+      → AnswerKeepsBest o weights coords d settings 1 4 work workU32 (e .answer) (e .outputs)
       → (_≡_ {A = FileFit} (record { answer = e .answer; labels = e .outputs .labels }) (fileFitBy 0 leaves labels))
       × (LeavesKeepBest leaves labels (e .answer))
   unfolding leavesFit
-  fit-by resp groups dirs kappas logw work marks a b c f g h i e p best =
-      let q : e ≡ outcome (room labels) weights coords d settings 1 4 workRoom marksRoom = rw (a, b, c, f, g, h, i) at p in
-      let best' : AnswerKeepsBest (room labels) weights coords d settings 1 4 workRoom marksRoom (e .answer) (e .outputs) =
+  fit-by resp groups dirs kappas logw work workU32 a b c f g h i e p best =
+      let q : e ≡ outcome (room labels) weights coords d settings 1 4 workRoom workU32Room = rw (a, b, c, f, g, h, i) at p in
+      let best' : AnswerKeepsBest (room labels) weights coords d settings 1 4 workRoom workU32Room (e .answer) (e .outputs) =
       rw (a, b, c, f, g, h, i) at best in (
         ap (λ (o : Outcome). record { answer = o .answer; labels = o .outputs .labels }) q,
-        subst (λ (o : Outcome). AnswerKeepsBest (room labels) weights coords d settings 1 4 workRoom marksRoom (e .answer) (o .outputs)) q best',
+        subst (λ (o : Outcome). AnswerKeepsBest (room labels) weights coords d settings 1 4 workRoom workU32Room (e .answer) (o .outputs)) q best',
       )
 
 -- the fit of the numbers that a file holds is the fit of its leaves

@@ -7,7 +7,7 @@ use lib.Dec.{leb, eqb}
 use lib.ListN.{length, getD, replicate}
 use lib.Ieee.{Float, binary64, ofBits}
 use Rattle.float.specs.Arithmetic.{plusZero}
-use Rattle.limits.specs.Limits.{need, workLength, marksLength}
+use Rattle.limits.specs.Limits.{need, workLength, workU32Length}
 use Rattle.mixture_kappa.specs.Kappas.{tabulate}
 use Rattle.mixture_kappa.specs.declared.Settings.{Settings}
 use Rattle.mixture_kappa.specs.declared.Kappa.the-variants.{Free}
@@ -69,16 +69,16 @@ room labels =
 abbrev pub workRoom : ℕ
 workRoom = workLength 64 4 16
 
-abbrev pub marksRoom : ℕ
-marksRoom = marksLength 64 4
+abbrev pub workU32Room : ℕ
+workU32Room = workU32Length 64 4
 
 unfoldable pub leavesFit : Leaves → List ℕ → Outcome
-leavesFit l labels = outcome (room labels) (l .weights) (l .coords) (l .d) settings 1 4 workRoom marksRoom
+leavesFit l labels = outcome (room labels) (l .weights) (l .coords) (l .d) settings 1 4 workRoom workU32Room
 
 -- the mission's third demand of such a fit
 abbrev pub LeavesKeepBest : Leaves → List ℕ → Chosen → Type 0
 LeavesKeepBest l labels answer =
-    AnswerKeepsBest (room labels) (l .weights) (l .coords) (l .d) settings 1 4 workRoom marksRoom answer (leavesFit l labels .outputs)
+    AnswerKeepsBest (room labels) (l .weights) (l .coords) (l .d) settings 1 4 workRoom workU32Room answer (leavesFit l labels .outputs)
 
 -- what a call answers, and the labels after it; the labels as found where the file is refused
 pub record FileFit : Type 0 where

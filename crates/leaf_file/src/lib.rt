@@ -91,7 +91,7 @@ fn fit_leaves(weights: &[f64], coords: &[f64], d: usize, labels: &mut [u32]) -> 
     let mut concentrations = [0.0; 4];
     let mut logw = [0.0; 4];
     let mut work = [0.0; 1344];
-    let mut marks = [0u32; 136];
+    let mut work_u32 = [0u32; 136];
     auto::movmf_auto(
         weights,
         coords,
@@ -107,7 +107,7 @@ fn fit_leaves(weights: &[f64], coords: &[f64], d: usize, labels: &mut [u32]) -> 
         &mut concentrations,
         &mut logw,
         &mut work,
-        &mut marks,
+        &mut work_u32,
     )
 }
 

@@ -29,12 +29,12 @@ every ok (x ∷ xs) = ok x && every ok xs
 abbrev pub workLength : ℕ → ℕ → ℕ → ℕ
 workLength m k d = 2 * (m * k) + 4 * (k * d) + 8 * m + 16 * k
 
-abbrev pub marksLength : ℕ → ℕ → ℕ
-marksLength m k = 2 * m + 2 * k
+abbrev pub workU32Length : ℕ → ℕ → ℕ
+workU32Length m k = 2 * m + 2 * k
 
 -- 4 if one of them is too short
 abbrev pub workOk : ℕ → ℕ → ℕ → ℕ → ℕ → Bool
-workOk m k d work marks = leb (workLength m k d) work && leb (marksLength m k) marks
+workOk m k d work workU32 = leb (workLength m k d) work && leb (workU32Length m k) workU32
 
 -- m is 1 to 4,096, d 1 to 256, k 1 to 64; rounds are 0 to 10,000, restarts 0 to 64
 abbrev pub mostLeaves : ℕ

@@ -87,13 +87,13 @@ pub fn groups_ok(k: usize, m: usize) -> bool
 }
 
 // The lent work arrays are long enough.
-pub fn work_ok(m: usize, k: usize, d: usize, work: usize, marks: usize) -> bool
+pub fn work_ok(m: usize, k: usize, d: usize, work: usize, work_u32: usize) -> bool
     requires { ⌜ (m ≤ 4096) × (k ≤ 64) × (d ≤ 256) ⌝ }
-    ensures { λ r. ⌜ r ≡ workOk m k d work marks ⌝ }
+    ensures { λ r. ⌜ r ≡ workOk m k d work «work_u32» ⌝ }
 {
     let mk = m * k;
     let kd = k * d;
     let needed = 2 * mk + 4 * kd + 8 * m + 16 * k;
     let noted = 2 * m + 2 * k;
-    (needed <= work) & (noted <= marks)
+    (needed <= work) & (noted <= work_u32)
 }

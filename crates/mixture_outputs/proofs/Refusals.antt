@@ -10,7 +10,7 @@ use lib.Dec.{leb}
 use lib.ListN.{length}
 use lib.Ieee.{Float}
 use borrow.Author.Tests.{leb-true, le-leb}
-use Rattle.limits.specs.Limits.{every, weightOk, coordinateOk, sizesOk, roundsOk, workLength, marksLength, mostGroups, LeavesOk}
+use Rattle.limits.specs.Limits.{every, weightOk, coordinateOk, sizesOk, roundsOk, workLength, workU32Length, mostGroups, LeavesOk}
 use Rattle.limits.proofs.Limits.{both, admitted, sizes-met}
 use Rattle.limits.proofs.Sizes.{sizes-of}
 use Rattle.mixture_kappa.specs.declared.Settings.{Settings}
@@ -24,12 +24,12 @@ record Arrays (m k d : ℕ) (l : Lengths) : Type 0 where
   leaves : LeavesFit (l .labels) (l .responsibilities) m k
   groups : GroupsFit (l .weights) (l .directions) (l .concentrations) (l .logw) k d
   work-long : workLength m k d ≤ l .work
-  marks-long : marksLength m k ≤ l .marks
+  workU32-long : workU32Length m k ≤ l .«work_u32»
 
 arrays-met : (m k d : ℕ) (l : Lengths) → arraysOk m k d l ≡ true → Arrays m k d l
 arrays-met m k d l e =
     let o = both (outputsOk m k d l) _ e in
-    let w = both (leb (workLength m k d) (l .work)) (leb (marksLength m k) (l .marks)) (o .1) in
+    let w = both (leb (workLength m k d) (l .work)) (leb (workU32Length m k) (l .«work_u32»)) (o .1) in
     let a1 = both (leb m (l .labels)) _ (o .0) in
     let a2 = both (leb (m * k) (l .responsibilities)) _ (a1 .1) in
     let a3 = both (leb k (l .weights)) _ (a2 .1) in
@@ -45,7 +45,7 @@ arrays-met m k d l e =
             logw-long = leb-true _ _ (a5 .1);
           };
       work-long = leb-true _ _ (w .0);
-      marks-long = leb-true _ _ (w .1);
+      workU32-long = leb-true _ _ (w .1);
     }
 
 -- arrays that are long enough for hi groups are for fewer
@@ -64,7 +64,7 @@ arrays-below m hi k d l most e =
       le-leb k (l .concentrations) (omega (arith, a .groups .concentrations-long)),
       le-leb k (l .logw) (omega (arith, a .groups .logw-long)),
       le-leb (workLength m k d) (l .work) (omega (arith, a .work-long, rows, groups)),
-      le-leb (marksLength m k) (l .marks) (omega (arith, a .marks-long)),
+      le-leb (workU32Length m k) (l .«work_u32») (omega (arith, a .workU32-long)),
     )
 
 -- ---- nothing is refused
@@ -94,7 +94,7 @@ ready groups weights coords d k s l few none =
                         sizes = sizes-of m k d (z .0) (z .1) (g .0) (g .1) (z .2) (z .3);
                         work-long = omega (arith, a .work-long);
                       };
-                  marks-long = omega (arith, a .marks-long);
+                  workU32-long = omega (arith, a .workU32-long);
                   weights-long = refl;
                   coords-long = z .4;
                   rounds-small = leb-true _ _ (t .settings-ok);
@@ -120,7 +120,7 @@ pub fillable : (work weights coords m k d rounds : ℕ) (l : Lengths) → work �
     → Fillable (l .labels) (l .responsibilities) (l .weights) (l .directions) (l .concentrations) (l .logw) work m k d
 fillable work weights coords m k d rounds l e f =
     record {
-      halves = halves-of (l .work) work (l .marks) weights coords m k d rounds e (f .runnable);
+      halves = halves-of (l .work) work (l .«work_u32») weights coords m k d rounds e (f .runnable);
       leaves = f .leaves;
       groups = f .groups;
     }

@@ -23,6 +23,6 @@ pub record Fillable (labels responsibilities weights directions concentrations l
 
 -- a whole fit of k groups
 pub record Fittable (weights coords m k d rounds : ℕ) (l : Lengths) : Type 0 where
-  pub runnable : Runnable (l .work) (l .marks) weights coords m k d rounds
+  pub runnable : Runnable (l .work) (l .«work_u32») weights coords m k d rounds
   pub leaves : LeavesFit (l .labels) (l .responsibilities) m k
   pub groups : GroupsFit (l .weights) (l .directions) (l .concentrations) (l .logw) k d

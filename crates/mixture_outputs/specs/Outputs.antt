@@ -41,7 +41,7 @@ written m k d em o =
     }
 
 abbrev pub lengthsOf : Outputs → ℕ → ℕ → Lengths
-lengthsOf o work marks =
+lengthsOf o work workU32 =
     record {
       labels = length (o .labels);
       responsibilities = length (o .responsibilities);
@@ -50,5 +50,5 @@ lengthsOf o work marks =
       concentrations = length (o .concentrations);
       logw = length (o .logw);
       work = work;
-      marks = marks;
+      «work_u32» = workU32;
     }

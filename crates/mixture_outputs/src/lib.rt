@@ -24,7 +24,7 @@ pub struct Lengths {
     pub concentrations: usize,
     pub logw: usize,
     pub work: usize,
-    pub marks: usize,
+    pub work_u32: usize,
 }
 
 // The outputs are long enough.
@@ -45,7 +45,7 @@ fn arrays_ok(m: usize, k: usize, d: usize, l: Lengths) -> bool
     requires { ⌜ (m ≤ 4096) × (k ≤ 64) × (d ≤ 256) ⌝ }
     ensures { λ r. ⌜ r ≡ arraysOk m k d l ⌝ }
 {
-    outputs_ok(m, k, d, l) & limits::work_ok(m, k, d, l.work, l.marks)
+    outputs_ok(m, k, d, l) & limits::work_ok(m, k, d, l.work, l.work_u32)
 }
 
 // The first refusal from 1 to 6 that holds, or 0, of a fit of k groups, of the automatic fit up to k. Whether k is admitted is

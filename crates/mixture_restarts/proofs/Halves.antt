@@ -42,7 +42,7 @@ runnable m k d rounds a q weights coords w u e h r =
     record {
       area = record { sizes = r .halves .sizes; work-long = omega (arith, l) };
       warm-long = omega (arith, l);
-      marks-long = r .marks-long;
+      workU32-long = r .workU32-long;
       leaves = record { weights-long = r .weights-long; coords-long = r .coords-long };
       rounds-small = r .rounds-small;
     }

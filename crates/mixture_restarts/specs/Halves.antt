@@ -24,9 +24,9 @@ pub record TwoHalves (work m k d : ℕ) : Type 0 where
   pub work-long : half m k d + half m k d ≤ work
 
 -- the u32 array and the leaves beside them
-pub record Runnable (work marks weights coords m k d rounds : ℕ) : Type 0 where
+pub record Runnable (work workU32 weights coords m k d rounds : ℕ) : Type 0 where
   pub halves : TwoHalves work m k d
-  pub marks-long : m + k ≤ marks
+  pub workU32-long : m + k ≤ workU32
   pub weights-long : weights ≡ m
   pub coords-long : coords ≡ m * d
   pub rounds-small : rounds ≤ mostRounds

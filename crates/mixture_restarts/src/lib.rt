@@ -12,7 +12,7 @@ ghost use Rattle.mixture_restarts.specs.Halves.{keptPart, keptLoglik, ke
 // Run t in the half that starts at a.
 fn run_at(
     work: &mut [f64],
-    marks: &mut [u32],
+    work_u32: &mut [u32],
     weights: &[f64],
     coords: &[f64],
     s: mixture_kappa::Settings,
@@ -22,7 +22,7 @@ fn run_at(
     d: usize,
     a: usize,
 ) -> mixture_run::RunEnd
-    requires { ⌜ Runnable (length (now work)) (length (now marks)) (length (now weights)) (length (now coords)) m k d
+    requires { ⌜ Runnable (length (now work)) (length (now «work_u32»)) (length (now weights)) (length (now coords)) m k d
         (s .rounds) ⌝ }
     requires { ⌜ a + half m k d ≤ length (now work) ⌝ }
     ensures { λ r. ⌜ RunAt (runOf s (now (weights .entry)) (now (coords .entry)) m k d t)
@@ -35,13 +35,13 @@ fn run_at(
         seed: rng::restart_seed(s.seed, t),
         kappa,
     };
-    mixture_run::movmf_once(&mut work[a..a + n], marks, weights, coords, own, m, k, d)
+    mixture_run::movmf_once(&mut work[a..a + n], work_u32, weights, coords, own, m, k, d)
 }
 
 // Run t in the free half.
 fn run_beside(
     work: &mut [f64],
-    marks: &mut [u32],
+    work_u32: &mut [u32],
     weights: &[f64],
     coords: &[f64],
     s: mixture_kappa::Settings,
@@ -51,19 +51,19 @@ fn run_beside(
     d: usize,
     second: bool,
 ) -> mixture_run::RunEnd
-    requires { ⌜ Runnable (length (now work)) (length (now marks)) (length (now weights)) (length (now coords)) m k d
+    requires { ⌜ Runnable (length (now work)) (length (now «work_u32»)) (length (now weights)) (length (now coords)) m k d
         (s .rounds) ⌝ }
     ensures { λ r. ⌜ RunAt (runOf s (now (weights .entry)) (now (coords .entry)) m k d t)
         (now (work .entry)) (now (work .exit)) (freeAt second (half m k d)) m k d r ⌝ }
 {
     let a = kmeans_layout::free_at(second, kmeans_layout::half(m, k, d));
-    run_at(work, marks, weights, coords, s, t, m, k, d, a)
+    run_at(work, work_u32, weights, coords, s, t, m, k, d, a)
 }
 
 // The first three runs; what is held of them.
 fn first_runs(
     work: &mut [f64],
-    marks: &mut [u32],
+    work_u32: &mut [u32],
     weights: &[f64],
     coords: &[f64],
     s: mixture_kappa::Settings,
@@ -71,12 +71,12 @@ fn first_runs(
     k: usize,
     d: usize,
 ) -> kmeans_layout::Held
-    requires { ⌜ Runnable (length (now work)) (length (now marks)) (length (now weights)) (length (now coords)) m k d
+    requires { ⌜ Runnable (length (now work)) (length (now «work_u32»)) (length (now weights)) (length (now coords)) m k d
         (s .rounds) ⌝ }
     ensures { λ h. ⌜ Holds (runsUpTo s (now (weights .entry)) (now (coords .entry)) m k d 2)
         (now (work .exit)) m k d 3 h ⌝ }
 {
-    let first = run_at(work, marks, weights, coords, s, 0, m, k, d, 0);
+    let first = run_at(work, work_u32, weights, coords, s, 0, m, k, d, 0);
     let counts = first.counts;
     let mut h = kmeans_layout::Held {
         second: false,
@@ -85,7 +85,7 @@ fn first_runs(
     };
     let mut t = 1;
     while t < 3 {
-        let r = run_beside(work, marks, weights, coords, s, t, m, k, d, h.second);
+        let r = run_beside(work, work_u32, weights, coords, s, t, m, k, d, h.second);
         let more = r.counts;
         h = kmeans_layout::keep(h, r.loglik, more);
         t += 1;
@@ -105,7 +105,7 @@ pub struct Runs {
 // All four runs.
 pub fn four_runs(
     work: &mut [f64],
-    marks: &mut [u32],
+    work_u32: &mut [u32],
     weights: &[f64],
     coords: &[f64],
     s: mixture_kappa::Settings,
@@ -113,13 +113,13 @@ pub fn four_runs(
     k: usize,
     d: usize,
 ) -> Runs
-    requires { ⌜ Runnable (length (now work)) (length (now marks)) (length (now weights)) (length (now coords)) m k d
+    requires { ⌜ Runnable (length (now work)) (length (now «work_u32»)) (length (now weights)) (length (now coords)) m k d
         (s .rounds) ⌝ }
     ensures { λ r. ⌜ Both (runsUpTo s (now (weights .entry)) (now (coords .entry)) m k d 2)
         (runOf s (now (weights .entry)) (now (coords .entry)) m k d 3) (now (work .exit)) m k d r ⌝ }
 {
-    let h = first_runs(work, marks, weights, coords, s, m, k, d);
-    let r = run_beside(work, marks, weights, coords, s, 3, m, k, d, h.second);
+    let h = first_runs(work, work_u32, weights, coords, s, m, k, d);
+    let r = run_beside(work, work_u32, weights, coords, s, 3, m, k, d, h.second);
     let before = h.counts;
     let more = r.counts;
     let counts = counts::plus(before, more);

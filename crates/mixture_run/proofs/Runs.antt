@@ -34,12 +34,12 @@ kappas-started kappa k d totals whole p₀ p₁ p₂ p₃ totalled normed summed
     (rw (concentrated, normed, totalled), rw (concentrated, normed, totalled, sum))
 
 -- ---- what the warm start asks, and what it leaves where the rounds begin
-pub warm-sized : (work marks weights coords m k d rounds : ℕ) → Runnable work marks weights coords m k d rounds
-    → lloyd.Runnable work marks weights coords m k d 50
-warm-sized work marks weights coords m k d rounds r =
+pub warm-sized : (work workU32 weights coords m k d rounds : ℕ) → Runnable work workU32 weights coords m k d rounds
+    → lloyd.Runnable work workU32 weights coords m k d 50
+warm-sized work workU32 weights coords m k d rounds r =
     record {
       sized =
-          record { sizes = r .area .sizes; work-long = r .warm-long; marks-long = r .marks-long; coords-long = r .leaves .coords-long };
+          record { sizes = r .area .sizes; work-long = r .warm-long; workU32-long = r .workU32-long; coords-long = r .leaves .coords-long };
       weights-long = r .leaves .weights-long;
       rounds-small = omega arith;
     }

@@ -164,10 +164,10 @@ abbrev pub Labels : (m k : ℕ) → List ℕ → Type 0
 Labels m k labels = (i : ℕ) → i < m → getD labels i 0 < k
 
 -- ---- a whole run
-pub record Runnable (work marks weights coords m k d rounds : ℕ) : Type 0 where
+pub record Runnable (work workU32 weights coords m k d rounds : ℕ) : Type 0 where
   pub area : Area work m k d
   pub warm-long : areas.total m k d ≤ work
-  pub marks-long : m + k ≤ marks
+  pub workU32-long : m + k ≤ workU32
   pub leaves : Leaves weights coords m d
   pub rounds-small : rounds ≤ 10000
 

@@ -85,7 +85,7 @@ pub struct RunEnd {
 // One run: the warm start, the concentrations of its groups, and the rounds. What it found stays in the area.
 pub fn movmf_once(
     work: &mut [f64],
-    marks: &mut [u32],
+    work_u32: &mut [u32],
     weights: &[f64],
     coords: &[f64],
     s: mixture_kappa::Settings,
@@ -93,14 +93,14 @@ pub fn movmf_once(
     k: usize,
     d: usize,
 ) -> RunEnd
-    requires { ⌜ Runnable (length (now work)) (length (now marks)) (length (now weights)) (length (now coords)) m k d
+    requires { ⌜ Runnable (length (now work)) (length (now «work_u32»)) (length (now weights)) (length (now coords)) m k d
         (s .rounds) ⌝ }
     ensures { λ r. ⌜ (let once = onceOf s (now (weights .entry)) (now (coords .entry)) m k d in
         RunDone once (partsIn m k d (now (work .exit))) r) ⌝ }
 {
-    let warm = kmeans_lloyd::run(work, marks, weights, coords, s.seed, m, k, d, 50);
+    let warm = kmeans_lloyd::run(work, work_u32, weights, coords, s.seed, m, k, d, 50);
     let kappa = s.kappa;
-    start::init_kappas(work, marks, weights, kappa, m, k, d);
+    start::init_kappas(work, work_u32, weights, kappa, m, k, d);
     start::clear(work, m, k, d);
     let loglik = em(work, weights, coords, kappa, s.rounds, m, k, d);
     let counts = warm.counts;

@@ -11,18 +11,18 @@ use super::layout;
 use super::maximization;
 
 // The weights of the groups that the labels make.
-fn label_totals(work: &mut [f64], marks: &[u32], weights: &[f64], m: usize, k: usize, d: usize)
-    requires { ⌜ (Area (length (now work)) m k d) × (length (now weights) ≡ m) × (m ≤ length (now marks)) ⌝ }
-    requires { ⌜ Labels m k (now marks) ⌝ }
+fn label_totals(work: &mut [f64], work_u32: &[u32], weights: &[f64], m: usize, k: usize, d: usize)
+    requires { ⌜ (Area (length (now work)) m k d) × (length (now weights) ≡ m) × (m ≤ length (now «work_u32»)) ⌝ }
+    requires { ⌜ Labels m k (now «work_u32») ⌝ }
     ensures { λ _. ⌜ (let p = partsIn m k d (now (work .entry)) in
         let q = partsIn m k d (now (work .exit)) in
-        q ≡ withTotals (labelTotalsUpTo (now (weights .entry)) (take m (now (marks .entry))) k m) p) ⌝ }
+        q ≡ withTotals (labelTotalsUpTo (now (weights .entry)) (take m (now («work_u32» .entry))) k m) p) ⌝ }
 {
     let totals = layout::totals_at(k, d);
     kmeans_layout::fill_at(work, totals, k, 0.0);
     let mut i = 0;
     while i < m {
-        let at = totals + marks[i] as usize;
+        let at = totals + work_u32[i] as usize;
         work[at] = work[at] + weights[i];
         i += 1;
     }
@@ -31,21 +31,21 @@ fn label_totals(work: &mut [f64], marks: &[u32], weights: &[f64], m: usize, k: u
 // The concentrations of the groups that the labels make, whose resultants stand in the area.
 pub(crate) fn init_kappas(
     work: &mut [f64],
-    marks: &[u32],
+    work_u32: &[u32],
     weights: &[f64],
     kappa: mixture_kappa::Kappa,
     m: usize,
     k: usize,
     d: usize,
 )
-    requires { ⌜ (Area (length (now work)) m k d) × (length (now weights) ≡ m) × (m ≤ length (now marks)) ⌝ }
-    requires { ⌜ Labels m k (now marks) ⌝ }
+    requires { ⌜ (Area (length (now work)) m k d) × (length (now weights) ≡ m) × (m ≤ length (now «work_u32»)) ⌝ }
+    requires { ⌜ Labels m k (now «work_u32») ⌝ }
     ensures { λ _. ⌜ (let p = partsIn m k d (now (work .entry)) in
         let q = partsIn m k d (now (work .exit)) in
-        let totals = labelTotalsUpTo (now (weights .entry)) (take m (now (marks .entry))) k m in
+        let totals = labelTotalsUpTo (now (weights .entry)) (take m (now («work_u32» .entry))) k m in
         (q .directions ≡ p .directions) × (q .kappas ≡ startKappasBy kappa k d (p .sums) totals)) ⌝ }
 {
-    label_totals(work, marks, weights, m, k, d);
+    label_totals(work, work_u32, weights, m, k, d);
     maximization::put_norms(work, m, k, d);
     let totals = layout::totals_at(k, d);
     let s = &work[..];

@@ -31,17 +31,17 @@ pub admitted : (weights coords : List Float) (d k : ℕ) (s : Settings) (l : Len
     → Ready (groupsOk k (length weights)) weights coords d k (s .rounds) l
 admitted weights coords d k s l e = ready (groupsOk k (length weights)) weights coords d k s l (few k (length weights)) e
 
-module _ (o : Outputs) (weights coords : List Float) (d k : ℕ) (s : Settings) (work marks : ℕ) where
-  pub refused : (code : ℕ) → code ≡ refusalOf weights coords d k s (lengthsOf o work marks) → (code ≡ 0 → ⊥)
-      → _≡_ {A = Outcome} (record { answer = Refused code; outputs = o }) (outcome o weights coords d k s work marks)
+module _ (o : Outputs) (weights coords : List Float) (d k : ℕ) (s : Settings) (work workU32 : ℕ) where
+  pub refused : (code : ℕ) → code ≡ refusalOf weights coords d k s (lengthsOf o work workU32) → (code ≡ 0 → ⊥)
+      → _≡_ {A = Outcome} (record { answer = Refused code; outputs = o }) (outcome o weights coords d k s work workU32)
   refused zero e h = absurd (h refl)
   refused (suc code) e h = rw (← e)
 
-  pub done : (code : ℕ) → code ≡ refusalOf weights coords d k s (lengthsOf o work marks) → code ≡ 0
+  pub done : (code : ℕ) → code ≡ refusalOf weights coords d k s (lengthsOf o work workU32) → code ≡ 0
       → (w : List Float) (r : Runs) (loglik : Float) (o' : Outputs)
       → Both (runsUpTo s weights coords (length weights) k d 2) (runOf s weights coords (length weights) k d 3) w (length weights) k d r
       → loglik ≡ keptLoglik (r .held) (r .last) → o' ≡ written (length weights) k d (keptEm (length weights) k d w r) o
-      → _≡_ {A = Outcome} (record { answer = Done k loglik (r .counts); outputs = o' }) (outcome o weights coords d k s work marks)
+      → _≡_ {A = Outcome} (record { answer = Done k loglik (r .counts); outputs = o' }) (outcome o weights coords d k s work workU32)
   done code e z w r loglik o' b el eo =
       let m = length weights in
       let em = fit-em s weights coords m k d w r b in
@@ -50,12 +50,12 @@ module _ (o : Outputs) (weights coords : List Float) (d k : ℕ) (s : Settings) 
       rw (← e, z, wr, ll, fit-counts s weights coords m k d w r b)
 
   -- the number that the answer gives
-  number-by : (code : ℕ) → AnswersWith code (outcomeBy o weights coords d k s work marks code .answer)
+  number-by : (code : ℕ) → AnswersWith code (outcomeBy o weights coords d k s work workU32 code .answer)
   number-by zero found = refl
   number-by (suc code) found = refl
 
-  pub number-is : (a : Fitted) (o' : Outputs) → _≡_ {A = Outcome} (record { answer = a; outputs = o' }) (outcome o weights coords d k s work marks)
-      → AnswersWith (refusalOf weights coords d k s (lengthsOf o work marks)) a
+  pub number-is : (a : Fitted) (o' : Outputs) → _≡_ {A = Outcome} (record { answer = a; outputs = o' }) (outcome o weights coords d k s work workU32)
+      → AnswersWith (refusalOf weights coords d k s (lengthsOf o work workU32)) a
   number-is a o' e =
-      subst (λ (x : Outcome). AnswersWith (refusalOf weights coords d k s (lengthsOf o work marks)) (x .answer)) (sym e)
-      (number-by (refusalOf weights coords d k s (lengthsOf o work marks)))
+      subst (λ (x : Outcome). AnswersWith (refusalOf weights coords d k s (lengthsOf o work workU32)) (x .answer)) (sym e)
+      (number-by (refusalOf weights coords d k s (lengthsOf o work workU32)))

@@ -20,7 +20,7 @@ abbrev pub answered : Fitted → Outputs → Outcome
 answered answer outputs = record { answer = answer; outputs = outputs }
 
 -- the arrays as found, the leaves, the settings, and the lengths of the two work arrays
-module _ (o : Outputs) (weights coords : List Float) (d k : ℕ) (s : Settings) (work marks : ℕ) where
+module _ (o : Outputs) (weights coords : List Float) (d k : ℕ) (s : Settings) (work workU32 : ℕ) where
   abbrev pub doneWith : Once → Outcome
   doneWith fit =
       record {
@@ -34,4 +34,4 @@ module _ (o : Outputs) (weights coords : List Float) (d k : ℕ) (s : Settings) 
   outcomeBy (suc code) = record { answer = Refused (suc code); outputs = o }
 
   abbrev pub outcome : Outcome
-  outcome = outcomeBy (refusalOf weights coords d k s (lengthsOf o work marks))
+  outcome = outcomeBy (refusalOf weights coords d k s (lengthsOf o work workU32))

@@ -35,19 +35,19 @@ pub fn movmf_with(
     concentrations: &mut [f64],
     logw: &mut [f64],
     work: &mut [f64],
-    marks: &mut [u32],
+    work_u32: &mut [u32],
 ) -> Fitted
     ensures { λ r. ⌜ answered r (arrays (now (labels .exit)) (now (responsibilities .exit)) (now («group_weights» .exit))
         (now (directions .exit)) (now (concentrations .exit)) (now (logw .exit)))
         ≡ outcome (arrays (now (labels .entry)) (now (responsibilities .entry)) (now («group_weights» .entry))
         (now (directions .entry)) (now (concentrations .entry)) (now (logw .entry)))
         (now (weights .entry)) (now (coords .entry)) d k s
-        (length (now (work .entry))) (length (now (marks .entry))) ⌝ }
+        (length (now (work .entry))) (length (now («work_u32» .entry))) ⌝ }
     ensures { λ r. ⌜ AnswersWith (refusalOf (now (weights .entry)) (now (coords .entry)) d k
         s
         (lengthsOf (arrays (now (labels .entry)) (now (responsibilities .entry)) (now («group_weights» .entry))
         (now (directions .entry)) (now (concentrations .entry)) (now (logw .entry)))
-        (length (now (work .entry))) (length (now (marks .entry))))) r ⌝ }
+        (length (now (work .entry))) (length (now («work_u32» .entry))))) r ⌝ }
 {
     let l = mixture_outputs::Lengths {
         labels: labels.len(),
@@ -57,7 +57,7 @@ pub fn movmf_with(
         concentrations: concentrations.len(),
         logw: logw.len(),
         work: work.len(),
-        marks: marks.len(),
+        work_u32: work_u32.len(),
     };
     let m = weights.len();
     let groups = limits::groups_ok(k, m);
@@ -65,7 +65,7 @@ pub fn movmf_with(
     if code != 0 {
         return Fitted::Refused(code);
     }
-    let r = mixture_restarts::four_runs(work, marks, weights, coords, s, m, k, d);
+    let r = mixture_restarts::four_runs(work, work_u32, weights, coords, s, m, k, d);
     mixture_outputs::fill_outputs(
         labels,
         responsibilities,
@@ -99,19 +99,19 @@ pub fn movmf(
     concentrations: &mut [f64],
     logw: &mut [f64],
     work: &mut [f64],
-    marks: &mut [u32],
+    work_u32: &mut [u32],
 ) -> Fitted
     ensures { λ r. ⌜ answered r (arrays (now (labels .exit)) (now (responsibilities .exit)) (now («group_weights» .exit))
         (now (directions .exit)) (now (concentrations .exit)) (now (logw .exit)))
         ≡ outcome (arrays (now (labels .entry)) (now (responsibilities .entry)) (now («group_weights» .entry))
         (now (directions .entry)) (now (concentrations .entry)) (now (logw .entry)))
         (now (weights .entry)) (now (coords .entry)) d k (record { rounds = rounds; seed = seed; kappa = Free })
-        (length (now (work .entry))) (length (now (marks .entry))) ⌝ }
+        (length (now (work .entry))) (length (now («work_u32» .entry))) ⌝ }
     ensures { λ r. ⌜ AnswersWith (refusalOf (now (weights .entry)) (now (coords .entry)) d k
         (record { rounds = rounds; seed = seed; kappa = Free })
         (lengthsOf (arrays (now (labels .entry)) (now (responsibilities .entry)) (now («group_weights» .entry))
         (now (directions .entry)) (now (concentrations .entry)) (now (logw .entry)))
-        (length (now (work .entry))) (length (now (marks .entry))))) r ⌝ }
+        (length (now (work .entry))) (length (now («work_u32» .entry))))) r ⌝ }
 {
     let s = mixture_kappa::Settings {
         rounds,
@@ -131,6 +131,6 @@ pub fn movmf(
         concentrations,
         logw,
         work,
-        marks,
+        work_u32,
     )
 }

@@ -8,8 +8,8 @@ use Rattle.spherical.specs.Doubled.{generatorBefore, CallsNeverDoubled}
 use Rattle.spherical.proofs.Refusals.{ready}
 
 pub calls-never-doubled : CallsNeverDoubled
-calls-never-doubled weights coords d k rounds restarts seed labels directions work marks e =
-    let r = ready weights coords d k rounds restarts labels directions work marks e in
+calls-never-doubled weights coords d k rounds restarts seed labels directions work workU32 e =
+    let r = ready weights coords d k rounds restarts labels directions work workU32 e in
     none-over _ 0 (max restarts 1)
     (λ (t : ℕ) below above.
     never-doubled weights coords d k rounds (generatorBefore weights coords (length weights) k d rounds seed t) (r .leaves) (r .sizes .k-some)

@@ -62,7 +62,7 @@ runnable m k d rounds a b q p weights coords w u eq ep hw hu r =
           record {
             sizes = r .halves .sizes;
             work-long = omega (arith, lw);
-            marks-long = omega (arith, lu);
+            workU32-long = omega (arith, lu);
             coords-long = r .coords-long;
           };
       weights-long = r .weights-long;
@@ -84,7 +84,7 @@ run-done m k d a b q p w x u y result r eq ep lx ly hw hu e =
             centers = ap (λ (t : State). t .centers) s ∙ e .centers;
           };
       work-only = g .1;
-      marks-only = h .1;
+      workU32-only = h .1;
       cohesion = e .cohesion;
       counts = e .counts;
       generator = e .generator;
@@ -103,7 +103,7 @@ module _ (m k d : ℕ) (w w' : List Float) (u u' : List ℕ) (run : Result) (r :
       → stateAt m k d w' u' (heldAt (h .held .second) (half m k d)) (heldAt (h .held .second) (m + k))
       ≡ stateAt m k d w u (heldAt (h .held .second) (half m k d)) (heldAt (h .held .second) (m + k))
   same-half h t =
-      rw (held-left (h .held .second) (half m k d) w w' (t .work-only), held-left (h .held .second) (m + k) u u' (t .marks-only))
+      rw (held-left (h .held .second) (half m k d) w w' (t .work-only), held-left (h .held .second) (m + k) u u' (t .workU32-only))
 
   new-half : (second : Bool) → RunAt run w w' u u' (freeAt second (half m k d)) (freeAt second (m + k)) m k d r
       → InHalf run (stateAt m k d w' u' (heldAt (not second) (half m k d)) (heldAt (not second) (m + k)))
@@ -199,20 +199,20 @@ module _ (weights coords : List Float) (m k d rounds seed : ℕ) where
       }
 
 -- ---- the entry
-module _ (weights coords : List Float) (d k rounds restarts labels directions work marks : ℕ)
-    (r : Ready weights coords d k rounds restarts labels directions work marks) where
-  halves : TwoHalves work marks (length weights) k d
+module _ (weights coords : List Float) (d k rounds restarts labels directions work workU32 : ℕ)
+    (r : Ready weights coords d k rounds restarts labels directions work workU32) where
+  halves : TwoHalves work workU32 (length weights) k d
   halves =
       record {
         sizes = r .sizes;
         work-long = omega (arith, r .work-long);
-        marks-long = omega (arith, r .marks-long);
+        workU32-long = omega (arith, r .workU32-long);
       }
 
-  pub entry-runnable : Runnable work marks (length weights) (length coords) (length weights) k d rounds
+  pub entry-runnable : Runnable work workU32 (length weights) (length coords) (length weights) k d rounds
   entry-runnable = record { halves = halves; weights-long = refl; coords-long = r .coords-long; rounds-small = r .rounds-small }
 
-  pub entry-fillable : Fillable labels directions work marks (length weights) k d
+  pub entry-fillable : Fillable labels directions work workU32 (length weights) k d
   entry-fillable = record { halves = halves; labels-long = r .labels-long; directions-long = r .directions-long }
 
 pub fillable-of : (labels directions w w' u u' m k d : ℕ) → w' ≡ w → u' ≡ u → Fillable labels directions w u m k d
@@ -220,32 +220,32 @@ pub fillable-of : (labels directions w w' u u' m k d : ℕ) → w' ≡ w → u' 
 fillable-of labels directions w w' u u' m k d e f v = rw (e, f) v
 
 -- its two ends, by the number of the refusal
-module _ (ls : List ℕ) (ds weights coords : List Float) (d k rounds restarts seed work marks : ℕ) where
-  pub refused : (code : ℕ) → code ≡ refusalOf weights coords d k rounds restarts (length ls) (length ds) work marks → (code ≡ 0 → ⊥)
+module _ (ls : List ℕ) (ds weights coords : List Float) (d k rounds restarts seed work workU32 : ℕ) where
+  pub refused : (code : ℕ) → code ≡ refusalOf weights coords d k rounds restarts (length ls) (length ds) work workU32 → (code ≡ 0 → ⊥)
       → _≡_ {A = Outcome} (record { answer = Refused code; labels = ls; directions = ds })
-      (outcome ls ds weights coords d k rounds restarts seed work marks)
+      (outcome ls ds weights coords d k rounds restarts seed work workU32)
   refused zero e h = absurd (h refl)
   refused (suc code) e h = rw (← e)
 
-  pub done : (code : ℕ) → code ≡ refusalOf weights coords d k rounds restarts (length ls) (length ds) work marks → code ≡ 0
+  pub done : (code : ℕ) → code ≡ refusalOf weights coords d k rounds restarts (length ls) (length ds) work workU32 → code ≡ 0
       → (w : List Float) (u : List ℕ) (h : Restarts) (ls' : List ℕ) (ds' : List Float)
       → Holds (kmeansOf weights coords (length weights) k d rounds restarts seed) w u (length weights) k d 64 h
       → let s = stateAt (length weights) k d w u (heldAt (h .held .second) (half (length weights) k d))
       (heldAt (h .held .second) (length weights + k)) in
       ls' ≡ s .labels ++ drop (length weights) ls → ds' ≡ s .centers ++ drop (k * d) ds
       → _≡_ {A = Outcome} (record { answer = Done (h .held .value) (h .held .counts); labels = ls'; directions = ds' })
-      (outcome ls ds weights coords d k rounds restarts seed work marks)
+      (outcome ls ds weights coords d k rounds restarts seed work workU32)
   done code e z w u h ls' ds' v el ed =
       rw (← e, z, el, ed, v .there .labels, v .there .centers, v .cohesion, v .counts)
 
   -- the number that the answer gives
-  number-by : (code : ℕ) → AnswersWith code (outcomeBy ls ds weights coords d k rounds restarts seed work marks code .answer)
+  number-by : (code : ℕ) → AnswersWith code (outcomeBy ls ds weights coords d k rounds restarts seed work workU32 code .answer)
   number-by zero found = refl
   number-by (suc code) found = refl
 
   pub number-is : (a : Clustered) (ls' : List ℕ) (ds' : List Float)
-      → _≡_ {A = Outcome} (record { answer = a; labels = ls'; directions = ds' }) (outcome ls ds weights coords d k rounds restarts seed work marks)
-      → AnswersWith (refusalOf weights coords d k rounds restarts (length ls) (length ds) work marks) a
+      → _≡_ {A = Outcome} (record { answer = a; labels = ls'; directions = ds' }) (outcome ls ds weights coords d k rounds restarts seed work workU32)
+      → AnswersWith (refusalOf weights coords d k rounds restarts (length ls) (length ds) work workU32) a
   number-is a ls' ds' e =
-      let code = refusalOf weights coords d k rounds restarts (length ls) (length ds) work marks in
+      let code = refusalOf weights coords d k rounds restarts (length ls) (length ds) work workU32 in
       subst (λ (x : Outcome). AnswersWith code (x .answer)) (sym e) (number-by code)

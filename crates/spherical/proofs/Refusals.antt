@@ -12,7 +12,7 @@ use Rattle.limits.specs.Limits.{
   coordinateOk,
   every,
   workLength,
-  marksLength,
+  workU32Length,
   sizesOk,
   groupsOk,
   roundsOk,
@@ -26,7 +26,7 @@ use Rattle.limits.proofs.Sizes.{sizes-of}
 use Rattle.spherical.specs.Refusals.{restartsOk, refusalOf}
 
 -- what it says that nothing is refused
-pub record Ready (weights coords : List Float) (d k rounds restarts labels directions work marks : ℕ) : Type 0 where
+pub record Ready (weights coords : List Float) (d k rounds restarts labels directions work workU32 : ℕ) : Type 0 where
   pub sizes : Sizes (length weights) k d
   pub coords-long : length coords ≡ length weights * d
   pub k-below : k ≤ length weights
@@ -35,11 +35,11 @@ pub record Ready (weights coords : List Float) (d k rounds restarts labels direc
   pub labels-long : length weights ≤ labels
   pub directions-long : k * d ≤ directions
   pub work-long : workLength (length weights) k d ≤ work
-  pub marks-long : marksLength (length weights) k ≤ marks
+  pub workU32-long : workU32Length (length weights) k ≤ workU32
   pub leaves : LeavesOk weights coords d
 
-module _ (weights coords : List Float) (d k rounds restarts labels directions work marks : ℕ) where
-  pub ready : refusalOf weights coords d k rounds restarts labels directions work marks ≡ 0 → Ready weights coords d k rounds restarts labels directions work marks
+module _ (weights coords : List Float) (d k rounds restarts labels directions work workU32 : ℕ) where
+  pub ready : refusalOf weights coords d k rounds restarts labels directions work workU32 ≡ 0 → Ready weights coords d k rounds restarts labels directions work workU32
   unfolding refusalOf
   ready e =
       let m = length weights in
@@ -49,7 +49,7 @@ module _ (weights coords : List Float) (d k rounds restarts labels directions wo
       let r = both (roundsOk rounds) (restartsOk restarts) (t .settings-ok) in
       let a1 = both (leb m labels) _ (t .arrays-ok) in
       let a2 = both (leb (k * d) directions) _ (a1 .1) in
-      let a3 = both (leb (workLength m k d) work) (leb (marksLength m k) marks) (a2 .1) in
+      let a3 = both (leb (workLength m k d) work) (leb (workU32Length m k) workU32) (a2 .1) in
       record {
         sizes = sizes-of m k d (s .0) (s .1) (g .0) (g .1) (s .2) (s .3);
         coords-long = s .4;
@@ -59,6 +59,6 @@ module _ (weights coords : List Float) (d k rounds restarts labels directions wo
         labels-long = leb-true _ _ (a1 .0);
         directions-long = leb-true _ _ (a2 .0);
         work-long = leb-true _ _ (a3 .0);
-        marks-long = leb-true _ _ (a3 .1);
+        workU32-long = leb-true _ _ (a3 .1);
         leaves = record { sizes-ok = t .sizes-ok; weights-ok = t .weights-ok; coords-ok = t .coords-ok };
       }

@@ -24,6 +24,6 @@ doubledIn weights coords m k d rounds restarts seed =
 -- in a call that is not refused it is zero
 abbrev pub CallsNeverDoubled : Type 0
 CallsNeverDoubled =
-    (weights coords : List Float) (d k rounds restarts seed labels directions work marks : ℕ)
-    → refusalOf weights coords d k rounds restarts labels directions work marks ≡ 0
+    (weights coords : List Float) (d k rounds restarts seed labels directions work workU32 : ℕ)
+    → refusalOf weights coords d k rounds restarts labels directions work workU32 ≡ 0
     → doubledIn weights coords (length weights) k d rounds restarts seed ≡ 0

@@ -20,21 +20,21 @@ abbrev pub stateAt : (m k d : ℕ) → List Float → List ℕ → (a b : ℕ) �
 stateAt m k d w u a b = stateIn m k d (part w a (half m k d)) (part u b (m + k))
 
 -- both halves of both arrays
-pub record TwoHalves (work marks m k d : ℕ) : Type 0 where
+pub record TwoHalves (work workU32 m k d : ℕ) : Type 0 where
   pub sizes : Sizes m k d
   pub work-long : half m k d + half m k d ≤ work
-  pub marks-long : (m + k) + (m + k) ≤ marks
+  pub workU32-long : (m + k) + (m + k) ≤ workU32
 
 -- the leaves beside them
-pub record Runnable (work marks weights coords m k d rounds : ℕ) : Type 0 where
-  pub halves : TwoHalves work marks m k d
+pub record Runnable (work workU32 weights coords m k d rounds : ℕ) : Type 0 where
+  pub halves : TwoHalves work workU32 m k d
   pub weights-long : weights ≡ m
   pub coords-long : coords ≡ m * d
   pub rounds-small : rounds ≤ mostRounds
 
 -- the outputs beside them
-pub record Fillable (labels directions work marks m k d : ℕ) : Type 0 where
-  pub halves : TwoHalves work marks m k d
+pub record Fillable (labels directions work workU32 m k d : ℕ) : Type 0 where
+  pub halves : TwoHalves work workU32 m k d
   pub labels-long : m ≤ labels
   pub directions-long : k * d ≤ directions
 
@@ -47,7 +47,7 @@ pub record InHalf (result : Result) (s : State) : Type 0 where
 pub record RunAt (result : Result) (w w' : List Float) (u u' : List ℕ) (a b m k d : ℕ) (r : RunEnd) : Type 0 where
   pub there : InHalf result (stateAt m k d w' u' a b)
   pub work-only : OnlyAt w w' a (half m k d)
-  pub marks-only : OnlyAt u u' b (m + k)
+  pub workU32-only : OnlyAt u u' b (m + k)
   pub cohesion : r .cohesion ≡ result .cohesion
   pub counts : r .counts ≡ result .counts
   pub generator : r .generator ≡ result .generator

@@ -15,7 +15,7 @@ pub record Outcome : Type 0 where
   pub directions : List Float
 
 -- the arrays as found, the leaves, the settings, and the lengths of the two work arrays
-module _ (labels : List ℕ) (directions weights coords : List Float) (d k rounds restarts seed work marks : ℕ) where
+module _ (labels : List ℕ) (directions weights coords : List Float) (d k rounds restarts seed work workU32 : ℕ) where
   -- entries past m labels and k·d directions keep their old contents
   abbrev pub doneWith : Result → Outcome
   doneWith r =
@@ -31,4 +31,4 @@ module _ (labels : List ℕ) (directions weights coords : List Float) (d k round
   outcomeBy (suc code) = record { answer = Refused (suc code); labels = labels; directions = directions }
 
   abbrev pub outcome : Outcome
-  outcome = outcomeBy (refusalOf weights coords d k rounds restarts (length labels) (length directions) work marks)
+  outcome = outcomeBy (refusalOf weights coords d k rounds restarts (length labels) (length directions) work workU32)

@@ -12,15 +12,15 @@ abbrev pub restartsOk : ℕ → Bool
 restartsOk restarts = leb restarts mostRestarts
 
 -- 4 if an output or work array is too short: labels m, directions k·d
-abbrev pub arraysOk : (m k d labels directions work marks : ℕ) → Bool
-arraysOk m k d labels directions work marks =
-    leb m labels && (leb (k * d) directions && workOk m k d work marks)
+abbrev pub arraysOk : (m k d labels directions work workU32 : ℕ) → Bool
+arraysOk m k d labels directions work workU32 =
+    leb m labels && (leb (k * d) directions && workOk m k d work workU32)
 
 -- the first refusal that holds, in this order, or 0; of the arrays only the lengths count, but of weights and
 -- coordinates the values
-unfoldable pub refusalOf : (weights coords : List Float) (d k rounds restarts labels directions work marks : ℕ) → ℕ
-refusalOf weights coords d k rounds restarts labels directions work marks =
+unfoldable pub refusalOf : (weights coords : List Float) (d k rounds restarts labels directions work workU32 : ℕ) → ℕ
+refusalOf weights coords d k rounds restarts labels directions work workU32 =
     need (sizesOk (length weights) d (length coords)) 1
     (need (groupsOk k (length weights)) 2
     (need (roundsOk rounds && restartsOk restarts) 3
-    (need (arraysOk (length weights) k d labels directions work marks) 4 (leavesRefusal weights coords))))
+    (need (arraysOk (length weights) k d labels directions work workU32) 4 (leavesRefusal weights coords))))

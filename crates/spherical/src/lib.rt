@@ -25,13 +25,13 @@ fn arrays_ok(
     labels: usize,
     directions: usize,
     work: usize,
-    marks: usize,
+    work_u32: usize,
 ) -> bool
     requires { ⌜ (m ≤ 4096) × (k ≤ 64) × (d ≤ 256) ⌝ }
-    ensures { λ r. ⌜ r ≡ arraysOk m k d labels directions work marks ⌝ }
+    ensures { λ r. ⌜ r ≡ arraysOk m k d labels directions work «work_u32» ⌝ }
 {
     let kd = k * d;
-    (m <= labels) & ((kd <= directions) & limits::work_ok(m, k, d, work, marks))
+    (m <= labels) & ((kd <= directions) & limits::work_ok(m, k, d, work, work_u32))
 }
 
 // The first refusal that holds, or 0.
@@ -45,10 +45,10 @@ fn refusal(
     labels: usize,
     directions: usize,
     work: usize,
-    marks: usize,
+    work_u32: usize,
 ) -> u32
     ensures { λ r. ⌜ r ≡ refusalOf (now (weights .entry)) (now (coords .entry)) d k rounds restarts labels directions
-        work marks ⌝ }
+        work «work_u32» ⌝ }
 {
     let m = weights.len();
     if !limits::sizes_ok(m, d, coords.len()) {
@@ -63,7 +63,7 @@ fn refusal(
     if restarts > 64 {
         return 3;
     }
-    if !arrays_ok(m, k, d, labels, directions, work, marks) {
+    if !arrays_ok(m, k, d, labels, directions, work, work_u32) {
         return 4;
     }
     limits::leaves_refusal(weights, coords)
@@ -74,7 +74,7 @@ fn refusal(
 // One run in the half that starts at a and b.
 fn run_at(
     work: &mut [f64],
-    marks: &mut [u32],
+    work_u32: &mut [u32],
     weights: &[f64],
     coords: &[f64],
     generator: u64,
@@ -85,17 +85,17 @@ fn run_at(
     a: usize,
     b: usize,
 ) -> kmeans_lloyd::RunEnd
-    requires { ⌜ Runnable (length (now work)) (length (now marks)) (length (now weights)) (length (now coords)) m k d
+    requires { ⌜ Runnable (length (now work)) (length (now «work_u32»)) (length (now weights)) (length (now coords)) m k d
         rounds ⌝ }
-    requires { ⌜ (a + half m k d ≤ length (now work)) × (b + (m + k) ≤ length (now marks)) ⌝ }
+    requires { ⌜ (a + half m k d ≤ length (now work)) × (b + (m + k) ≤ length (now «work_u32»)) ⌝ }
     ensures { λ r. ⌜ RunAt (resultOf (now (weights .entry)) (now (coords .entry)) m k d rounds generator)
-        (now (work .entry)) (now (work .exit)) (now (marks .entry)) (now (marks .exit)) a b m k d r ⌝ }
+        (now (work .entry)) (now (work .exit)) (now («work_u32» .entry)) (now («work_u32» .exit)) a b m k d r ⌝ }
 {
     let n = kmeans_layout::half(m, k, d);
     let p = m + k;
     kmeans_lloyd::run(
         &mut work[a..a + n],
-        &mut marks[b..b + p],
+        &mut work_u32[b..b + p],
         weights,
         coords,
         generator,
@@ -115,7 +115,7 @@ pub struct Restarts {
 // One restart more, in the free half.
 fn restart(
     work: &mut [f64],
-    marks: &mut [u32],
+    work_u32: &mut [u32],
     weights: &[f64],
     coords: &[f64],
     h: Restarts,
@@ -124,18 +124,18 @@ fn restart(
     d: usize,
     rounds: usize,
 ) -> Restarts
-    requires { ⌜ Runnable (length (now work)) (length (now marks)) (length (now weights)) (length (now coords)) m k d
+    requires { ⌜ Runnable (length (now work)) (length (now «work_u32»)) (length (now weights)) (length (now coords)) m k d
         rounds ⌝ }
     requires { ⌜ AtMost (ofRuns 64) (h .held .counts) ⌝ }
     ensures { λ q. ⌜ Restarted (resultOf (now (weights .entry)) (now (coords .entry)) m k d rounds (h .generator))
-        (now (work .entry)) (now (work .exit)) (now (marks .entry)) (now (marks .exit)) m k d h q ⌝ }
+        (now (work .entry)) (now (work .exit)) (now («work_u32» .entry)) (now («work_u32» .exit)) m k d h q ⌝ }
 {
     let held = h.held;
     let a = kmeans_layout::free_at(held.second, kmeans_layout::half(m, k, d));
     let b = kmeans_layout::free_at(held.second, m + k);
     let r = run_at(
         work,
-        marks,
+        work_u32,
         weights,
         coords,
         h.generator,
@@ -157,7 +157,7 @@ fn restart(
 // All restarts; what is held in the end.
 fn run_all(
     work: &mut [f64],
-    marks: &mut [u32],
+    work_u32: &mut [u32],
     weights: &[f64],
     coords: &[f64],
     seed: u64,
@@ -167,13 +167,13 @@ fn run_all(
     rounds: usize,
     restarts: usize,
 ) -> Restarts
-    requires { ⌜ Runnable (length (now work)) (length (now marks)) (length (now weights)) (length (now coords)) m k d
+    requires { ⌜ Runnable (length (now work)) (length (now «work_u32»)) (length (now weights)) (length (now coords)) m k d
         rounds ⌝ }
     requires { ⌜ restarts ≤ mostRestarts ⌝ }
     ensures { λ h. ⌜ Holds (kmeansOf (now (weights .entry)) (now (coords .entry)) m k d rounds restarts seed)
-        (now (work .exit)) (now (marks .exit)) m k d 64 h ⌝ }
+        (now (work .exit)) (now («work_u32» .exit)) m k d 64 h ⌝ }
 {
-    let first = run_at(work, marks, weights, coords, seed, m, k, d, rounds, 0, 0);
+    let first = run_at(work, work_u32, weights, coords, seed, m, k, d, rounds, 0, 0);
     let counts = first.counts;
     let held = kmeans_layout::Held {
         second: false,
@@ -186,7 +186,7 @@ fn run_all(
     };
     let mut t = 1;
     while t < restarts {
-        h = restart(work, marks, weights, coords, h, m, k, d, rounds);
+        h = restart(work, work_u32, weights, coords, h, m, k, d, rounds);
         t += 1;
     }
     h
@@ -208,23 +208,23 @@ fn fill_outputs(
     labels: &mut [u32],
     directions: &mut [f64],
     work: &[f64],
-    marks: &[u32],
+    work_u32: &[u32],
     second: bool,
     m: usize,
     k: usize,
     d: usize,
 )
-    requires { ⌜ Fillable (length (now labels)) (length (now directions)) (length (now work)) (length (now marks)) m k
+    requires { ⌜ Fillable (length (now labels)) (length (now directions)) (length (now work)) (length (now «work_u32»)) m k
         d ⌝ }
-    ensures { λ _. ⌜ now (labels .exit) ≡ stateAt m k d (now (work .entry)) (now (marks .entry)) (heldAt second (half m k d))
+    ensures { λ _. ⌜ now (labels .exit) ≡ stateAt m k d (now (work .entry)) (now («work_u32» .entry)) (heldAt second (half m k d))
         (heldAt second (m + k)) .labels ++ drop m (now (labels .entry)) ⌝ }
-    ensures { λ _. ⌜ now (directions .exit) ≡ stateAt m k d (now (work .entry)) (now (marks .entry))
+    ensures { λ _. ⌜ now (directions .exit) ≡ stateAt m k d (now (work .entry)) (now («work_u32» .entry))
         (heldAt second (half m k d)) (heldAt second (m + k)) .centers ++ drop (k * d) (now (directions .entry)) ⌝ }
 {
     let kd = k * d;
     let a = kmeans_layout::held_at(second, kmeans_layout::half(m, k, d));
     let b = kmeans_layout::held_at(second, m + k);
-    rows::copy_u32(&mut labels[..m], &marks[b..b + m]);
+    rows::copy_u32(&mut labels[..m], &work_u32[b..b + m]);
     rows::copy(&mut directions[..kd], &work[a..a + kd]);
 }
 
@@ -241,15 +241,15 @@ pub fn spherical_kmeans(
     labels: &mut [u32],
     directions: &mut [f64],
     work: &mut [f64],
-    marks: &mut [u32],
+    work_u32: &mut [u32],
 ) -> Clustered
     ensures { λ r. ⌜ _≡_ {A = Outcome}
         (record { answer = r; labels = now (labels .exit); directions = now (directions .exit) })
         (outcome (now (labels .entry)) (now (directions .entry)) (now (weights .entry)) (now (coords .entry)) d k rounds
-        restarts seed (length (now (work .entry))) (length (now (marks .entry)))) ⌝ }
+        restarts seed (length (now (work .entry))) (length (now («work_u32» .entry)))) ⌝ }
     ensures { λ r. ⌜ AnswersWith (refusalOf (now (weights .entry)) (now (coords .entry)) d k rounds restarts
         (length (now (labels .entry))) (length (now (directions .entry))) (length (now (work .entry)))
-        (length (now (marks .entry)))) r ⌝ }
+        (length (now («work_u32» .entry)))) r ⌝ }
 {
     let code = refusal(
         weights,
@@ -261,7 +261,7 @@ pub fn spherical_kmeans(
         labels.len(),
         directions.len(),
         work.len(),
-        marks.len(),
+        work_u32.len(),
     );
     if code != 0 {
         return Clustered::Refused(code);
@@ -269,7 +269,7 @@ pub fn spherical_kmeans(
     let m = weights.len();
     let h = run_all(
         work,
-        marks,
+        work_u32,
         weights,
         coords,
         seed,
@@ -280,7 +280,7 @@ pub fn spherical_kmeans(
         restarts,
     );
     let held = h.held;
-    fill_outputs(labels, directions, work, marks, held.second, m, k, d);
+    fill_outputs(labels, directions, work, work_u32, held.second, m, k, d);
     let counts = held.counts;
     Clustered::Done {
         cohesion: held.value,

@@ -111,12 +111,12 @@ pub extern "C" fn mosterklomp_spherical_kmeans(
     labels: &mut [u32],
     directions: &mut [f64],
     work: &mut [f64],
-    marks: &mut [u32],
+    work_u32: &mut [u32],
     cohesion: &mut f64,
     counts: &mut [u64; 2],
 ) -> u32
     ensures { λ r. ⌜ (let o = clusteredOutcome (now (labels .entry)) (now (directions .entry)) (now (weights .entry))
-        (now (coords .entry)) d k rounds restarts seed (length (now (work .entry))) (length (now (marks .entry))) in
+        (now (coords .entry)) d k rounds restarts seed (length (now (work .entry))) (length (now («work_u32» .entry))) in
         (clustered r (now (cohesion .exit)) (now (counts .exit))
         ≡ clusteredNumbersOf (clustered 0 (now (cohesion .entry)) (now (counts .entry))) (o .answer))
         × (now (labels .exit) ≡ o .labels) × (now (directions .exit) ≡ o .directions)) ⌝ }
@@ -132,7 +132,7 @@ pub extern "C" fn mosterklomp_spherical_kmeans(
         labels,
         directions,
         work,
-        marks,
+        work_u32,
     );
     give_clustered(a, cohesion, counts)
 }
@@ -154,7 +154,7 @@ pub extern "C" fn mosterklomp_movmf_with(
     concentrations: &mut [f64],
     logw: &mut [f64],
     work: &mut [f64],
-    marks: &mut [u32],
+    work_u32: &mut [u32],
     groups: &mut u64,
     loglik: &mut f64,
     counts: &mut [u64; 2],
@@ -162,7 +162,7 @@ pub extern "C" fn mosterklomp_movmf_with(
     ensures { λ r. ⌜ (let o = fittedOutcome (arrays (now (labels .entry)) (now (responsibilities .entry)) (now («group_weights» .entry))
         (now (directions .entry)) (now (concentrations .entry)) (now (logw .entry)))
         (now (weights .entry)) (now (coords .entry)) d k (record { rounds = rounds; seed = seed; kappa = kappaOf shared })
-        (length (now (work .entry))) (length (now (marks .entry))) in
+        (length (now (work .entry))) (length (now («work_u32» .entry))) in
         (fitted r (now (groups .exit)) (now (loglik .exit)) (now (counts .exit))
         ≡ fittedNumbersOf (fitted 0 (now (groups .entry)) (now (loglik .entry)) (now (counts .entry))) (o .answer))
         × (arrays (now (labels .exit)) (now (responsibilities .exit)) (now («group_weights» .exit))
@@ -187,7 +187,7 @@ pub extern "C" fn mosterklomp_movmf_with(
         concentrations,
         logw,
         work,
-        marks,
+        work_u32,
     );
     give_fitted(a, groups, loglik, counts)
 }
@@ -210,7 +210,7 @@ pub extern "C" fn mosterklomp_movmf_auto_with(
     concentrations: &mut [f64],
     logw: &mut [f64],
     work: &mut [f64],
-    marks: &mut [u32],
+    work_u32: &mut [u32],
     groups: &mut u64,
     loglik: &mut f64,
     score: &mut f64,
@@ -219,7 +219,7 @@ pub extern "C" fn mosterklomp_movmf_auto_with(
     ensures { λ r. ⌜ (let o = chosenOutcome (arrays (now (labels .entry)) (now (responsibilities .entry)) (now («group_weights» .entry))
         (now (directions .entry)) (now (concentrations .entry)) (now (logw .entry)))
         (now (weights .entry)) (now (coords .entry)) d (record { rounds = rounds; seed = seed; kappa = kappaOf shared })
-        «k_min» «k_max» (length (now (work .entry))) (length (now (marks .entry))) in
+        «k_min» «k_max» (length (now (work .entry))) (length (now («work_u32» .entry))) in
         (chosen r (now (groups .exit)) (now (loglik .exit)) (now (score .exit)) (now (counts .exit))
         ≡ chosenNumbersOf (chosen 0 (now (groups .entry)) (now (loglik .entry)) (now (score .entry)) (now (counts .entry)))
         (o .answer)) × (arrays (now (labels .exit)) (now (responsibilities .exit)) (now («group_weights» .exit))
@@ -227,7 +227,7 @@ pub extern "C" fn mosterklomp_movmf_auto_with(
     ensures { λ r. ⌜ KeepsBest (arrays (now (labels .entry)) (now (responsibilities .entry)) (now («group_weights» .entry))
         (now (directions .entry)) (now (concentrations .entry)) (now (logw .entry)))
         (now (weights .entry)) (now (coords .entry)) d (record { rounds = rounds; seed = seed; kappa = kappaOf shared })
-        «k_min» «k_max» (length (now (work .entry))) (length (now (marks .entry)))
+        «k_min» «k_max» (length (now (work .entry))) (length (now («work_u32» .entry)))
         (chosen r (now (groups .exit)) (now (loglik .exit)) (now (score .exit)) (now (counts .exit)))
         (arrays (now (labels .exit)) (now (responsibilities .exit)) (now («group_weights» .exit))
         (now (directions .exit)) (now (concentrations .exit)) (now (logw .exit))) ⌝ }
@@ -252,7 +252,7 @@ pub extern "C" fn mosterklomp_movmf_auto_with(
         concentrations,
         logw,
         work,
-        marks,
+        work_u32,
     );
     give_chosen(a, groups, loglik, score, counts)
 }

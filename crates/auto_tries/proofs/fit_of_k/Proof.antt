@@ -39,7 +39,7 @@ halves-at : (r : tie.After-four-runs) → let a = start r .args in
 halves-at r =
     let s = start r in
     let a = s .args in
-    halves-of (length (a .work .now)) _ (length (a .marks .now)) _ _ (length (a .weights .now)) (a .k) (a .d) (a .s .rounds)
+    halves-of (length (a .work .now)) _ (length (a .work-u32 .now)) _ _ (length (a .weights .now)) (a .k) (a .d) (a .s .rounds)
     (r .four-runs .kept .0) (s .pre .0 .runnable)
 
 score-at-requires : tie.Need-score-at-requires
@@ -57,7 +57,7 @@ fill-outputs-requires c κs =
     let s = start r in
     let a = s .args in
     fillable _ (length (a .weights .now)) (length (a .coords .now)) (length (a .weights .now)) (a .k) (a .d) (a .s .rounds)
-    (lengthsOf (found s) (length (a .work .now)) (length (a .marks .now))) (r .four-runs .kept .0) (s .pre .0)
+    (lengthsOf (found s) (length (a .work .now)) (length (a .work-u32 .now))) (r .four-runs .kept .0) (s .pre .0)
 
 -- the outputs filled, and the way to them
 abbrev filled : tie.After-slice-known16 → tie.After-fill-outputs

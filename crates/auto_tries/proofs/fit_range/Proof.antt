@@ -23,16 +23,16 @@ use Rattle.auto_tries.proofs.fit_range.Statement.{statement}
 use Rattle.auto_tries.proofs.fit_range.Tie as tie
 
 abbrev Inv-loop : tie.InvT-loop
-Inv-loop weights coords d lo hi s ln-total labels₀ responsibilities₀ group-weights₀ directions₀ concentrations₀ logw₀ work₀ marks₀ t₀ k₀
-    labels responsibilities group-weights directions concentrations logw work marks t k =
+Inv-loop weights coords d lo hi s ln-total labels₀ responsibilities₀ group-weights₀ directions₀ concentrations₀ logw₀ work₀ work-u32₀ t₀ k₀
+    labels responsibilities group-weights directions concentrations logw work work-u32 t k =
     let o₀ = arrays labels₀ responsibilities₀ group-weights₀ directions₀ concentrations₀ logw₀ in
     let o = arrays labels responsibilities group-weights directions concentrations logw in
-    (lo ≤ k) × (k ≤ hi + 1) × (lengthsOf o (length work) (length marks) ≡ lengthsOf o₀ (length work₀) (length marks₀))
+    (lo ≤ k) × (k ≤ hi + 1) × (lengthsOf o (length work) (length work-u32) ≡ lengthsOf o₀ (length work₀) (length work-u32₀))
     × Fitted weights coords d s o₀ lo (k - lo) t o × Tails (length weights) k d o o₀ × AtMost (ofRuns (4 * (k - lo))) (t .counts)
 
 abbrev μ-loop : tie.MeasureT-loop
-μ-loop weights coords d lo hi s ln-total labels₀ responsibilities₀ group-weights₀ directions₀ concentrations₀ logw₀ work₀ marks₀ t₀ k₀
-    labels responsibilities group-weights directions concentrations logw work marks t k = hi + 1 - k
+μ-loop weights coords d lo hi s ln-total labels₀ responsibilities₀ group-weights₀ directions₀ concentrations₀ logw₀ work₀ work-u32₀ t₀ k₀
+    labels responsibilities group-weights directions concentrations logw work work-u32 t k = hi + 1 - k
 
 -- places, each from a later one
 abbrev start : tie.After-none Inv-loop μ-loop → tie.Start Inv-loop μ-loop
@@ -81,7 +81,7 @@ fit-of-k-requires c κs =
     let most = p .loop-test .taken in
     let m = length (a .weights .now) in
     let n = length (a .coords .now) in
-    let v = fittable-below m n m (a .hi) (l .k) (a .d) (a .s .rounds) (lengthsOf (found s) (length (a .work .now)) (length (a .marks .now)))
+    let v = fittable-below m n m (a .hi) (l .k) (a .d) (a .s .rounds) (lengthsOf (found s) (length (a .work .now)) (length (a .work-u32 .now)))
     (omega (arith, l .inv .0, s .pre .1 .0)) most (s .pre .0) in (
       fittable-of m n m (l .k) (a .d) (a .s .rounds) _ _ (l .inv .2) v,
       (
@@ -115,7 +115,7 @@ loop-again c =
     let o' = arrays (z .0) (z .1 .0) (z .1 .1 .0) (z .1 .1 .1 .0) (z .1 .1 .1 .1 .0) (z .1 .1 .1 .1 .1 .0) in (
       omega (arith, l .inv .0),
       omega (arith, most),
-      lengths-of o o' (length (l .work)) _ (length (l .marks)) _ (e .0) (e .1 .0) (e .1 .1 .0) (e .1 .1 .1 .0) (e .1 .1 .1 .1 .0)
+      lengths-of o o' (length (l .work)) _ (length (l .work-u32)) _ (e .0) (e .1 .0) (e .1 .1 .0) (e .1 .1 .1 .0) (e .1 .1 .1 .1 .0)
           (e .1 .1 .1 .1 .1 .0) (e .1 .1 .1 .1 .1 .1 .0) (e .1 .1 .1 .1 .1 .1 .1 .0) ∙ l .inv .2,
       fitted-turn (found s) w x (a .d) (a .s) (a .lo) (l .k) (l .k - a .lo) (l .t) (n .result) o o' (n .ensures) (l .inv .4) (l .inv .0)
           refl (l .inv .3),
@@ -127,7 +127,7 @@ loop-again c =
 -- an array is as long as found
 kept : (c : tie.After-loop Inv-loop μ-loop) → let l = c .before .loop in let a = start (c .before .before) .args in
     lengthsOf (arrays (l .labels) (l .responsibilities) (l .group-weights) (l .directions) (l .concentrations) (l .logw)) (length (l .work))
-    (length (l .marks)) ≡ lengthsOf (found (start (c .before .before))) (length (a .work .now)) (length (a .marks .now))
+    (length (l .work-u32)) ≡ lengthsOf (found (start (c .before .before))) (length (a .work .now)) (length (a .work-u32 .now))
 kept c = c .before .loop .inv .2
 
 returns : tie.Need-returns Inv-loop μ-loop
@@ -157,5 +157,5 @@ fit-range-spec =
     (λ c. ap (λ (l : Lengths). l .concentrations) (kept c))
     (λ c. ap (λ (l : Lengths). l .logw) (kept c))
     (λ c. ap (λ (l : Lengths). l .work) (kept c))
-    (λ c. ap (λ (l : Lengths). l .marks) (kept c))
+    (λ c. ap (λ (l : Lengths). l .«work_u32») (kept c))
     returns)

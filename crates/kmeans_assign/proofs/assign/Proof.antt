@@ -15,13 +15,13 @@ use Rattle.kmeans_assign.proofs.assign.Statement.{statement}
 use Rattle.kmeans_assign.proofs.assign.Tie as tie
 
 abbrev Inv-loop : tie.InvT-loop
-Inv-loop work₀ marks₀ coords it m k d p₀ i₀ work marks p i =
-    (i ≤ m) × Sized (length work) (length marks) (length coords) m k d
-    × (passed (stateIn m k d work marks) p ≡ passUpTo coords k d it (stateIn m k d work₀ marks₀) i) × (length work ≡ length work₀)
-    × (length marks ≡ length marks₀)
+Inv-loop work₀ work-u32₀ coords it m k d p₀ i₀ work work-u32 p i =
+    (i ≤ m) × Sized (length work) (length work-u32) (length coords) m k d
+    × (passed (stateIn m k d work work-u32) p ≡ passUpTo coords k d it (stateIn m k d work₀ work-u32₀) i) × (length work ≡ length work₀)
+    × (length work-u32 ≡ length work-u32₀)
 
 abbrev μ-loop : tie.MeasureT-loop
-μ-loop work₀ marks₀ coords it m k d p₀ i₀ work marks p i = m - i
+μ-loop work₀ work-u32₀ coords it m k d p₀ i₀ work work-u32 p i = m - i
 
 -- places, each from a later one
 abbrev loop-at : tie.After-slice-known4 Inv-loop μ-loop → tie.At-loop Inv-loop μ-loop
@@ -62,7 +62,7 @@ loop-again c =
     let eu = f .assign-leaf .kept .1 .0 in (
       omega (arith, f .before .before .before .loop-test .taken),
       sized-of _ _ _ _ (length (a .coords .now)) (a .m) (a .k) (a .d) ew eu (l .inv .1),
-      pass-turn (a .coords .now) (a .k) (a .d) (a .it) _ (l .i) (stateIn (a .m) (a .k) (a .d) (l .work) (l .marks)) _ (l .p)
+      pass-turn (a .coords .now) (a .k) (a .d) (a .it) _ (l .i) (stateIn (a .m) (a .k) (a .d) (l .work) (l .work-u32)) _ (l .p)
           (c .tally .result) (f .assign-leaf .result)
           (l .inv .2) (f .assign-leaf .ensures) (c .tally .ensures),
       ew ∙ l .inv .3,
@@ -79,7 +79,7 @@ returns : tie.Need-returns Inv-loop μ-loop
 returns c =
     let l = c .before .loop in
     let a = start (c .before) .args in
-    let s₀ = stateIn (a .m) (a .k) (a .d) (a .work .now) (a .marks .now) in
+    let s₀ = stateIn (a .m) (a .k) (a .d) (a .work .now) (a .work-u32 .now) in
     let e : l .i ≡ a .m = omega (arith, l .inv .0, c .loop-test .left) in (
       l .inv .2 ∙ ap (λ (n : ℕ). passUpTo (a .coords .now) (a .k) (a .d) (a .it) s₀ n) e,
       small-at (c .before),

@@ -9,9 +9,9 @@ returns : tie.Need-returns
 returns c =
     let s = c .before .before .before .before .before .before .before in
     let a = s .args in
-    let x = stateIn (a .m) (a .k) (a .d) (a .work .now) (a .marks .now) in
+    let x = stateIn (a .m) (a .k) (a .d) (a .work .now) (a .work-u32 .now) in
     leaf-skipped (a .coords .now) (a .k) (a .d) (a .it) (a .i) x x (c .before .before .bounds-at .result) (c .before .is-skipped .result)
-    (c .before .before .bounds-at .ensures (a .marks .now)) (c .before .is-skipped .ensures) (c .if1 .taken)
+    (c .before .before .bounds-at .ensures (a .work-u32 .now)) (c .before .is-skipped .ensures) (c .if1 .taken)
 
 returns-2 : tie.Need-returns-2
 returns-2 c =
@@ -19,10 +19,10 @@ returns-2 c =
     let b = f .before .before .before .before .before in
     let s = b .before .before .before .before .before in
     let a = s .args in
-    let x = stateIn (a .m) (a .k) (a .d) (a .work .now) (a .marks .now) in
+    let x = stateIn (a .m) (a .k) (a .d) (a .work .now) (a .work-u32 .now) in
     leaf-placed (a .coords .now) (a .k) (a .d) (a .it) (a .i) x _ (b .bounds-at .result)
     (f .before .before .before .before .is-skipped .result)
-    (b .bounds-at .ensures (a .marks .now)) (f .before .before .before .before .is-skipped .ensures) (f .before .before .before .if1 .left)
+    (b .bounds-at .ensures (a .work-u32 .now)) (f .before .before .before .before .is-skipped .ensures) (f .before .before .before .if1 .left)
     (f .place-leaf .result) (f .place-leaf .ensures)
 
 pub assign-leaf-spec : {M : Type 1} → statement M

@@ -12,7 +12,7 @@ returns : tie.Need-returns
 returns c =
     let f = c .before .before .before .before in
     let a = f .before .before .before .before .before .before .before .args in
-    let s = stateIn (a .m) (a .k) (a .d) (a .work .now) (a .marks .now) in (
+    let s = stateIn (a .m) (a .k) (a .d) (a .work .now) (a .work-u32 .now) in (
       f .shift-and-assign .ensures .0
           ∙ ap (λ (x : State). passUpTo (a .coords .now) (a .k) (a .d) (a .it) x (a .m))
           (shift-made (a .m) (a .k) (a .it) s (f .before .before .before .if1 .taken)),
@@ -23,7 +23,7 @@ returns-2 : tie.Need-returns-2
 returns-2 c =
     let f = c .before .before .before .before in
     let a = f .before .before .before .before .before .before .before .args in
-    let s = stateIn (a .m) (a .k) (a .d) (a .work .now) (a .marks .now) in (
+    let s = stateIn (a .m) (a .k) (a .d) (a .work .now) (a .work-u32 .now) in (
       f .assign .ensures .0
           ∙ ap (λ (x : State). passUpTo (a .coords .now) (a .k) (a .d) (a .it) x (a .m))
           (shift-left (a .m) (a .k) (a .it) s (f .before .before .before .if1 .left)),

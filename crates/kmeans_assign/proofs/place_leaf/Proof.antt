@@ -25,10 +25,10 @@ start p = start-of (best-call p)
 
 -- the best centre, past the call
 best-at : (c : tie.After-best-of) → let a = start-of c .args in
-    c .best-of .result ≡ bestOf (a .coords .now) (a .k) (a .d) (stateIn (a .m) (a .k) (a .d) (a .work .now) (a .marks .now)) (a .i)
+    c .best-of .result ≡ bestOf (a .coords .now) (a .k) (a .d) (stateIn (a .m) (a .k) (a .d) (a .work .now) (a .work-u32 .now)) (a .i)
 best-at c =
     let a = start-of c .args in
-    best-is (a .m) (a .k) (a .d) (a .work .now) (a .marks .now) (a .coords .now) (a .i) (c .best-of .result) (c .best-of .ensures)
+    best-is (a .m) (a .k) (a .d) (a .work .now) (a .work-u32 .now) (a .coords .now) (a .i) (c .best-of .result) (c .best-of .ensures)
 
 slice-aggregate-best-of : tie.Need-slice-aggregate-best-of
 slice-aggregate-best-of c =
@@ -57,18 +57,18 @@ cast-label c =
     let s = start-of b in
     let a = s .args in
     let below =
-    leaf-below (a .m) (a .k) (a .d) (a .work .now) (a .marks .now) (a .coords .now) (a .i) (b .best-of .result) (s .pre .0 .sizes .k-some)
+    leaf-below (a .m) (a .k) (a .d) (a .work .now) (a .work-u32 .now) (a .coords .now) (a .i) (b .best-of .result) (s .pre .0 .sizes .k-some)
     (best-at b) in
     omega (arith, below, s .pre .0 .sizes .k-small)
 
 slice-read-changed : tie.Need-slice-read-changed
-slice-read-changed c = let s = start (c .before .before .before .before .before) in omega (arith, s .pre .0 .marks-long, s .pre .1 .below)
+slice-read-changed c = let s = start (c .before .before .before .before .before) in omega (arith, s .pre .0 .workU32-long, s .pre .1 .below)
 
-mul-marks : tie.Need-mul-marks
-mul-marks c = let s = start (c .before .before .before .before .before) in omega (arith, s .pre .0 .sizes .m-small, s .pre .1 .below)
+mul-work-u32 : tie.Need-mul-work-u32
+mul-work-u32 c = let s = start (c .before .before .before .before .before) in omega (arith, s .pre .0 .sizes .m-small, s .pre .1 .below)
 
-slice-write-marks : tie.Need-slice-write-marks
-slice-write-marks c = let s = start (c .before .before .before .before .before) in omega (arith, s .pre .0 .marks-long, s .pre .1 .below)
+slice-write-work-u32 : tie.Need-slice-write-work-u32
+slice-write-work-u32 c = let s = start (c .before .before .before .before .before) in omega (arith, s .pre .0 .workU32-long, s .pre .1 .below)
 
 same-length : tie.Need-same-length
 same-length c = simp length-set at (c .before .before .before .before .put-bounds .kept .0)
@@ -80,9 +80,9 @@ returns c =
     let b = v .before .before in
     let s = start-of b in
     let a = s .args in
-    leaf-done (a .m) (a .k) (a .d) (a .work .now) (a .marks .now) (a .coords .now) (a .i) (b .best-of .result) (f .put-bounds .last .0)
+    leaf-done (a .m) (a .k) (a .d) (a .work .now) (a .work-u32 .now) (a .coords .now) (a .i) (b .best-of .result) (f .put-bounds .last .0)
     (v .served-at .result) (v .before .bounds-at .result) (f .before .bounds-by .result) (s .pre .1 .below) (v .served-at .ensures)
-    (best-at b) (v .before .bounds-at .ensures (a .marks .now)) (f .before .bounds-by .ensures) (f .put-bounds .ensures)
+    (best-at b) (v .before .bounds-at .ensures (a .work-u32 .now)) (f .before .bounds-by .ensures) (f .put-bounds .ensures)
 
 pub place-leaf-spec : {M : Type 1} → statement M
 place-leaf-spec =
@@ -107,8 +107,8 @@ place-leaf-spec =
     cast-label
     (λ c. let s = start (c .before .before .before .before) in omega (arith, s .pre .0 .sizes .m-small, s .pre .1 .below))
     slice-read-changed
-    mul-marks
-    slice-write-marks
+    mul-work-u32
+    slice-write-work-u32
     same-length
     (λ c. search needs)
     returns)

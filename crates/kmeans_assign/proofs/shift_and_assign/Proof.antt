@@ -19,13 +19,13 @@ use Rattle.kmeans_assign.proofs.shift_and_assign.Statement.{statement}
 use Rattle.kmeans_assign.proofs.shift_and_assign.Tie as tie
 
 abbrev Inv-loop : tie.InvT-loop
-Inv-loop work₀ marks₀ coords it m k d drift t p₀ i₀ work marks p i =
-    (i ≤ m) × Sized (length work) (length marks) (length coords) m k d
-    × (passed (stateIn m k d work marks) p ≡ passUpTo coords k d it (shiftUpTo k t (stateIn m k d work₀ marks₀) i) i)
-    × (length work ≡ length work₀) × (length marks ≡ length marks₀)
+Inv-loop work₀ work-u32₀ coords it m k d drift t p₀ i₀ work work-u32 p i =
+    (i ≤ m) × Sized (length work) (length work-u32) (length coords) m k d
+    × (passed (stateIn m k d work work-u32) p ≡ passUpTo coords k d it (shiftUpTo k t (stateIn m k d work₀ work-u32₀) i) i)
+    × (length work ≡ length work₀) × (length work-u32 ≡ length work-u32₀)
 
 abbrev μ-loop : tie.MeasureT-loop
-μ-loop work₀ marks₀ coords it m k d drift t p₀ i₀ work marks p i = m - i
+μ-loop work₀ work-u32₀ coords it m k d drift t p₀ i₀ work work-u32 p i = m - i
 
 -- places, each from a later one
 abbrev start-of : tie.After-none Inv-loop μ-loop → tie.Start Inv-loop μ-loop
@@ -48,10 +48,10 @@ turn-leaf-requires c κs =
     let a = s .args in
     let h : l .i < a .m = c .before .before .loop-test .taken in
     let labelled =
-    fused-labelled (a .coords .now) (a .k) (a .d) (a .it) _ (stateIn (a .m) (a .k) (a .d) (a .work .now) (a .marks .now)) (a .m) (s .pre .1)
+    fused-labelled (a .coords .now) (a .k) (a .d) (a .it) _ (stateIn (a .m) (a .k) (a .d) (a .work .now) (a .work-u32 .now)) (a .m) (s .pre .1)
     (s .pre .0 .sizes .k-some) (l .i)
-    (stateIn (a .m) (a .k) (a .d) (l .work) (l .marks)) (l .p) (l .inv .2) in
-    (l .inv .1, (leaf-of (l .i) (a .m) (a .d) h, rw (get-labels (a .m) (a .k) (a .d) (l .work) (l .marks) (l .i) 0 h) (labelled (l .i) h)))
+    (stateIn (a .m) (a .k) (a .d) (l .work) (l .work-u32)) (l .p) (l .inv .2) in
+    (l .inv .1, (leaf-of (l .i) (a .m) (a .d) h, rw (get-labels (a .m) (a .k) (a .d) (l .work) (l .work-u32) (l .i) 0 h) (labelled (l .i) h)))
 
 -- what is counted so far is small
 small-at : (p : tie.At-loop Inv-loop μ-loop) → AtMost ofRound (p .loop .p .counts)
@@ -75,7 +75,7 @@ loop-again c =
     let eu = f .turn-leaf .kept .1 .0 in (
       omega (arith, f .before .before .before .loop-test .taken),
       sized-of _ _ _ _ (length (a .coords .now)) (a .m) (a .k) (a .d) ew eu (l .inv .1),
-      fused-turn (a .coords .now) (a .k) (a .d) (a .it) _ _ (l .i) (stateIn (a .m) (a .k) (a .d) (l .work) (l .marks)) _ (l .p)
+      fused-turn (a .coords .now) (a .k) (a .d) (a .it) _ _ (l .i) (stateIn (a .m) (a .k) (a .d) (l .work) (l .work-u32)) _ (l .p)
           (c .tally .result) (f .turn-leaf .result)
           (l .inv .2) (f .turn-leaf .ensures) (c .tally .ensures),
       ew ∙ l .inv .3,
@@ -95,10 +95,10 @@ returns c =
     let r = f .before .before .before in
     let s = start (c .before) in
     let a = s .args in
-    let s₀ = stateIn (a .m) (a .k) (a .d) (a .work .now) (a .marks .now) in
+    let s₀ = stateIn (a .m) (a .k) (a .d) (a .work .now) (a .work-u32 .now) in
     let e : l .i ≡ a .m = omega (arith, l .inv .0, c .loop-test .left) in
     let t : f .two-smallest .result ≡ slowestOf (s₀ .drift) =
-    slowest-is (a .m) (a .k) (a .d) (a .work .now) (a .marks .now) (r .drift-at .result) (f .two-smallest .result)
+    slowest-is (a .m) (a .k) (a .d) (a .work .now) (a .work-u32 .now) (r .drift-at .result) (f .two-smallest .result)
     (r .drift-at .ensures) (f .two-smallest .ensures) in (
       l .inv .2 ∙ ap (λ (n : ℕ). passUpTo (a .coords .now) (a .k) (a .d) (a .it) (shiftUpTo (a .k) (f .two-smallest .result) s₀ n) n) e
           ∙ ap (λ (x : Slowest). passUpTo (a .coords .now) (a .k) (a .d) (a .it) (shiftUpTo (a .k) x s₀ (a .m)) (a .m)) t,

@@ -25,12 +25,12 @@ start p =
     start-of (q .before .before .before .before .before .before .before)
 
 -- the drift that is read is that of the leaf's own centre
-own-at : (p : tie.After-drift-at) → let a = start-of p .args in let s = stateIn (a .m) (a .k) (a .d) (a .work .now) (a .marks .now) in
-    getD (a .work .now) (p .drift-at .result + getD (a .marks .now) (a .i) 0) nan ≡ getD (s .drift) (getD (s .labels) (a .i) 0) nan
+own-at : (p : tie.After-drift-at) → let a = start-of p .args in let s = stateIn (a .m) (a .k) (a .d) (a .work .now) (a .work-u32 .now) in
+    getD (a .work .now) (p .drift-at .result + getD (a .work-u32 .now) (a .i) 0) nan ≡ getD (s .drift) (getD (s .labels) (a .i) 0) nan
 own-at p =
     let s = start-of p in
     let a = s .args in
-    own-drift (a .m) (a .k) (a .d) (a .work .now) (a .marks .now) (a .i) (p .drift-at .result) (s .pre .1 .0 .below) (s .pre .1 .1)
+    own-drift (a .m) (a .k) (a .d) (a .work .now) (a .work-u32 .now) (a .i) (p .drift-at .result) (s .pre .1 .0 .below) (s .pre .1 .1)
     (p .drift-at .ensures)
 
 returns : tie.Need-returns
@@ -42,9 +42,9 @@ returns c =
     let r = o .before .before in
     let s = start-of r in
     let a = s .args in
-    leaf-anew (a .m) (a .k) (a .d) (a .work .now) (a .marks .now) (a .coords .now) (a .it) (a .i) (a .t) _ _ (o .other-drift .result)
+    leaf-anew (a .m) (a .k) (a .d) (a .work .now) (a .work-u32 .now) (a .coords .now) (a .it) (a .i) (a .t) _ _ (o .other-drift .result)
     (b .bounds-at .result) (f .place-leaf .result)
-    (s .pre .0 .work-long) (s .pre .1 .0 .below) (own-at r) (o .other-drift .ensures) (b .bounds-at .ensures (a .marks .now))
+    (s .pre .0 .work-long) (s .pre .1 .0 .below) (own-at r) (o .other-drift .ensures) (b .bounds-at .ensures (a .work-u32 .now))
     (q .before .is-spent .ensures (q .if1 .taken))
     (f .place-leaf .ensures)
 
@@ -65,12 +65,12 @@ returns-2 c =
     let r = o .before .before in
     let s = start-of r in
     let a = s .args in
-    let s₀ = stateIn (a .m) (a .k) (a .d) (a .work .now) (a .marks .now) in
-    let e : stateIn (a .m) (a .k) (a .d) (f .put-bounds .last .0) (a .marks .now) ≡ shiftLeaf (a .k) (a .t) (a .i) s₀ =
-    shift-done (a .m) (a .k) (a .d) (a .work .now) (f .put-bounds .last .0) (a .marks .now) (a .i) (a .t) _ (o .other-drift .result)
+    let s₀ = stateIn (a .m) (a .k) (a .d) (a .work .now) (a .work-u32 .now) in
+    let e : stateIn (a .m) (a .k) (a .d) (f .put-bounds .last .0) (a .work-u32 .now) ≡ shiftLeaf (a .k) (a .t) (a .i) s₀ =
+    shift-done (a .m) (a .k) (a .d) (a .work .now) (f .put-bounds .last .0) (a .work-u32 .now) (a .i) (a .t) _ (o .other-drift .result)
     (b .bounds-at .result) (n .shifted .result)
-    (s .pre .1 .0 .below) (own-at r) (o .other-drift .ensures) (b .bounds-at .ensures (a .marks .now)) (n .shifted .ensures)
-    (f .put-bounds .ensures (a .marks .now)) in
+    (s .pre .1 .0 .below) (own-at r) (o .other-drift .ensures) (b .bounds-at .ensures (a .work-u32 .now)) (n .shifted .ensures)
+    (f .put-bounds .ensures (a .work-u32 .now)) in
     subst
     (λ (x : State). LeafPassed (a .coords .now) (a .k) (a .d) (a .it) (a .i) x
     (stateIn (a .m) (a .k) (a .d) (g .assign-leaf .last .0) (g .assign-leaf .last .1 .0)) (g .assign-leaf .result))

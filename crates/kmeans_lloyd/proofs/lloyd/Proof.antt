@@ -16,14 +16,14 @@ use Rattle.kmeans_lloyd.proofs.lloyd.Statement.{statement}
 use Rattle.kmeans_lloyd.proofs.lloyd.Tie as tie
 
 abbrev Inv-loop : tie.InvT-loop
-Inv-loop work₀ marks₀ weights coords m k d rounds c₀ it₀ work marks c it =
-    (it ≤ rounds) × Sized (length work) (length marks) (length coords) m k d × (length work ≡ length work₀) × (length marks ≡ length marks₀)
-    × Labelled m k (stateIn m k d work marks) × Few it c
-    × GoesOn weights coords m k d (roundsFrom weights coords m k d rounds 0 (freshRun (stateIn m k d work₀ marks₀))) (rounds - it) it
-    (stateIn m k d work marks) c
+Inv-loop work₀ work-u32₀ weights coords m k d rounds c₀ it₀ work work-u32 c it =
+    (it ≤ rounds) × Sized (length work) (length work-u32) (length coords) m k d × (length work ≡ length work₀) × (length work-u32 ≡ length work-u32₀)
+    × Labelled m k (stateIn m k d work work-u32) × Few it c
+    × GoesOn weights coords m k d (roundsFrom weights coords m k d rounds 0 (freshRun (stateIn m k d work₀ work-u32₀))) (rounds - it) it
+    (stateIn m k d work work-u32) c
 
 abbrev μ-loop : tie.MeasureT-loop
-μ-loop work₀ marks₀ weights coords m k d rounds c₀ it₀ work marks c it = rounds - it
+μ-loop work₀ work-u32₀ weights coords m k d rounds c₀ it₀ work work-u32 c it = rounds - it
 
 abbrev start : tie.At-loop Inv-loop μ-loop → tie.Start Inv-loop μ-loop
 start l = l .before .before .before .before .before .before
@@ -32,7 +32,7 @@ abbrev whole : tie.Start Inv-loop μ-loop → Run
 whole b =
     let a = b .args in
     roundsFrom (a .weights .now) (a .coords .now) (a .m) (a .k) (a .d) (a .rounds) 0
-    (freshRun (stateIn (a .m) (a .k) (a .d) (a .work .now) (a .marks .now)))
+    (freshRun (stateIn (a .m) (a .k) (a .d) (a .work .now) (a .work-u32 .now)))
 
 abbrev loop-at : tie.After-one-round Inv-loop μ-loop → tie.At-loop Inv-loop μ-loop
 loop-at g = g .before .before .before .before
@@ -83,7 +83,7 @@ loop-again c =
     let below = g .before .before .before .loop-test .taken in
     let ew = g .one-round .kept .0 in
     let eu = g .one-round .kept .1 .0 in
-    let s = stateIn (a .m) (a .k) (a .d) (l .work) (l .marks) in
+    let s = stateIn (a .m) (a .k) (a .d) (l .work) (l .work-u32) in
     let s' = stateIn (a .m) (a .k) (a .d) (g .one-round .last .0) (g .one-round .last .1 .0) in (
       omega (arith, below),
       sized-of _ _ _ _ (length (a .coords .now)) (a .m) (a .k) (a .d) ew eu (l .inv .1),
@@ -104,7 +104,7 @@ returns c =
     let b = start (c .before) in
     let a = b .args in
     runs-out (a .weights .now) (a .coords .now) (a .m) (a .k) (a .d) (whole b) (a .rounds - l .it) (l .it)
-    (stateIn (a .m) (a .k) (a .d) (l .work) (l .marks)) (l .c)
+    (stateIn (a .m) (a .k) (a .d) (l .work) (l .work-u32)) (l .c)
     (omega (arith, c .loop-test .left)) (l .inv .6) (l .inv .5) (omega (arith, l .inv .0, b .pre .1 .1))
 
 returns-2 : tie.Need-returns-2 Inv-loop μ-loop
@@ -113,7 +113,7 @@ returns-2 c =
     let g = round-at p in
     let l = loop-at g .loop in
     let a = start (loop-at g) .args in
-    let s = stateIn (a .m) (a .k) (a .d) (l .work) (l .marks) in
+    let s = stateIn (a .m) (a .k) (a .d) (l .work) (l .work-u32) in
     let s' = stateIn (a .m) (a .k) (a .d) (g .one-round .last .0) (g .one-round .last .1 .0) in
     stops (a .weights .now) (a .coords .now) (a .m) (a .k) (a .d) (whole (start (loop-at g))) (a .rounds - l .it) (a .rounds - (l .it + 1))
     (l .it) s s' (l .c) (p .plus .result) (g .one-round .result) (omega (arith, g .before .before .before .loop-test .taken))

@@ -19,7 +19,7 @@ returns : tie.Need-returns
 returns c =
     let p = c .before .before .before .before .before .before .before in
     let a = start p .args in
-    let s = stateIn (a .m) (a .k) (a .d) (a .work .now) (a .marks .now) in
+    let s = stateIn (a .m) (a .k) (a .d) (a .work .now) (a .work-u32 .now) in
     let x = stateIn (a .m) (a .k) (a .d) (p .pass .last .0) (p .pass .last .1 .0) in
     round-ended (a .weights .now) (a .coords .now) (a .m) (a .k) (a .d) (a .it) (passOf (a .coords .now) (a .m) (a .k) (a .d) (a .it) s) x
     (p .pass .result) (p .pass .ensures .0) (p .pass .ensures .1) (c .if1 .taken)
@@ -33,7 +33,7 @@ update-requires c κs =
     let p = pass-at c in
     let b = start p in
     let a = b .args in
-    let s = stateIn (a .m) (a .k) (a .d) (a .work .now) (a .marks .now) in
+    let s = stateIn (a .m) (a .k) (a .d) (a .work .now) (a .work-u32 .now) in
     let x = stateIn (a .m) (a .k) (a .d) (p .pass .last .0) (p .pass .last .1 .0) in
     let y = passOf (a .coords .now) (a .m) (a .k) (a .d) (a .it) s in (
       sized-of _ _ _ _ (length (a .coords .now)) (a .m) (a .k) (a .d) (p .pass .kept .0) (p .pass .kept .1 .0) (b .pre .0),
@@ -49,7 +49,7 @@ returns-2 c =
     let g = c .before .before .before .before in
     let p = pass-at (g .before) in
     let a = start p .args in
-    let s = stateIn (a .m) (a .k) (a .d) (a .work .now) (a .marks .now) in
+    let s = stateIn (a .m) (a .k) (a .d) (a .work .now) (a .work-u32 .now) in
     let x = stateIn (a .m) (a .k) (a .d) (p .pass .last .0) (p .pass .last .1 .0) in
     let x' = stateIn (a .m) (a .k) (a .d) (g .update .last .0) (g .update .last .1 .0) in
     round-settled (a .weights .now) (a .coords .now) (a .m) (a .k) (a .d) (a .it) (passOf (a .coords .now) (a .m) (a .k) (a .d) (a .it) s) x

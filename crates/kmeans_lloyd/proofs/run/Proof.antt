@@ -65,7 +65,7 @@ returns c =
     let a = start g .args in (
       run-done (a .weights .now) (a .coords .now) (a .m) (a .k) (a .d) (a .rounds) (a .generator) _ _ _ _ (f .seed .result)
           (l .lloyd .result) (h .cohesion-of .result)
-          (f .seed .ensures (a .marks .now) .0) (f .seed .ensures (a .marks .now) .1) (g .start .ensures) (l .lloyd .ensures)
+          (f .seed .ensures (a .work-u32 .now) .0) (f .seed .ensures (a .work-u32 .now) .1) (g .start .ensures) (l .lloyd .ensures)
           (h .cohesion-of .ensures .0) (h .cohesion-of .ensures .1),
       run-left (a .weights .now) (a .coords .now) (a .m) (a .k) (a .d) _ _ _ (labelled-at l) (h .cohesion-of .ensures .1)
           (h .cohesion-of .ensures .2),

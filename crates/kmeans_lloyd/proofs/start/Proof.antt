@@ -27,7 +27,7 @@ norms-place p =
 slice-aggregate-fill-u32 : tie.Need-slice-aggregate-fill-u32
 slice-aggregate-fill-u32 c =
     let b = start (norms-place (c .before .before .before)) in
-    sym (length-take-le (b .args .m) (b .args .marks .now) (omega (arith, b .pre .marks-long)))
+    sym (length-take-le (b .args .m) (b .args .work-u32 .now) (omega (arith, b .pre .workU32-long)))
 
 returns : tie.Need-returns
 unfolding div neg ofBits ofInt
@@ -41,13 +41,13 @@ returns c =
     let p = drift-place n in
     let b = start n in
     let a = b .args in
-    let u = putPart (a .marks .now) 0 (a .m) (z .fill-u32 .last .0) in
+    let u = putPart (a .work-u32 .now) 0 (a .m) (z .fill-u32 .last .0) in
     let l₁ = n .leaf-norms .kept .0 in
     let l₂ = v .fill-at .kept .0 ∙ l₁ in
     let l₃ = w .fill-at2 .kept .0 ∙ l₂ in
     start-done (a .m) (a .k) (a .d) (a .work .now) (n .leaf-norms .last .0) (v .fill-at .last .0) (w .fill-at2 .last .0)
     (x .fill-at3 .last .0)
-    (y .fill-at4 .last .0) (a .coords .now) (a .marks .now) u (z .fill-u32 .last .0) _ _ _ _
+    (y .fill-at4 .last .0) (a .coords .now) (a .work-u32 .now) u (z .fill-u32 .last .0) _ _ _ _
     (p .before .before .before .low-at .ensures)
     (p .before .before .high-at .ensures)
     (p .before .served-at .ensures)
@@ -57,7 +57,7 @@ returns c =
     l₂
     l₃
     (x .fill-at3 .kept .0 ∙ l₃)
-    (b .pre .marks-long)
+    (b .pre .workU32-long)
     (n .leaf-norms .ensures u)
     (v .fill-at .ensures)
     (w .fill-at2 .ensures)
@@ -79,7 +79,7 @@ start-spec =
     (λ c κs. search needs)
     (λ c κs. search needs)
     (λ c κs. search needs)
-    (λ c. omega (arith, start (norms-place (c .before .before)) .pre .marks-long))
+    (λ c. omega (arith, start (norms-place (c .before .before)) .pre .workU32-long))
     slice-aggregate-fill-u32
     (λ c κs. search needs)
     (λ c. search needs)

@@ -14,13 +14,13 @@ use Rattle.kmeans_sums.proofs.accumulate.Statement.{statement}
 use Rattle.kmeans_sums.proofs.accumulate.Tie as tie
 
 abbrev Inv-loop : tie.InvT-loop
-Inv-loop work₀ marks₀ weights coords m k d kd i₀ work marks i =
-    (i ≤ m) × Sized (length work) (length marks) (length coords) m k d
-    × Gathered weights coords m k d (stateIn m k d work₀ marks₀) i work marks
-    × (length work ≡ length work₀) × (length marks ≡ length marks₀)
+Inv-loop work₀ work-u32₀ weights coords m k d kd i₀ work work-u32 i =
+    (i ≤ m) × Sized (length work) (length work-u32) (length coords) m k d
+    × Gathered weights coords m k d (stateIn m k d work₀ work-u32₀) i work work-u32
+    × (length work ≡ length work₀) × (length work-u32 ≡ length work-u32₀)
 
 abbrev μ-loop : tie.MeasureT-loop
-μ-loop work₀ marks₀ weights coords m k d kd i₀ work marks i = m - i
+μ-loop work₀ work-u32₀ weights coords m k d kd i₀ work work-u32 i = m - i
 
 -- places, each from a later one
 abbrev fill-at-of : tie.After-fill-u32 Inv-loop μ-loop → tie.After-fill-at Inv-loop μ-loop
@@ -37,15 +37,15 @@ loop-at p = let q = p .before .before .before .before in q .before .before .befo
 
 -- where the loop begins the sums and counts are cleared
 cleared-at : (f : tie.After-fill-u32 Inv-loop μ-loop) → let a = start f .args in
-    Gathered (a .weights .now) (a .coords .now) (a .m) (a .k) (a .d) (stateIn (a .m) (a .k) (a .d) (a .work .now) (a .marks .now)) 0
-    (fill-at-of f .fill-at .last .0) (putPart (a .marks .now) (a .m) (a .m + a .k - a .m) (f .fill-u32 .last .0))
+    Gathered (a .weights .now) (a .coords .now) (a .m) (a .k) (a .d) (stateIn (a .m) (a .k) (a .d) (a .work .now) (a .work-u32 .now)) 0
+    (fill-at-of f .fill-at .last .0) (putPart (a .work-u32 .now) (a .m) (a .m + a .k - a .m) (f .fill-u32 .last .0))
 unfolding ofBits
 cleared-at f =
     let g = fill-at-of f in
     let s = start f in
     let a = s .args in
     cleared (a .weights .now) (a .coords .now) (a .m) (a .k) (a .d) (length (a .coords .now)) (a .work .now) (g .fill-at .last .0)
-    (a .marks .now) (f .fill-u32 .last .0) (s .pre .0) (g .fill-at .ensures) (f .fill-u32 .ensures)
+    (a .work-u32 .now) (f .fill-u32 .last .0) (s .pre .0) (g .fill-at .ensures) (f .fill-u32 .ensures)
 
 loop-holds : tie.Need-loop-holds Inv-loop μ-loop
 loop-holds c =
@@ -65,8 +65,8 @@ gain-requires c κs =
     let s = start f in
     let a = s .args in (
       l .inv .1,
-      gains-of (a .weights .now) (a .coords .now) (a .m) (a .k) (a .d) _ (l .i) (l .work) (l .marks) (l .inv .2)
-          (stateIn (a .m) (a .k) (a .d) (a .work .now) (a .marks .now)) (cleared-at f .state) (s .pre .1 .1)
+      gains-of (a .weights .now) (a .coords .now) (a .m) (a .k) (a .d) _ (l .i) (l .work) (l .work-u32) (l .inv .2)
+          (stateIn (a .m) (a .k) (a .d) (a .work .now) (a .work-u32 .now)) (cleared-at f .state) (s .pre .1 .1)
           (c .before .before .loop-test .taken) (s .pre .0 .sizes .m-small) (s .pre .1 .0),
     )
 
@@ -80,7 +80,7 @@ loop-again c =
     let eu = g .gain .kept .1 .0 in (
       omega (arith, c .before .before .before .before .before .before .before .loop-test .taken),
       sized-of _ _ _ _ (length (a .coords .now)) (a .m) (a .k) (a .d) ew eu (l .inv .1),
-      gather-turn (a .weights .now) (a .coords .now) (a .m) (a .k) (a .d) _ (l .i) (l .work) (l .marks) (l .inv .2) _ _ (g .gain .ensures),
+      gather-turn (a .weights .now) (a .coords .now) (a .m) (a .k) (a .d) _ (l .i) (l .work) (l .work-u32) (l .inv .2) _ _ (g .gain .ensures),
       ew ∙ l .inv .3,
       eu ∙ l .inv .4,
     )
@@ -89,8 +89,8 @@ returns : tie.Need-returns Inv-loop μ-loop
 returns c =
     let l = c .before .loop in
     let a = start (fill-u32-at (c .before)) .args in
-    gather-end (a .weights .now) (a .coords .now) (a .m) (a .k) (a .d) _ (l .i) (l .work) (l .marks) (l .inv .2) (a .work .now)
-    (a .marks .now) (cleared-at (c .before .before .before .before) .state)
+    gather-end (a .weights .now) (a .coords .now) (a .m) (a .k) (a .d) _ (l .i) (l .work) (l .work-u32) (l .inv .2) (a .work .now)
+    (a .work-u32 .now) (cleared-at (c .before .before .before .before) .state)
     (omega (arith, c .loop-test .left))
 
 pub accumulate-spec : {M : Type 1} → statement M

@@ -22,7 +22,7 @@ returns : tie.Need-returns
 returns c =
     let g = c .before .before .before .before .before .before in
     let a = start (c .before) .args in (
-      cohesion-done (a .weights .now) (a .coords .now) (a .m) (a .k) (a .d) (a .work .now) _ (a .marks .now) _ (c .add-norms .result)
+      cohesion-done (a .weights .now) (a .coords .now) (a .m) (a .k) (a .d) (a .work .now) _ (a .work-u32 .now) _ (c .add-norms .result)
           (g .accumulate .ensures) (c .add-norms .ensures),
       g .accumulate .ensures .state,
       g .accumulate .ensures .sums,

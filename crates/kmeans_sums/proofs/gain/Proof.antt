@@ -14,8 +14,8 @@ returns c =
     let g = c .before .before .before in
     let s = start c in
     let a = s .args in
-    gain-done (a .weights .now) (a .coords .now) (a .i) (a .m) (a .k) (a .d) (length (a .marks .now)) (length (a .coords .now))
-    (a .work .now) (a .marks .now)
+    gain-done (a .weights .now) (a .coords .now) (a .i) (a .m) (a .k) (a .d) (length (a .work-u32 .now)) (length (a .coords .now))
+    (a .work .now) (a .work-u32 .now)
     (g .add-scaled .last .0) (s .pre .0) (s .pre .1) (g .add-scaled .ensures)
 
 pub gain-spec : {M : Type 1} → statement M

@@ -13,13 +13,13 @@ use Rattle.kmeans_update.proofs.refresh.Statement.{statement}
 use Rattle.kmeans_update.proofs.refresh.Tie as tie
 
 abbrev Inv-loop : tie.InvT-loop
-Inv-loop work₀ marks coords m k d i₀ work i =
-    (i ≤ m) × Sized (length work) (length marks) (length coords) m k d
-    × (stateIn m k d work marks ≡ servedBy coords d (stateIn m k d work₀ marks) i)
+Inv-loop work₀ work-u32 coords m k d i₀ work i =
+    (i ≤ m) × Sized (length work) (length work-u32) (length coords) m k d
+    × (stateIn m k d work work-u32 ≡ servedBy coords d (stateIn m k d work₀ work-u32) i)
     × (sumsIn k d work ≡ sumsIn k d work₀) × (length work ≡ length work₀)
 
 abbrev μ-loop : tie.MeasureT-loop
-μ-loop work₀ marks coords m k d i₀ work i = m - i
+μ-loop work₀ work-u32 coords m k d i₀ work i = m - i
 
 -- places, each from a later one
 abbrev start : tie.At-loop Inv-loop μ-loop → tie.Start Inv-loop μ-loop
@@ -29,7 +29,7 @@ loop-holds : tie.Need-loop-holds Inv-loop μ-loop
 loop-holds c =
     let s = c .before .before .before in
     let a = s .args in
-    let s₀ = stateIn (a .m) (a .k) (a .d) (a .work .now) (a .marks .now) in
+    let s₀ = stateIn (a .m) (a .k) (a .d) (a .work .now) (a .work-u32 .now) in
     (omega arith, s .pre .0, sym (serve-none (a .coords .now) (a .d) s₀), refl, refl)
 
 refresh-leaf-requires : tie.Need-refresh-leaf-requires Inv-loop μ-loop
@@ -38,7 +38,7 @@ refresh-leaf-requires c κs =
     let s = start l in
     let a = s .args in
     let h = c .before .loop-test .taken in
-    let below = label-below (a .m) (a .k) (a .d) (a .work .now) (a .marks .now) (l .loop .i) h (s .pre .1) in
+    let below = label-below (a .m) (a .k) (a .d) (a .work .now) (a .work-u32 .now) (l .loop .i) h (s .pre .1) in
     (l .loop .inv .1, (leaf-of (l .loop .i) (a .m) (a .d) h, group-of _ (a .k) (a .d) below))
 
 loop-again : tie.Need-loop-again Inv-loop μ-loop
@@ -49,14 +49,14 @@ loop-again c =
     let l = q .loop in
     let s = start q in
     let a = s .args in
-    let s₀ = stateIn (a .m) (a .k) (a .d) (a .work .now) (a .marks .now) in
-    let long = length-served (a .m) (a .k) (a .d) (a .work .now) (a .marks .now) (s .pre .0 .work-long) in
+    let s₀ = stateIn (a .m) (a .k) (a .d) (a .work .now) (a .work-u32 .now) in
+    let long = length-served (a .m) (a .k) (a .d) (a .work .now) (a .work-u32 .now) (s .pre .0 .work-long) in
     let w' = g .refresh-leaf .last .0 in
     let ew = g .refresh-leaf .kept .0 in (
       omega arith,
       sized-of _ _ _ _ (length (a .coords .now)) (a .m) (a .k) (a .d) ew refl (l .inv .1),
-      serve-turn (a .coords .now) (a .d) s₀ (l .i) (stateIn (a .m) (a .k) (a .d) (l .work) (a .marks .now))
-          (stateIn (a .m) (a .k) (a .d) w' (a .marks .now)) (omega (arith, t .loop-test .taken, long)) (l .inv .2)
+      serve-turn (a .coords .now) (a .d) s₀ (l .i) (stateIn (a .m) (a .k) (a .d) (l .work) (a .work-u32 .now))
+          (stateIn (a .m) (a .k) (a .d) w' (a .work-u32 .now)) (omega (arith, t .loop-test .taken, long)) (l .inv .2)
           (g .refresh-leaf .ensures .0),
       _∙_ {a = sumsIn (a .k) (a .d) w'} (g .refresh-leaf .ensures .1) (l .inv .3),
       ew ∙ l .inv .4,
@@ -67,8 +67,8 @@ returns c =
     let l = c .before .loop in
     let s = start (c .before) in
     let a = s .args in
-    let s₀ = stateIn (a .m) (a .k) (a .d) (a .work .now) (a .marks .now) in
-    let long = length-served (a .m) (a .k) (a .d) (a .work .now) (a .marks .now) (s .pre .0 .work-long) in
+    let s₀ = stateIn (a .m) (a .k) (a .d) (a .work .now) (a .work-u32 .now) in
+    let long = length-served (a .m) (a .k) (a .d) (a .work .now) (a .work-u32 .now) (s .pre .0 .work-long) in
     let e : l .i ≡ a .m = omega arith in
     (l .inv .2 ∙ serve-end (a .coords .now) (a .d) s₀ (l .i) (a .m) long e, l .inv .3)
 

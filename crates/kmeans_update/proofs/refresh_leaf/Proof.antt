@@ -15,7 +15,7 @@ returns c =
     let at = q .served-at in
     let s = start q in
     let a = s .args in (
-      serve-done (a .coords .now) (a .i) (a .m) (a .k) (a .d) (a .work .now) (a .marks .now) (at .result) (c .dot .result) (at .ensures)
+      serve-done (a .coords .now) (a .i) (a .m) (a .k) (a .d) (a .work .now) (a .work-u32 .now) (at .result) (c .dot .result) (at .ensures)
           (s .pre .1 .0 .below) (s .pre .1 .1 .below) (c .dot .ensures),
       rw (at .ensures) (set-served-sums (a .m) (a .k) (a .d) (a .work .now) (a .i) (c .dot .result) (s .pre .1 .0 .below)),
     )

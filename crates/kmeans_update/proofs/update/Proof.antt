@@ -63,7 +63,7 @@ refresh-requires c κs =
     let s = start g in
     let a = s .args in (
       sized-of _ _ _ _ (length (a .coords .now)) (a .m) (a .k) (a .d) (g .accumulate .kept .0) (g .accumulate .kept .1 .0) (s .pre .0),
-      labelled-of (a .m) (a .k) (stateIn (a .m) (a .k) (a .d) (a .work .now) (a .marks .now))
+      labelled-of (a .m) (a .k) (stateIn (a .m) (a .k) (a .d) (a .work .now) (a .work-u32 .now))
           (stateIn (a .m) (a .k) (a .d) (g .accumulate .last .0) (g .accumulate .last .1 .0))
           (ap (λ (x : State). x .labels) (g .accumulate .ensures .state)) (s .pre .1 .1),
     )
@@ -90,7 +90,7 @@ returns c =
     let g = accumulated j in
     let a = start g .args in
     update-done (a .weights .now) (a .coords .now) (a .m) (a .k) (a .d) (a .work .now) (g .accumulate .last .0) (j .if1 .work)
-    (a .marks .now) (g .accumulate .last .1 .0) _
+    (a .work-u32 .now) (g .accumulate .last .1 .0) _
     (g .accumulate .ensures) (refreshed-at j .1) (refreshed-at j .2) (f .update-groups .ensures)
 
 pub update-spec : {M : Type 1} → statement M

@@ -11,8 +11,8 @@ returns c =
     let q = f .before .before in
     let s = q .before .before .before .before .before in
     let a = s .args in (
-      group-empty (a .coords .now) (a .c) (a .m) (a .k) (a .d) (a .work .now) (a .marks .now) _ (s .pre .1 .below) (q .if1 .taken)
-          (f .reseed .ensures .0 (a .marks .now)),
+      group-empty (a .coords .now) (a .c) (a .m) (a .k) (a .d) (a .work .now) (a .work-u32 .now) _ (s .pre .1 .below) (q .if1 .taken)
+          (f .reseed .ensures .0 (a .work-u32 .now)),
       f .reseed .ensures .1,
     )
 
@@ -22,8 +22,8 @@ returns-2 c =
     let q = f .before .before in
     let s = q .before .before .before .before .before in
     let a = s .args in (
-      group-full (a .coords .now) (a .c) (a .m) (a .k) (a .d) (a .work .now) (a .marks .now) _ (s .pre .1 .below) (q .if1 .left)
-          (f .recenter .ensures .0 (a .marks .now)),
+      group-full (a .coords .now) (a .c) (a .m) (a .k) (a .d) (a .work .now) (a .work-u32 .now) _ (s .pre .1 .below) (q .if1 .left)
+          (f .recenter .ensures .0 (a .work-u32 .now)),
       f .recenter .ensures .1,
     )
 

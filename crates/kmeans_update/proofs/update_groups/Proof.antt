@@ -12,18 +12,18 @@ use Rattle.kmeans_update.proofs.update_groups.Statement.{statement}
 use Rattle.kmeans_update.proofs.update_groups.Tie as tie
 
 abbrev Inv-loop : tie.InvT-loop
-Inv-loop work₀ marks coords m k d c₀ work c =
-    (c ≤ k) × Sized (length work) (length marks) (length coords) m k d × (length work ≡ length work₀)
-    × UpdatedTo coords m k d work₀ work marks c
+Inv-loop work₀ work-u32 coords m k d c₀ work c =
+    (c ≤ k) × Sized (length work) (length work-u32) (length coords) m k d × (length work ≡ length work₀)
+    × UpdatedTo coords m k d work₀ work work-u32 c
 
 abbrev μ-loop : tie.MeasureT-loop
-μ-loop work₀ marks coords m k d c₀ work c = k - c
+μ-loop work₀ work-u32 coords m k d c₀ work c = k - c
 
 loop-holds : tie.Need-loop-holds Inv-loop μ-loop
 loop-holds c =
     let s = c .before .before .before in
     let a = s .args in
-    (omega arith, s .pre, refl, groups-start (a .coords .now) (a .m) (a .k) (a .d) (a .work .now) (a .marks .now))
+    (omega arith, s .pre, refl, groups-start (a .coords .now) (a .m) (a .k) (a .d) (a .work .now) (a .work-u32 .now))
 
 update-group-requires : tie.Need-update-group-requires Inv-loop μ-loop
 update-group-requires c κs =
@@ -40,7 +40,7 @@ loop-again c =
       omega arith,
       sized-of _ _ _ _ (length (a .coords .now)) (a .m) (a .k) (a .d) (g .kept .0) refl (l .loop .inv .1),
       g .kept .0 ∙ l .loop .inv .2,
-      groups-turn (a .coords .now) (a .m) (a .k) (a .d) (a .work .now) (l .loop .work) (a .marks .now) (l .loop .c) (l .loop .inv .3)
+      groups-turn (a .coords .now) (a .m) (a .k) (a .d) (a .work .now) (l .loop .work) (a .work-u32 .now) (l .loop .c) (l .loop .inv .3)
           (g .last .0) (omega arith)
           (g .ensures .0) (g .ensures .1),
     )
@@ -49,7 +49,7 @@ returns : tie.Need-returns Inv-loop μ-loop
 returns c =
     let l = c .before in
     let a = l .before .before .before .before .args in
-    groups-end (a .coords .now) (a .m) (a .k) (a .d) (a .work .now) (l .loop .work) (a .marks .now) (l .loop .c) (l .loop .inv .3)
+    groups-end (a .coords .now) (a .m) (a .k) (a .d) (a .work .now) (l .loop .work) (a .work-u32 .now) (l .loop .c) (l .loop .inv .3)
     (omega arith)
 
 pub update-groups-spec : {M : Type 1} → statement M

@@ -6,7 +6,7 @@ use Rattle.leaf_file.proofs.fit_leaves.Statement.{statement}
 use Rattle.leaf_file.proofs.fit_leaves.Tie as tie
 
 -- places, each from a later one
-abbrev movmf-auto-at : tie.After-marks2 → tie.After-movmf-auto
+abbrev movmf-auto-at : tie.After-work-u322 → tie.After-movmf-auto
 movmf-auto-at p = let q = p .before .before .before .before .before in q .before .before .before .before
 
 abbrev start : tie.After-movmf-auto → tie.Start

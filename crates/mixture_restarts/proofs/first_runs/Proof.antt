@@ -12,12 +12,12 @@ use Rattle.mixture_restarts.proofs.first_runs.Statement.{statement}
 use Rattle.mixture_restarts.proofs.first_runs.Tie as tie
 
 abbrev Inv-loop : tie.InvT-loop
-Inv-loop work₀ marks₀ weights coords s m k d h₀ t₀ work marks h t =
-    (1 ≤ t) × (t ≤ 3) × Runnable (length work) (length marks) (length weights) (length coords) m k d (s .rounds)
-    × Holds (runsUpTo s weights coords m k d (t - 1)) work m k d t h × (length work ≡ length work₀) × (length marks ≡ length marks₀)
+Inv-loop work₀ work-u32₀ weights coords s m k d h₀ t₀ work work-u32 h t =
+    (1 ≤ t) × (t ≤ 3) × Runnable (length work) (length work-u32) (length weights) (length coords) m k d (s .rounds)
+    × Holds (runsUpTo s weights coords m k d (t - 1)) work m k d t h × (length work ≡ length work₀) × (length work-u32 ≡ length work-u32₀)
 
 abbrev μ-loop : tie.MeasureT-loop
-μ-loop work₀ marks₀ weights coords s m k d h₀ t₀ work marks h t = 3 - t
+μ-loop work₀ work-u32₀ weights coords s m k d h₀ t₀ work work-u32 h t = 3 - t
 
 -- places, each from a later one
 abbrev start : tie.After-run-at Inv-loop μ-loop → tie.Start Inv-loop μ-loop
@@ -48,7 +48,7 @@ loop-holds c =
     let a = s .args in (
       omega arith,
       omega arith,
-      runnable-of (length (a .work .now)) _ (length (a .marks .now)) _ (length (a .weights .now)) (length (a .coords .now)) (a .m) (a .k)
+      runnable-of (length (a .work .now)) _ (length (a .work-u32 .now)) _ (length (a .weights .now)) (length (a .coords .now)) (a .m) (a .k)
           (a .d) (a .s .rounds) (f .run-at .kept .0) (f .run-at .kept .1 .0) (s .pre),
       first-held (runsUpTo (a .s) (a .weights .now) (a .coords .now) (a .m) (a .k) (a .d) 0) (a .work .now) (f .run-at .last .0) (a .m)
           (a .k) (a .d) (f .run-at .result) (f .run-at .ensures),

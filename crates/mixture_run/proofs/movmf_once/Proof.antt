@@ -12,7 +12,7 @@ run-requires : tie.Need-run-requires
 run-requires c κs =
     let s = c .before .before .before .before .before .before in
     let a = s .args in
-    warm-sized (length (a .work .now)) (length (a .marks .now)) (length (a .weights .now)) (length (a .coords .now)) (a .m) (a .k) (a .d)
+    warm-sized (length (a .work .now)) (length (a .work-u32 .now)) (length (a .weights .now)) (length (a .coords .now)) (a .m) (a .k) (a .d)
     (a .s .rounds) (s .pre)
 
 -- places, each from a later one
@@ -32,7 +32,7 @@ init-kappas-requires c κs =
       (
         area-of _ _ (a .m) (a .k) (a .d) (r .kept .0) (s .pre .area),
         s .pre .leaves .weights-long,
-        omega (arith, r .kept .1 .0, s .pre .marks-long),
+        omega (arith, r .kept .1 .0, s .pre .workU32-long),
       ),
       labels-warm (a .weights .now) (a .coords .now) (a .m) (a .k) (a .d) _ _ (r .ensures .1),
     )

@@ -39,22 +39,22 @@ found s =
 -- the refusal is the definition's
 refusal-is : (r : tie.After-refusal) → let s = start (r .before) in let a = s .args in
     r .refusal .result ≡ refusalOf (a .weights .now) (a .coords .now) (a .d) (a .k) (a .s)
-    (lengthsOf (found s) (length (a .work .now)) (length (a .marks .now)))
+    (lengthsOf (found s) (length (a .work .now)) (length (a .work-u32 .now)))
 refusal-is r =
     let s = start (r .before) in
     let a = s .args in
     r .refusal .ensures
     ∙ ap (λ (b : Bool). fitRefusal b (a .weights .now) (a .coords .now) (a .d) (a .k) (a .s)
-    (lengthsOf (found s) (length (a .work .now)) (length (a .marks .now)))) (r .before .groups-ok .ensures)
+    (lengthsOf (found s) (length (a .work .now)) (length (a .work-u32 .now)))) (r .before .groups-ok .ensures)
 
 -- past the refusals all is in range
 fittable-at : (c : tie.Else1) → let s = start (c .before .before) in let a = s .args in
     Fittable (length (a .weights .now)) (length (a .coords .now)) (length (a .weights .now)) (a .k) (a .d) (a .s .rounds)
-    (lengthsOf (found s) (length (a .work .now)) (length (a .marks .now)))
+    (lengthsOf (found s) (length (a .work .now)) (length (a .work-u32 .now)))
 fittable-at c =
     let s = start (c .before .before) in
     let a = s .args in
-    admitted (a .weights .now) (a .coords .now) (a .d) (a .k) (a .s) (lengthsOf (found s) (length (a .work .now)) (length (a .marks .now)))
+    admitted (a .weights .now) (a .coords .now) (a .d) (a .k) (a .s) (lengthsOf (found s) (length (a .work .now)) (length (a .work-u32 .now)))
     (sym (refusal-is (c .before)) ∙ c .if1 .left) .fittable
 
 refusal-requires : tie.Need-refusal-requires
@@ -67,10 +67,10 @@ returns c =
     let r = c .before in
     let s = start (r .before) in
     let a = s .args in
-    let e = refused (found s) (a .weights .now) (a .coords .now) (a .d) (a .k) (a .s) (length (a .work .now)) (length (a .marks .now))
+    let e = refused (found s) (a .weights .now) (a .coords .now) (a .d) (a .k) (a .s) (length (a .work .now)) (length (a .work-u32 .now))
     (r .refusal .result) (refusal-is r) (c .if1 .taken) in (
       e,
-      number-is (found s) (a .weights .now) (a .coords .now) (a .d) (a .k) (a .s) (length (a .work .now)) (length (a .marks .now)) _ _ e,
+      number-is (found s) (a .weights .now) (a .coords .now) (a .d) (a .k) (a .s) (length (a .work .now)) (length (a .work-u32 .now)) _ _ e,
     )
 
 four-runs-requires : tie.Need-four-runs-requires
@@ -83,7 +83,7 @@ fill-outputs-requires c κs =
     let s = start (e .before .before) in
     let a = s .args in
     fillable _ (length (a .weights .now)) (length (a .coords .now)) (length (a .weights .now)) (a .k) (a .d) (a .s .rounds)
-    (lengthsOf (found s) (length (a .work .now)) (length (a .marks .now))) (r .four-runs .kept .0) (fittable-at e)
+    (lengthsOf (found s) (length (a .work .now)) (length (a .work-u32 .now))) (r .four-runs .kept .0) (fittable-at e)
 
 returns-2 : tie.Need-returns-2
 returns-2 c =
@@ -95,12 +95,12 @@ returns-2 c =
     let a = s .args in
     let l = c .before .kept-loglik in
     let x = f .fill-outputs .last in
-    let d = done (found s) (a .weights .now) (a .coords .now) (a .d) (a .k) (a .s) (length (a .work .now)) (length (a .marks .now))
+    let d = done (found s) (a .weights .now) (a .coords .now) (a .d) (a .k) (a .s) (length (a .work .now)) (length (a .work-u32 .now))
     (n .refusal .result) (refusal-is n) (e .if1 .left) (r .four-runs .last .0) (r .four-runs .result) (l .result)
     (arrays (x .0) (x .1 .0) (x .1 .1 .0) (x .1 .1 .1 .0) (x .1 .1 .1 .1 .0) (x .1 .1 .1 .1 .1 .0)) (r .four-runs .ensures) (l .ensures)
     (f .fill-outputs .ensures) in (
       d,
-      number-is (found s) (a .weights .now) (a .coords .now) (a .d) (a .k) (a .s) (length (a .work .now)) (length (a .marks .now)) _ _ d,
+      number-is (found s) (a .weights .now) (a .coords .now) (a .d) (a .k) (a .s) (length (a .work .now)) (length (a .work-u32 .now)) _ _ d,
     )
 
 pub movmf-with-spec : {M : Type 1} → statement M

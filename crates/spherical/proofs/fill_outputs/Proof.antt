@@ -21,11 +21,11 @@ abbrev start : tie.After-held-at2 → tie.Start
 start c = half-at c .before .before .before .before .before
 
 -- where the held half starts, in both arrays
-marks-held : (c : tie.After-held-at2)
-    → let a = start c .args in (c .held-at2 .result + (a .m + a .k) ≤ length (a .marks .now)) × (c .held-at2 .result ≤ a .m + a .k)
-marks-held c =
+workU32-held : (c : tie.After-held-at2)
+    → let a = start c .args in (c .held-at2 .result + (a .m + a .k) ≤ length (a .work-u32 .now)) × (c .held-at2 .result ≤ a .m + a .k)
+workU32-held c =
     let s = start c in
-    held-within (s .args .second) (s .args .m + s .args .k) (length (s .args .marks .now)) _ (s .pre .halves .marks-long) (c .held-at2 .ensures)
+    held-within (s .args .second) (s .args .m + s .args .k) (length (s .args .work-u32 .now)) _ (s .pre .halves .workU32-long) (c .held-at2 .ensures)
 
 work-from : (c : tie.After-held-at2) → let a = start c .args in c .before .held-at .result ≡ heldAt (a .second) (half (a .m) (a .k) (a .d))
 work-from c = c .before .held-at .ensures ∙ ap (heldAt (start c .args .second)) (half-at c .half .ensures)
@@ -47,16 +47,16 @@ held-of c = c .before .before .before
 slice-aggregate-copy-u32 : tie.Need-slice-aggregate-copy-u32
 slice-aggregate-copy-u32 c = let s = start (c .before) in sym (length-take-le (s .args .m) (s .args .labels .now) (s .pre .labels-long))
 
-marks-near : (c : tie.After-held-at2) → c .held-at2 .result + start c .args .m ≤ 8320
-marks-near c = let z = start c .pre .halves .sizes in omega (arith, marks-held c, z .m-small, z .k-small)
+workU32-near : (c : tie.After-held-at2) → c .held-at2 .result + start c .args .m ≤ 8320
+workU32-near c = let z = start c .pre .halves .sizes in omega (arith, workU32-held c, z .m-small, z .k-small)
 
 copy-u32-requires : tie.Need-copy-u32-requires
 copy-u32-requires c κs =
     let h = c .before .before in
     let s = start h in
     let b = h .held-at2 .result in
-    alike (s .args .labels .now) (s .args .marks .now) (s .args .m) b (b + s .args .m - b) (omega arith) (s .pre .labels-long)
-    (omega (arith, marks-held h .0))
+    alike (s .args .labels .now) (s .args .work-u32 .now) (s .args .m) b (b + s .args .m - b) (omega arith) (s .pre .labels-long)
+    (omega (arith, workU32-held h .0))
 
 slice-aggregate-copy : tie.Need-slice-aggregate-copy
 slice-aggregate-copy c =
@@ -89,10 +89,10 @@ returns c =
     let marked = h .held-at2 .result in (
       ap (λ (l : List ℕ). l ++ drop (s .m) (s .labels .now))
           (f .copy-u32 .ensures
-          ∙ labels-at (s .m) (s .k) (s .d) (s .work .now) (s .marks .now) a b marked (marked + s .m - marked) (h .held-at2 .ensures) (omega arith)),
+          ∙ labels-at (s .m) (s .k) (s .d) (s .work .now) (s .work-u32 .now) a b marked (marked + s .m - marked) (h .held-at2 .ensures) (omega arith)),
       ap (λ (l : List Float). l ++ drop n (s .directions .now))
           (g .copy .ensures
-          ∙ centers-at (s .m) (s .k) (s .d) (s .work .now) (s .marks .now) a b from (from + n - from) (work-from h) (omega arith)),
+          ∙ centers-at (s .m) (s .k) (s .d) (s .work .now) (s .work-u32 .now) a b from (from + n - from) (work-from h) (omega arith)),
     )
 
 pub fill-outputs-spec : {M : Type 1} → statement M
@@ -106,11 +106,11 @@ fill-outputs-spec =
     (λ c κs. search needs)
     (λ c. search needs)
     slice-aggregate-copy-u32
-    (λ c. omega (arith, marks-near (c .before)))
-    (λ c. omega (arith, marks-near (c .before)))
+    (λ c. omega (arith, workU32-near (c .before)))
+    (λ c. omega (arith, workU32-near (c .before)))
     (λ c. search needs)
     (λ c. search needs)
-    (λ c. omega (arith, marks-held (c .before) .0))
+    (λ c. omega (arith, workU32-held (c .before) .0))
     copy-u32-requires
     (λ c. search needs)
     slice-aggregate-copy

@@ -11,13 +11,13 @@ use Rattle.spherical.proofs.run_all.Statement.{statement}
 use Rattle.spherical.proofs.run_all.Tie as tie
 
 abbrev Inv-loop : tie.InvT-loop
-Inv-loop work₀ marks₀ weights coords seed m k d rounds restarts h₀ t₀ work marks h t =
-    (1 ≤ t) × (t ≤ max restarts 1) × Runnable (length work) (length marks) (length weights) (length coords) m k d rounds
-    × Holds (restartsUpTo weights coords m k d rounds seed (t - 1)) work marks m k d t h
-    × (length work ≡ length work₀) × (length marks ≡ length marks₀)
+Inv-loop work₀ work-u32₀ weights coords seed m k d rounds restarts h₀ t₀ work work-u32 h t =
+    (1 ≤ t) × (t ≤ max restarts 1) × Runnable (length work) (length work-u32) (length weights) (length coords) m k d rounds
+    × Holds (restartsUpTo weights coords m k d rounds seed (t - 1)) work work-u32 m k d t h
+    × (length work ≡ length work₀) × (length work-u32 ≡ length work-u32₀)
 
 abbrev μ-loop : tie.MeasureT-loop
-μ-loop work₀ marks₀ weights coords seed m k d rounds restarts h₀ t₀ work marks h t = max restarts 1 - t
+μ-loop work₀ work-u32₀ weights coords seed m k d rounds restarts h₀ t₀ work work-u32 h t = max restarts 1 - t
 
 -- places, each from a later one
 abbrev start : tie.After-run-at Inv-loop μ-loop → tie.Start Inv-loop μ-loop
@@ -33,7 +33,7 @@ run-at-requires : tie.Need-run-at-requires Inv-loop μ-loop
 run-at-requires c κs =
     let s = c .before .before .before .before .before .before in
     let v = s .pre .0 .halves in
-    (s .pre .0, (omega (arith, v .work-long), omega (arith, v .marks-long)))
+    (s .pre .0, (omega (arith, v .work-long), omega (arith, v .workU32-long)))
 
 loop-holds : tie.Need-loop-holds Inv-loop μ-loop
 unfolding restartsUpTo
@@ -43,10 +43,10 @@ loop-holds c =
     let a = s .args in (
       omega arith,
       omega arith,
-      runnable-of (length (a .work .now)) _ (length (a .marks .now)) _ (length (a .weights .now)) (length (a .coords .now)) (a .m) (a .k)
+      runnable-of (length (a .work .now)) _ (length (a .work-u32 .now)) _ (length (a .weights .now)) (length (a .coords .now)) (a .m) (a .k)
           (a .d) (a .rounds) (f .run-at .kept .0) (f .run-at .kept .1 .0) (s .pre .0),
       first-held (restartsUpTo (a .weights .now) (a .coords .now) (a .m) (a .k) (a .d) (a .rounds) (a .seed) 0) (a .work .now)
-          (f .run-at .last .0) (a .marks .now) (f .run-at .last .1 .0) (a .m) (a .k) (a .d) (f .run-at .result) (f .run-at .ensures),
+          (f .run-at .last .0) (a .work-u32 .now) (f .run-at .last .1 .0) (a .m) (a .k) (a .d) (f .run-at .result) (f .run-at .ensures),
       refl,
       refl,
     )
@@ -59,7 +59,7 @@ restart-requires c κs =
     let a = s .args in (
       l .inv .2,
       held-small (restartsUpTo (a .weights .now) (a .coords .now) (a .m) (a .k) (a .d) (a .rounds) (a .seed) (l .t - 1)) (l .work)
-          (l .marks) (a .m) (a .k) (a .d) (l .t) (l .h) (omega (arith, l .inv .1, s .pre .1)) (l .inv .3),
+          (l .work-u32) (a .m) (a .k) (a .d) (l .t) (l .h) (omega (arith, l .inv .1, s .pre .1)) (l .inv .3),
     )
 
 -- the restart of a turn, and the loop before it
@@ -89,7 +89,7 @@ loop-again c =
       omega (arith, g .before .before .before .loop-test .taken),
       runnable-of _ _ _ _ (length (a .weights .now)) (length (a .coords .now)) (a .m) (a .k) (a .d) (a .rounds) ew eu (l .inv .2),
       restart-turn (a .weights .now) (a .coords .now) (a .m) (a .k) (a .d) (a .rounds) (a .seed) (l .t) (l .work) (g .restart .last .0)
-          (l .marks) (g .restart .last .1 .0) (l .h) (g .restart .result) (l .inv .0) (l .inv .3) (g .restart .ensures),
+          (l .work-u32) (g .restart .last .1 .0) (l .h) (g .restart .result) (l .inv .0) (l .inv .3) (g .restart .ensures),
       ew ∙ l .inv .4,
       eu ∙ l .inv .5,
     )
@@ -105,7 +105,7 @@ returns c =
     let l = c .before .loop in
     let s = start-of (c .before) in
     let a = s .args in
-    restart-end (a .weights .now) (a .coords .now) (a .m) (a .k) (a .d) (a .rounds) (a .seed) (a .restarts) (l .t) (l .work) (l .marks)
+    restart-end (a .weights .now) (a .coords .now) (a .m) (a .k) (a .d) (a .rounds) (a .seed) (a .restarts) (l .t) (l .work) (l .work-u32)
     (l .h) (omega (arith, l .inv .0, l .inv .1, c .loop-test .left)) (s .pre .1) (l .inv .3)
 
 pub run-all-spec : {M : Type 1} → statement M

@@ -24,7 +24,7 @@ returns c =
     let n = h .half .result in
     let q : a .a + n - a .a ≡ half (a .m) (a .k) (a .d) = omega (arith, h .half .ensures) in
     run-done (a .m) (a .k) (a .d) (a .a) (a .b) (a .a + n - a .a) (a .b + (a .m + a .k) - a .b) (a .work .now) (r .run .last .0)
-    (a .marks .now) (r .run .last .1 .0) (resultOf (a .weights .now) (a .coords .now) (a .m) (a .k) (a .d) (a .rounds) (a .generator))
+    (a .work-u32 .now) (r .run .last .1 .0) (resultOf (a .weights .now) (a .coords .now) (a .m) (a .k) (a .d) (a .rounds) (a .generator))
     (r .run .result) q (omega arith) (r .run .kept .0) (r .run .kept .1 .0) (s .pre .1 .0) (s .pre .1 .1) (r .run .ensures .0)
 
 pub run-at-spec : {M : Type 1} → statement M

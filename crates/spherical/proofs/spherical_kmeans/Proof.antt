@@ -24,21 +24,21 @@ held f = f .before .before .before .before .before
 -- past the refusals all is in range
 ready-at : (c : tie.Else1) → let a = start (c .before) .args in
     Ready (a .weights .now) (a .coords .now) (a .d) (a .k) (a .rounds) (a .restarts) (length (a .labels .now)) (length (a .directions .now))
-    (length (a .work .now)) (length (a .marks .now))
+    (length (a .work .now)) (length (a .work-u32 .now))
 ready-at c =
     let a = start (c .before) .args in
     ready (a .weights .now) (a .coords .now) (a .d) (a .k) (a .rounds) (a .restarts) (length (a .labels .now)) (length (a .directions .now))
-    (length (a .work .now)) (length (a .marks .now)) (sym (c .before .refusal .ensures) ∙ c .if1 .left)
+    (length (a .work .now)) (length (a .work-u32 .now)) (sym (c .before .refusal .ensures) ∙ c .if1 .left)
 
 returns : tie.Need-returns
 returns c =
     let r = c .before in
     let a = start r .args in
     let e = refused (a .labels .now) (a .directions .now) (a .weights .now) (a .coords .now) (a .d) (a .k) (a .rounds) (a .restarts) (a .seed)
-    (length (a .work .now)) (length (a .marks .now)) (r .refusal .result) (r .refusal .ensures) (c .if1 .taken) in (
+    (length (a .work .now)) (length (a .work-u32 .now)) (r .refusal .result) (r .refusal .ensures) (c .if1 .taken) in (
       e,
       number-is (a .labels .now) (a .directions .now) (a .weights .now) (a .coords .now) (a .d) (a .k) (a .rounds) (a .restarts) (a .seed)
-          (length (a .work .now)) (length (a .marks .now)) _ _ _ e,
+          (length (a .work .now)) (length (a .work-u32 .now)) _ _ _ e,
     )
 
 run-all-requires : tie.Need-run-all-requires
@@ -47,7 +47,7 @@ run-all-requires c κs =
     let a = start (e .before) .args in
     let r = ready-at e in (
       entry-runnable (a .weights .now) (a .coords .now) (a .d) (a .k) (a .rounds) (a .restarts) (length (a .labels .now))
-          (length (a .directions .now)) (length (a .work .now)) (length (a .marks .now)) r,
+          (length (a .directions .now)) (length (a .work .now)) (length (a .work-u32 .now)) r,
       r .restarts-small,
     )
 
@@ -56,10 +56,10 @@ fill-outputs-requires c κs =
     let f = ran (c .before .before .before .before) in
     let e = admitted f in
     let a = start (e .before) .args in
-    fillable-of (length (a .labels .now)) (length (a .directions .now)) (length (a .work .now)) _ (length (a .marks .now)) _
+    fillable-of (length (a .labels .now)) (length (a .directions .now)) (length (a .work .now)) _ (length (a .work-u32 .now)) _
     (length (a .weights .now)) (a .k) (a .d) (f .run-all .kept .0) (f .run-all .kept .1 .0)
     (entry-fillable (a .weights .now) (a .coords .now) (a .d) (a .k) (a .rounds) (a .restarts) (length (a .labels .now))
-    (length (a .directions .now)) (length (a .work .now)) (length (a .marks .now)) (ready-at e))
+    (length (a .directions .now)) (length (a .work .now)) (length (a .work-u32 .now)) (ready-at e))
 
 returns-2 : tie.Need-returns-2
 returns-2 c =
@@ -69,12 +69,12 @@ returns-2 c =
     let r = e .before in
     let a = start r .args in
     let q = done (a .labels .now) (a .directions .now) (a .weights .now) (a .coords .now) (a .d) (a .k) (a .rounds) (a .restarts) (a .seed)
-    (length (a .work .now)) (length (a .marks .now)) (r .refusal .result) (r .refusal .ensures) (e .if1 .left)
+    (length (a .work .now)) (length (a .work-u32 .now)) (r .refusal .result) (r .refusal .ensures) (e .if1 .left)
     (f .run-all .last .0) (f .run-all .last .1 .0) (f .run-all .result) _ _ (f .run-all .ensures) (o .fill-outputs .ensures .0)
     (o .fill-outputs .ensures .1) in (
       q,
       number-is (a .labels .now) (a .directions .now) (a .weights .now) (a .coords .now) (a .d) (a .k) (a .rounds) (a .restarts) (a .seed)
-          (length (a .work .now)) (length (a .marks .now)) _ _ _ q,
+          (length (a .work .now)) (length (a .work-u32 .now)) _ _ _ q,
     )
 
 pub spherical-kmeans-spec : {M : Type 1} → statement M

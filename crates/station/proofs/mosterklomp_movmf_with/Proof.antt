@@ -35,7 +35,7 @@ returns c =
     (λ (z : Kappa). outcome
     (arrays (a .labels .now) (a .responsibilities .now) (a .group-weights .now) (a .directions .now) (a .concentrations .now) (a .logw .now))
     (a .weights .now) (a .coords .now) (a .d) (a .k) (record { rounds = a .rounds; seed = a .seed; kappa = z }) (length (a .work .now))
-    (length (a .marks .now))) (q .kappa-of .result) (kappaOf (a .shared)) (q .kappa-of .ensures) (f .ensures .0) (c .give-fitted .ensures)
+    (length (a .work-u32 .now))) (q .kappa-of .result) (kappaOf (a .shared)) (q .kappa-of .ensures) (f .ensures .0) (c .give-fitted .ensures)
 
 pub mosterklomp-movmf-with-spec : {M : Type 1} → statement M
 mosterklomp-movmf-with-spec =

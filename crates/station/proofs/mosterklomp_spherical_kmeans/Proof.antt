@@ -23,7 +23,7 @@ returns c =
     let x = k .last .1 .1 .1 .1 .1 .1 .1 in
     clustered-call (clustered 0 (a .cohesion .now) (a .counts .now)) _ (k .result) (x .0) (x .1 .0)
     (outcome (a .labels .now) (a .directions .now) (a .weights .now) (a .coords .now) (a .d) (a .k) (a .rounds) (a .restarts) (a .seed)
-    (length (a .work .now)) (length (a .marks .now))) (k .ensures .0) (c .give-clustered .ensures)
+    (length (a .work .now)) (length (a .work-u32 .now))) (k .ensures .0) (c .give-clustered .ensures)
 
 pub mosterklomp-spherical-kmeans-spec : {M : Type 1} → statement M
 mosterklomp-spherical-kmeans-spec =

@@ -30,7 +30,7 @@ returns c =
     let t = totalled n in
     let a = start t .args in
     let p = partsIn (a .m) (a .k) (a .d) (a .work .now) in
-    let labelled = labelTotalsUpTo (a .weights .now) (take (a .m) (a .marks .now)) (a .k) (a .m) in
+    let labelled = labelTotalsUpTo (a .weights .now) (take (a .m) (a .work-u32 .now)) (a .k) (a .m) in
     let totals : place .totals-at .result ≡ totalsAt (a .k) (a .d) = place .totals-at .ensures in
     let cut =
     region-cut totalsR (a .m) (a .k) (a .d) (n .put-norms .last .0) (place .totals-at .result) (a .k) (omega (arith, totals)) refl in

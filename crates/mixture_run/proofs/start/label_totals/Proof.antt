@@ -15,11 +15,11 @@ use Rattle.mixture_run.proofs.start.label_totals.Statement.{statement}
 use Rattle.mixture_run.proofs.start.label_totals.Tie as tie
 
 abbrev Inv-loop : tie.InvT-loop
-Inv-loop work₀ marks weights m k d totals i₀ work i =
-    (i ≤ m) × (length work ≡ length work₀) × (partsIn m k d work ≡ totalled m k d work₀ weights marks i)
+Inv-loop work₀ work-u32 weights m k d totals i₀ work i =
+    (i ≤ m) × (length work ≡ length work₀) × (partsIn m k d work ≡ totalled m k d work₀ weights work-u32 i)
 
 abbrev μ-loop : tie.MeasureT-loop
-μ-loop work₀ marks weights m k d totals i₀ work i = m - i
+μ-loop work₀ work-u32 weights m k d totals i₀ work i = m - i
 
 -- places, each from a later one
 abbrev filled : tie.In-loop Inv-loop μ-loop → tie.After-fill-at Inv-loop μ-loop
@@ -45,13 +45,13 @@ cleared f =
 
 -- the label of leaf i, in a turn
 label-of : (c : tie.In-loop Inv-loop μ-loop) → let a = start (filled c) .args in
-    getD (a .marks .now) (c .before .loop .i) 0 < a .k
+    getD (a .work-u32 .now) (c .before .loop .i) 0 < a .k
 label-of c = start (filled c) .pre .1 (c .before .loop .i) (omega arith)
 
 loop-holds : tie.Need-loop-holds Inv-loop μ-loop
 loop-holds c =
     let a = start (c .before .before) .args in
-    (search needs, refl, totals-start (a .m) (a .k) (a .d) _ (a .weights .now) (a .marks .now) (a .work .now) (cleared (c .before .before)))
+    (search needs, refl, totals-start (a .m) (a .k) (a .d) _ (a .weights .now) (a .work-u32 .now) (a .work .now) (cleared (c .before .before)))
 
 cast-at : tie.Need-cast-at Inv-loop μ-loop
 cast-at c = search (label-of (c .before), needs)
@@ -79,7 +79,7 @@ loop-again c =
     let a = b .args in (
       omega arith,
       search needs,
-      totals-turn (a .m) (a .k) (a .d) _ (a .weights .now) (a .marks .now) (l .work) _ (l .i)
+      totals-turn (a .m) (a .k) (a .d) _ (a .weights .now) (a .work-u32 .now) (l .work) _ (l .i)
           (omega (arith, t .before .before .totals-at .ensures)) (omega arith) (label-of (c .before .before .before)) (l .inv .2),
     )
 
@@ -87,7 +87,7 @@ returns : tie.Need-returns Inv-loop μ-loop
 returns c =
     let l = c .before .loop in
     let a = start (filled-2 c) .args in
-    totals-end (a .m) (a .k) (a .d) _ (a .weights .now) (a .marks .now) (a .work .now) (l .work) (l .i) (omega arith)
+    totals-end (a .m) (a .k) (a .d) _ (a .weights .now) (a .work-u32 .now) (a .work .now) (l .work) (l .i) (omega arith)
     (cleared (c .before .before .before .before)) (l .inv .2)
 
 pub label-totals-spec : {M : Type 1} → statement M
