@@ -1,4 +1,5 @@
--- How a run's state lies in the two lent work areas, and what the functions on them ask. No definition of document 01 stands on this file.
+-- How a run's state lies in the two lent work areas, and what the functions on them ask. No definition of document 01
+-- stands on this file.
 use mathlib.Core.Path.{_≡_}
 use mathlib.Core.List.{List, [], _∷_}
 use Prim.Native.Nat.{ℕ, _+_, _*_, _≤_, _<_}

@@ -1,5 +1,5 @@
--- What a fit and the functions that fill the outputs ask of the arrays' lengths. No definition of document 01 stands on this
--- file.
+-- What a fit and the functions that fill the outputs ask of the arrays' lengths. No definition of document 01 stands on
+-- this file.
 use Prim.Native.Nat.{ℕ, _*_, _≤_}
 use Rattle.mixture_restarts.specs.Halves.{TwoHalves, Runnable}
 use Rattle.mixture_outputs.specs.declared.Lengths.{Lengths}
