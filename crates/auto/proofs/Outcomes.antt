@@ -89,7 +89,8 @@ module _ (o : Outputs) (weights coords : List Float) (d kMin kMax : ℕ) (s : Se
 
     pub done : code ≡ 0 → _≡_ {A = Outcome} (record { answer = r; outputs = o' }) whole
     done z =
-        let f : _≡_ {A = Outcome} (record { answer = r; outputs = o' }) (outcomeIn o weights coords d s lo hi work workU32) = rw (← ec, z) done-in in
+        let f : _≡_ {A = Outcome} (record { answer = r; outputs = o' }) (outcomeIn o weights coords d s lo hi work workU32) =
+        rw (← ec, z) done-in in
         f ∙ in-range
 
     -- what holds of the best of the range holds of the call's own answer

@@ -1,6 +1,6 @@
--- Document 01, 'Choosing the number of groups', and the mission's third demand: the automatic fit keeps exactly the best
--- number of groups. What a call promises of its own answer's numbers and of its arrays, over the lone fits of the range.
--- Definitions only.
+-- Document 01, 'Choosing the number of groups', and the mission's third demand: the automatic fit keeps exactly the
+-- best number of groups. What a call promises of its own answer's numbers and of its arrays, over the lone fits of the
+-- range. Definitions only.
 use mathlib.Core.Path.{_≡_}
 use mathlib.Core.List.{List}
 use mathlib.Core.Bool.{false, not}
@@ -36,7 +36,8 @@ module _ (weights coords : List Float) (d : ℕ) (s : Settings) where
     -- 7, both directions
     pub seven-is-none : n .refusal ≡ 7
         → (j : ℕ) → lo ≤ j → j ≤ hi → T (not (lt (score weights coords d s j) (inf false)))
-    pub none-is-seven : ((j : ℕ) → lo ≤ j → j ≤ hi → T (not (lt (score weights coords d s j) (inf false)))) → n .refusal ≡ 7
+    pub none-is-seven : ((j : ℕ) → lo ≤ j → j ≤ hi → T (not (lt (score weights coords d s j) (inf false))))
+        → n .refusal ≡ 7
     -- the kept number's score, log-likelihood and arrays are those of its lone fit
     pub values : n .refusal ≡ 0 → let k = n .groups in
         (n .score ≡ score weights coords d s k) × (n .loglik ≡ lone weights coords d s k .em .loglik)
@@ -57,7 +58,8 @@ KeepsBest o weights coords d s kMin kMax work workU32 n o' =
     refusalOf weights coords d hi s (lengthsOf o work workU32) ≡ 0 → Best weights coords d s (lowest kMin hi) hi n o o'
 
 -- of its answer, whatever was found where the numbers are put
-abbrev pub AnswerKeepsBest : (o : Outputs) (weights coords : List Float) (d : ℕ) (s : Settings) (kMin kMax work workU32 : ℕ)
+abbrev pub AnswerKeepsBest : (o : Outputs) (weights coords : List Float) (d : ℕ) (s : Settings)
+    (kMin kMax work workU32 : ℕ)
     → Chosen → Outputs → Type 0
 AnswerKeepsBest o weights coords d s kMin kMax work workU32 answer o' =
     (found : Numbers) → KeepsBest o weights coords d s kMin kMax work workU32 (numbersOf found answer) o'

@@ -1,4 +1,5 @@
--- Document 01, 'Choosing the number of groups': the lone fit of k is what `movmf_with` gives for k groups. Definitions only.
+-- Document 01, 'Choosing the number of groups': the lone fit of k is what `movmf_with` gives for k groups. Definitions
+-- only.
 use mathlib.Core.Path.{_≡_}
 use mathlib.Core.List.{List}
 use Prim.Native.Nat.{ℕ, _≤_}

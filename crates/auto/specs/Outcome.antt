@@ -1,5 +1,5 @@
--- Document 01, 'Choosing the number of groups': what a call of `movmf_auto_with` answers, and what the output arrays hold
--- after it. Definitions only.
+-- Document 01, 'Choosing the number of groups': what a call of `movmf_auto_with` answers, and what the output arrays
+-- hold after it. Definitions only.
 use mathlib.Core.List.{List}
 use Prim.Native.Nat.{ℕ, zero, suc, _+_, _-_}
 use lib.ListN.{length}
@@ -22,7 +22,8 @@ pub record Outcome : Type 0 where
 abbrev pub answered : Chosen → Outputs → Outcome
 answered answer outputs = record { answer = answer; outputs = outputs }
 
--- by the choice among the lone scores: none is 7; a number is answered with its lone fit's log-likelihood, and its score
+-- by the choice among the lone scores: none is 7; a number is answered with its lone fit's log-likelihood, and its
+-- score
 abbrev pub answerBy : List Float → List Float → ℕ → Settings → Counts → Choice → Chosen
 answerBy weights coords d s counts Nothing = Unscored counts
 answerBy weights coords d s counts (Number k x) = Done k (lone weights coords d s k .em .loglik) x counts

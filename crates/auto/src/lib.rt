@@ -1,6 +1,6 @@
-// The mixture fit that chooses the number of groups, the public entries (vmf.rs, movmf_auto_with and movmf_auto; document 01,
-// 'Choosing the number of groups' and 'Refusals by call'): what must be refused is, and the numbers of the clamped range are
-// fitted.
+// The mixture fit that chooses the number of groups, the public entries (vmf.rs, movmf_auto_with and movmf_auto;
+// document 01, 'Choosing the number of groups' and 'Refusals by call'): what must be refused is, and the numbers of the
+// clamped range are fitted.
 ghost use mathlib.Core.Path.{_≡_};
 ghost use lib.ListN.{length};
 ghost use Rattle.mixture_kappa.specs.declared.Kappa.the-variants.{Free};
@@ -9,8 +9,8 @@ ghost use Rattle.auto.specs.Outcome.{answered, outcome};
 ghost use Rattle.auto.specs.Best.{AnswerKeepsBest};
 ghost use Rattle.auto.specs.Tallied.{answerOf};
 
-// What a call answers: the number of the refusal; 7, with the counts; or the number kept, its log-likelihood and score, and
-// the counts.
+// What a call answers: the number of the refusal; 7, with the counts; or the number kept, its log-likelihood and score,
+// and the counts.
 pub enum Chosen {
     Refused(u32),
     Unscored {
@@ -41,9 +41,9 @@ fn answer(t: auto_tries::Tally) -> Chosen
     }
 }
 
-// The mixture fit of m leaves (m weights, m * d coordinates) with the best number of groups from k_min to k_max, as far as
-// there are leaves. The outputs are those of `movmf_with` and must be long enough for the greatest number; a refusal changes
-// none of them. The work arrays' contents afterwards are free.
+// The mixture fit of m leaves (m weights, m * d coordinates) with the best number of groups from k_min to k_max, as far
+// as there are leaves. The outputs are those of `movmf_with` and must be long enough for the greatest number; a refusal
+// changes none of them. The work arrays' contents afterwards are free.
 pub fn movmf_auto_with(
     weights: &[f64],
     coords: &[f64],
@@ -60,14 +60,14 @@ pub fn movmf_auto_with(
     work: &mut [f64],
     work_u32: &mut [u32],
 ) -> Chosen
-    ensures { λ r. ⌜ answered r (arrays (now (labels .exit)) (now (responsibilities .exit)) (now («group_weights» .exit))
-        (now (directions .exit)) (now (concentrations .exit)) (now (logw .exit)))
+    ensures { λ r. ⌜ answered r (arrays (now (labels .exit)) (now (responsibilities .exit))
+        (now («group_weights» .exit)) (now (directions .exit)) (now (concentrations .exit)) (now (logw .exit)))
         ≡ outcome (arrays (now (labels .entry)) (now (responsibilities .entry)) (now («group_weights» .entry))
         (now (directions .entry)) (now (concentrations .entry)) (now (logw .entry)))
         (now (weights .entry)) (now (coords .entry)) d s «k_min» «k_max»
         (length (now (work .entry))) (length (now («work_u32» .entry))) ⌝ }
-    ensures { λ r. ⌜ AnswerKeepsBest (arrays (now (labels .entry)) (now (responsibilities .entry)) (now («group_weights» .entry))
-        (now (directions .entry)) (now (concentrations .entry)) (now (logw .entry)))
+    ensures { λ r. ⌜ AnswerKeepsBest (arrays (now (labels .entry)) (now (responsibilities .entry))
+        (now («group_weights» .entry)) (now (directions .entry)) (now (concentrations .entry)) (now (logw .entry)))
         (now (weights .entry)) (now (coords .entry)) d s «k_min» «k_max»
         (length (now (work .entry))) (length (now («work_u32» .entry))) r
         (arrays (now (labels .exit)) (now (responsibilities .exit)) (now («group_weights» .exit))
@@ -130,18 +130,19 @@ pub fn movmf_auto(
     work: &mut [f64],
     work_u32: &mut [u32],
 ) -> Chosen
-    ensures { λ r. ⌜ answered r (arrays (now (labels .exit)) (now (responsibilities .exit)) (now («group_weights» .exit))
-        (now (directions .exit)) (now (concentrations .exit)) (now (logw .exit)))
+    ensures { λ r. ⌜ answered r (arrays (now (labels .exit)) (now (responsibilities .exit))
+        (now («group_weights» .exit)) (now (directions .exit)) (now (concentrations .exit)) (now (logw .exit)))
         ≡ outcome (arrays (now (labels .entry)) (now (responsibilities .entry)) (now («group_weights» .entry))
         (now (directions .entry)) (now (concentrations .entry)) (now (logw .entry)))
-        (now (weights .entry)) (now (coords .entry)) d (record { rounds = rounds; seed = seed; kappa = Free }) «k_min» «k_max»
-        (length (now (work .entry))) (length (now («work_u32» .entry))) ⌝ }
-    ensures { λ r. ⌜ AnswerKeepsBest (arrays (now (labels .entry)) (now (responsibilities .entry)) (now («group_weights» .entry))
-        (now (directions .entry)) (now (concentrations .entry)) (now (logw .entry)))
-        (now (weights .entry)) (now (coords .entry)) d (record { rounds = rounds; seed = seed; kappa = Free }) «k_min» «k_max»
-        (length (now (work .entry))) (length (now («work_u32» .entry))) r
-        (arrays (now (labels .exit)) (now (responsibilities .exit)) (now («group_weights» .exit))
-        (now (directions .exit)) (now (concentrations .exit)) (now (logw .exit))) ⌝ }
+        (now (weights .entry)) (now (coords .entry)) d
+        (record { rounds = rounds; seed = seed; kappa = Free }) «k_min» «k_max» (length (now (work .entry)))
+        (length (now («work_u32» .entry))) ⌝ }
+    ensures { λ r. ⌜ AnswerKeepsBest (arrays (now (labels .entry)) (now (responsibilities .entry))
+        (now («group_weights» .entry)) (now (directions .entry)) (now (concentrations .entry)) (now (logw .entry)))
+        (now (weights .entry)) (now (coords .entry)) d
+        (record { rounds = rounds; seed = seed; kappa = Free }) «k_min» «k_max» (length (now (work .entry)))
+        (length (now («work_u32» .entry))) r (arrays (now (labels .exit)) (now (responsibilities .exit))
+        (now («group_weights» .exit)) (now (directions .exit)) (now (concentrations .exit)) (now (logw .exit))) ⌝ }
 {
     let s = mixture_kappa::Settings {
         rounds,

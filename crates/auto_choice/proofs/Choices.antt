@@ -1,5 +1,5 @@
--- What the choice among the scores of a range is: the first least of those below +infinity, or none where there is no such score; and no range has two best numbers.
--- By recursion on the range. Assumes nothing.
+-- What the choice among the scores of a range is: the first least of those below +infinity, or none where there is no such score; and no
+-- range has two best numbers. By recursion on the range. Assumes nothing.
 use mathlib.Core.Path.{_≡_, refl, subst}
 use mathlib.Core.Logic.{_⊎_, inl, inr, ⊎-elim}
 use mathlib.Core.Bool.{Bool, true, false, not}
@@ -52,13 +52,15 @@ module _ (f : ℕ → Float) (lo : ℕ) where
         most = omega arith;
         below = below-top n c m (f (lo + n)) h;
         smaller = λ j p q. ⊎-elim inl
-            (λ g. ⊎-elim inr (λ r. absurd (none-below n c m j p q r)) (lt-splits (f (lo + n)) (f j) (heldScore c) g h)) (either (isNan (f j)));
+            (λ g. ⊎-elim inr (λ r. absurd (none-below n c m j p q r)) (lt-splits (f (lo + n)) (f j) (heldScore c) g h))
+            (either (isNan (f j)));
         larger = λ j p q. absurd (omega arith);
       }
 
   -- it is not
   left : (n : ℕ) (c : Choice) → Means n c → T (not (lt (f (lo + n)) (heldScore c))) → Means (suc n) c
-  left n Nothing m h = λ j p q. ⊎-elim (λ l. m j p l) (λ l. subst (λ (i : ℕ). T (not (lt (f i) (inf false)))) (omega arith) h) (lt-or-ge j (lo + n))
+  left n Nothing m h = λ j p q. ⊎-elim (λ l. m j p l) (λ l. subst (λ (i : ℕ). T (not (lt (f i) (inf false)))) (omega arith) h)
+      (lt-or-ge j (lo + n))
   left n (Number k x) m h =
       let b = m .1 in (
         m .0,
@@ -68,8 +70,8 @@ module _ (f : ℕ → Float) (lo : ℕ) where
           below = b .below;
           smaller = b .smaller;
           larger = λ j p q. ⊎-elim (λ l. b .larger j p (omega arith))
-              (λ l. not-less (f k) (f j) (b .below) (subst (λ (i : ℕ). T (not (lt (f i) (f k)))) (omega arith) (subst (λ (y : Float). T (not (lt (f (lo + n)) y))) (m .0) h)))
-              (lt-or-ge j (lo + n));
+              (λ l. not-less (f k) (f j) (b .below) (subst (λ (i : ℕ). T (not (lt (f i) (f k)))) (omega arith)
+              (subst (λ (y : Float). T (not (lt (f (lo + n)) y))) (m .0) h))) (lt-or-ge j (lo + n));
         },
       )
 
@@ -95,4 +97,5 @@ module _ (f : ℕ → Float) (lo : ℕ) where
 
   pub one-best : (hi j k : ℕ) → BestOf f lo hi j → BestOf f lo hi k → j ≡ k
   one-best hi j k a b =
-      ⊎-elim (λ l. absurd (earlier hi j k a b l)) (λ l. ⊎-elim (λ g. absurd (earlier hi k j b a g)) (λ g. omega arith) (lt-or-ge k j)) (lt-or-ge j k)
+      ⊎-elim (λ l. absurd (earlier hi j k a b l)) (λ l. ⊎-elim (λ g. absurd (earlier hi k j b a g)) (λ g. omega arith) (lt-or-ge k j))
+      (lt-or-ge j k)

@@ -25,7 +25,8 @@ totalOf weights = sumFrom minusZero weights
 
 -- −2·loglik + p·ln(total weight), with the logarithm at hand, and of these weights
 abbrev pub scoreBy : Kappa → ℕ → ℕ → Float → Float → Float
-scoreBy kappa k d loglik lnTotal = add binary64 (mul binary64 (neg (number 2)) loglik) (mul binary64 (number (parametersOf kappa k d)) lnTotal)
+scoreBy kappa k d loglik lnTotal = add binary64 (mul binary64 (neg (number 2)) loglik)
+    (mul binary64 (number (parametersOf kappa k d)) lnTotal)
 
 abbrev pub scoreOf : Kappa → ℕ → ℕ → List Float → Float → Float
 scoreOf kappa k d weights loglik = scoreBy kappa k d loglik (lnOf (totalOf weights))

@@ -1,4 +1,5 @@
-// The range of numbers of groups, a number's score, and the choice (vmf.rs, movmf_auto_with; document 01, 'Choosing the number of groups').
+// The range of numbers of groups, a number's score, and the choice (vmf.rs, movmf_auto_with; document 01, 'Choosing the
+// number of groups').
 ghost use mathlib.Core.Path.{_≡_};
 ghost use Prim.Native.Nat.{_*_, _≤_};
 ghost use lib.Ieee.{lt};

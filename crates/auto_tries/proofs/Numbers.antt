@@ -30,7 +30,8 @@ use Rattle.auto_tries.proofs.Tails.{tails-more, tails-written, written-
 
 -- ---- one number fitted
 module _ (weights coords : List Float) (d k : ℕ) (s : Settings) (w : List Float) (r : Runs)
-    (b : Both (runsUpTo s weights coords (length weights) k d 2) (runOf s weights coords (length weights) k d 3) w (length weights) k d r) where
+    (b : Both (runsUpTo s weights coords (length weights) k d 2) (runOf s weights coords (length weights) k d 3) w
+    (length weights) k d r) where
   abbrev m : ℕ
   m = length weights
 

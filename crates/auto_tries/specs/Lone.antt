@@ -1,5 +1,5 @@
--- Document 01, 'Choosing the number of groups': the lone fit of each number of groups, its score, and the choice among the
--- scores. The lone fit takes nothing from another number, nor from the output and work arrays. Definitions only.
+-- Document 01, 'Choosing the number of groups': the lone fit of each number of groups, its score, and the choice among
+-- the scores. The lone fit takes nothing from another number, nor from the output and work arrays. Definitions only.
 use mathlib.Core.List.{List}
 use Prim.Native.Nat.{ℕ}
 use lib.ListN.{length}

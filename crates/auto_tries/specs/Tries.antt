@@ -1,5 +1,5 @@
--- What the functions that fit the numbers one after the other ask and promise: the tally so far, the rest of each output as
--- found, and one number more. No definition of document 01 stands on this file.
+-- What the functions that fit the numbers one after the other ask and promise: the tally so far, the rest of each
+-- output as found, and one number more. No definition of document 01 stands on this file.
 use mathlib.Core.Path.{_≡_}
 use mathlib.Core.List.{List}
 use mathlib.Core.Bool.{true, false}
@@ -38,7 +38,8 @@ module _ (weights coords : List Float) (d : ℕ) (s : Settings) where
   loglikBy Nothing = inf true
   loglikBy (Number k x) = lone weights coords d s k .em .loglik
 
-  -- number k fitted after the tally t, with these arrays before and after: it is written where its score beats the one held
+  -- number k fitted after the tally t, with these arrays before and after: it is written where its score beats the one
+  -- held
   pub record FitOfK (k : ℕ) (t q : Tally) (o o' : Outputs) : Type 0 where
     pub choice : q .choice ≡ choose (t .choice) k (score weights coords d s k)
     pub counts : q .counts ≡ plusOf (t .counts) (lone weights coords d s k .counts)

@@ -1,6 +1,6 @@
-// The numbers of groups fitted one after the other (vmf.rs, movmf_auto_with; document 01, 'Choosing the number of groups'):
-// every number of the range is fitted once, in rising order, and the first whose score beats the one held is kept and
-// written into the outputs.
+// The numbers of groups fitted one after the other (vmf.rs, movmf_auto_with; document 01, 'Choosing the number of
+// groups'): every number of the range is fitted once, in rising order, and the first whose score beats the one held is
+// kept and written into the outputs.
 ghost use mathlib.Core.Path.{_≡_};
 ghost use Prim.Native.Nat.{_+_, _-_, _≤_};
 ghost use lib.ListN.{length};
@@ -37,8 +37,8 @@ fn fit_of_k(
     work_u32: &mut [u32],
 ) -> Tally
     requires { ⌜ Fittable (length (now weights)) (length (now coords)) (length (now weights)) k d (s .rounds)
-        (lengthsOf (arrays (now labels) (now responsibilities) (now «group_weights») (now directions) (now concentrations)
-        (now logw)) (length (now work)) (length (now «work_u32»))) ⌝ }
+        (lengthsOf (arrays (now labels) (now responsibilities) (now «group_weights») (now directions)
+        (now concentrations) (now logw)) (length (now work)) (length (now «work_u32»))) ⌝ }
     requires { ⌜ (AtMost (ofRuns 252) (t .counts)) × («ln_total» ≡ lnOf (totalOf (now weights))) ⌝ }
     ensures { λ q. ⌜ FitOfK (now (weights .entry)) (now (coords .entry)) d s k t q
         (arrays (now (labels .entry)) (now (responsibilities .entry)) (now («group_weights» .entry))
@@ -101,8 +101,8 @@ pub fn fit_range(
     work_u32: &mut [u32],
 ) -> Tally
     requires { ⌜ Fittable (length (now weights)) (length (now coords)) (length (now weights)) hi d (s .rounds)
-        (lengthsOf (arrays (now labels) (now responsibilities) (now «group_weights») (now directions) (now concentrations)
-        (now logw)) (length (now work)) (length (now «work_u32»))) ⌝ }
+        (lengthsOf (arrays (now labels) (now responsibilities) (now «group_weights») (now directions)
+        (now concentrations) (now logw)) (length (now work)) (length (now «work_u32»))) ⌝ }
     requires { ⌜ (1 ≤ lo) × (lo ≤ hi) × («ln_total» ≡ lnOf (totalOf (now weights))) ⌝ }
     ensures { λ t. ⌜ Fitted (now (weights .entry)) (now (coords .entry)) d s
         (arrays (now (labels .entry)) (now (responsibilities .entry)) (now («group_weights» .entry))

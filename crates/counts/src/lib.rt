@@ -1,5 +1,5 @@
-// The counts of a call (document 01, 'Leaves, settings, fit'): the products that the assignment passes made, and those that
-// they saved. Every answer holds one, and it is added up over rounds, restarts and numbers of groups.
+// The counts of a call (document 01, 'Leaves, settings, fit'): the products that the assignment passes made, and those
+// that they saved. Every answer holds one, and it is added up over rounds, restarts and numbers of groups.
 ghost use mathlib.Core.Path.{_≡_};
 ghost use Rattle.counts.specs.Counts.{noCounts, plusOf, AtMost, ofCall};
 

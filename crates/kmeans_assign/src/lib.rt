@@ -96,7 +96,8 @@ fn place_leaf(
 ) -> bool
     requires { ⌜ Sized (length (now work)) (length (now «work_u32»)) (length (now coords)) m k d ⌝ }
     requires { ⌜ LeafOf i m d ⌝ }
-    ensures { λ r. ⌜ LeafPlaced (now (coords .entry)) k d i (stateIn m k d (now (work .entry)) (now («work_u32» .entry)))
+    ensures { λ r. ⌜ LeafPlaced (now (coords .entry)) k d i
+        (stateIn m k d (now (work .entry)) (now («work_u32» .entry)))
         (stateIn m k d (now (work .exit)) (now («work_u32» .exit))) r ⌝ }
 {
     let kd = k * d;
@@ -132,7 +133,8 @@ fn assign_leaf(
 ) -> Turn
     requires { ⌜ Sized (length (now work)) (length (now «work_u32»)) (length (now coords)) m k d ⌝ }
     requires { ⌜ LeafOf i m d ⌝ }
-    ensures { λ r. ⌜ LeafPassed (now (coords .entry)) k d it i (stateIn m k d (now (work .entry)) (now («work_u32» .entry)))
+    ensures { λ r. ⌜ LeafPassed (now (coords .entry)) k d it i
+        (stateIn m k d (now (work .entry)) (now («work_u32» .entry)))
         (stateIn m k d (now (work .exit)) (now («work_u32» .exit))) r ⌝ }
 {
     let b = bounds_at(work, i, m, k, d);

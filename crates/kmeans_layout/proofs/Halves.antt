@@ -1,4 +1,5 @@
--- The places of the two halves within a work array, and a part that is copied out or comes back. By cases on which half is held, over plain lists. Assumes nothing.
+-- The places of the two halves within a work array, and a part that is copied out or comes back. By cases on which half is held, over plain
+-- lists. Assumes nothing.
 use mathlib.Core.Path.{_≡_, sym, _∙_}
 use mathlib.Core.List.{List}
 use mathlib.Core.Bool.{Bool, true, false}

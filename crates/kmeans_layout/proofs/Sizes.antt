@@ -1,4 +1,5 @@
--- What the functions on the work areas ask, of arrays of the same lengths, of the f64 area alone, of each leaf and group, and of the labels. Assumes nothing.
+-- What the functions on the work areas ask, of arrays of the same lengths, of the f64 area alone, of each leaf and group, and of the
+-- labels. Assumes nothing.
 use mathlib.Core.Path.{_≡_}
 use Prim.Native.Nat.{ℕ, _<_}
 use Rattle.rows.proofs.Rows.{row-within}
@@ -10,7 +11,8 @@ use Rattle.kmeans_layout.specs.State.{State}
 use Rattle.kmeans_layout.proofs.Regions.{get-labels}
 
 -- arrays of the same lengths are sized as well
-pub sized-of : (work work' workU32 workU32' coords m k d : ℕ) → work' ≡ work → workU32' ≡ workU32 → Sized work workU32 coords m k d → Sized work' workU32' coords m k d
+pub sized-of : (work work' workU32 workU32' coords m k d : ℕ) → work' ≡ work → workU32' ≡ workU32 → Sized work workU32 coords m k d
+    → Sized work' workU32' coords m k d
 sized-of work work' workU32 workU32' coords m k d e f s = rw (e, f) s
 
 pub area-of : (work workU32 coords m k d : ℕ) → Sized work workU32 coords m k d → Area work m k d

@@ -1,4 +1,5 @@
--- How a run's state lies in the two lent work areas, and what the functions on them ask. No definition of document 01 stands on this file.
+-- How a run's state lies in the two lent work areas, and what the functions on them ask. No definition of document 01
+-- stands on this file.
 use mathlib.Core.Path.{_≡_}
 use mathlib.Core.List.{List, [], _∷_}
 use Prim.Native.Nat.{ℕ, _+_, _*_, _≤_, _<_}
@@ -12,8 +13,8 @@ use Rattle.kmeans_layout.specs.State.{State}
 abbrev pub lengths : ℕ → ℕ → ℕ → List ℕ
 lengths m k d = k * d ∷ k * d ∷ m ∷ m ∷ m ∷ m ∷ k ∷ []
 
-abbrev pub markLengths : ℕ → ℕ → List ℕ
-markLengths m k = m ∷ k ∷ []
+abbrev pub workU32Lengths : ℕ → ℕ → List ℕ
+workU32Lengths m k = m ∷ k ∷ []
 
 abbrev pub total : ℕ → ℕ → ℕ → ℕ
 total m k d = k * d + k * d + m + m + m + m + k
@@ -32,7 +33,7 @@ named w u =
 
 -- the state that two areas hold
 unfoldable pub stateIn : ℕ → ℕ → ℕ → List Float → List ℕ → State
-stateIn m k d w u = named (cut (lengths m k d) w) (cut (markLengths m k) u)
+stateIn m k d w u = named (cut (lengths m k d) w) (cut (workU32Lengths m k) u)
 
 -- the sums and the counts beside it
 abbrev pub sumsIn : ℕ → ℕ → List Float → List Float

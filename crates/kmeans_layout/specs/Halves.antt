@@ -1,4 +1,5 @@
--- The two halves of the lent work arrays, of which one holds the kept run. No definition of document 01 stands on this file.
+-- The two halves of the lent work arrays, of which one holds the kept run. No definition of document 01 stands on this
+-- file.
 use mathlib.Core.Path.{_≡_}
 use mathlib.Core.List.{List}
 use mathlib.Core.Bool.{Bool, not, cond}

@@ -1,6 +1,7 @@
-// The two lent work areas of a run of spherical k-means (document 01, 'Spherical k-means'): the f64 area holds centres, sums,
-// scale, low, high, served and drift, the u32 area labels and counts, side by side; specs/Areas.antt names the places, and
-// each is worked out here and nowhere else. Two runs stand in the two halves of the lent arrays, of which one is held.
+// The two lent work areas of a run of spherical k-means (document 01, 'Spherical k-means'): the f64 area holds centres,
+// sums, scale, low, high, served and drift, the u32 area labels and counts, side by side; specs/Areas.antt names the
+// places, and each is worked out here and nowhere else. Two runs stand in the two halves of the lent arrays, of which
+// one is held.
 ghost use mathlib.Core.Path.{_≡_};
 ghost use Prim.Native.Nat.{_+_, _≤_};
 ghost use lib.ListN.{length, replicate};

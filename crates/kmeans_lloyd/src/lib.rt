@@ -62,7 +62,8 @@ fn lloyd(
     rounds: usize,
 ) -> counts::Counts
     requires { ⌜ Sized (length (now work)) (length (now «work_u32»)) (length (now coords)) m k d ⌝ }
-    requires { ⌜ (length (now weights) ≡ m) × (rounds ≤ 10000) × Labelled m k (stateIn m k d (now work) (now «work_u32»)) ⌝ }
+    requires { ⌜ (length (now weights) ≡ m) × (rounds ≤ 10000)
+        × Labelled m k (stateIn m k d (now work) (now «work_u32»)) ⌝ }
     ensures { λ r. ⌜ RunSoFar (roundsFrom (now (weights .entry)) (now (coords .entry)) m k d rounds 0
         (freshRun (stateIn m k d (now (work .entry)) (now («work_u32» .entry)))))
         (stateIn m k d (now (work .exit)) (now («work_u32» .exit))) r ⌝ }
@@ -131,7 +132,8 @@ fn leaf_norms(work: &mut [f64], coords: &[f64], m: usize, k: usize, d: usize)
 fn start(work: &mut [f64], work_u32: &mut [u32], coords: &[f64], m: usize, k: usize, d: usize)
     requires { ⌜ Sized (length (now work)) (length (now «work_u32»)) (length (now coords)) m k d ⌝ }
     ensures { λ _. ⌜ stateIn m k d (now (work .exit)) (now («work_u32» .exit))
-        ≡ startedFrom (now (coords .entry)) m k d (stateIn m k d (now (work .entry)) (now («work_u32» .entry)) .centers) ⌝ }
+        ≡ startedFrom (now (coords .entry)) m k d
+        (stateIn m k d (now (work .entry)) (now («work_u32» .entry)) .centers) ⌝ }
 {
     let low = kmeans_layout::low_at(m, k, d);
     let high = kmeans_layout::high_at(m, k, d);

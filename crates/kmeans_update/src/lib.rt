@@ -163,7 +163,8 @@ fn update_group(
     requires { ⌜ Sized (length (now work)) (length (now «work_u32»)) (length (now coords)) m k d ⌝ }
     requires { ⌜ GroupOf c k d ⌝ }
     ensures { λ _. ⌜ stateIn m k d (now (work .exit)) (now («work_u32» .entry))
-        ≡ updateGroup (now (coords .entry)) d (sumsIn k d (now (work .entry))) (countsIn m k (now («work_u32» .entry))) c
+        ≡ updateGroup (now (coords .entry)) d (sumsIn k d (now (work .entry)))
+        (countsIn m k (now («work_u32» .entry))) c
         (freshUpdate (stateIn m k d (now (work .entry)) (now («work_u32» .entry)))) .state ⌝ }
     ensures { λ _. ⌜ LaterRows c k d (now (work .entry)) (now (work .exit)) ⌝ }
 {

@@ -1,4 +1,5 @@
--- The number of four bytes from their values, and of eight from two halves. By unfolding the definition as far as the bytes go. Assumes nothing.
+-- The number of four bytes from their values, and of eight from two halves. By unfolding the definition as far as the bytes go. Assumes
+-- nothing.
 use mathlib.Core.Path.{_≡_, refl, sym, ap, _∙_}
 use mathlib.Core.List.{List}
 use mathlib.Core.Bool.{_&&_}
@@ -24,22 +25,28 @@ module _ (bytes : List ℕ) (at : ℕ) where
       let g : getD bytes (at + 1 + 1 + 1) 0 ≡ e = byte-at (at + 1 + 1 + 1) (at + 3) (omega arith) ∙ sym s in
       omega (arith, p, q, f, g)
 
-  pub whole-eight : (low high : ℕ) → low ≡ wholeAt bytes at 4 → high ≡ wholeAt bytes (at + 4) 4 → low + 4294967296 * high ≡ wholeAt bytes at 8
+  pub whole-eight : (low high : ℕ) → low ≡ wholeAt bytes at 4 → high ≡ wholeAt bytes (at + 4) 4
+      → low + 4294967296 * high ≡ wholeAt bytes at 8
   unfolding wholeAt
   whole-eight low high p q =
       let f₀ : getD bytes (at + 1 + 1 + 1 + 1) 0 ≡ getD bytes (at + 4) 0 = byte-at (at + 1 + 1 + 1 + 1) (at + 4) (omega arith) in
-      let f₁ : getD bytes (at + 1 + 1 + 1 + 1 + 1) 0 ≡ getD bytes (at + 4 + 1) 0 = byte-at (at + 1 + 1 + 1 + 1 + 1) (at + 4 + 1) (omega arith) in
-      let f₂ : getD bytes (at + 1 + 1 + 1 + 1 + 1 + 1) 0 ≡ getD bytes (at + 4 + 1 + 1) 0 = byte-at (at + 1 + 1 + 1 + 1 + 1 + 1) (at + 4 + 1 + 1) (omega arith) in
-      let f₃ : getD bytes (at + 1 + 1 + 1 + 1 + 1 + 1 + 1) 0 ≡ getD bytes (at + 4 + 1 + 1 + 1) 0 = byte-at (at + 1 + 1 + 1 + 1 + 1 + 1 + 1) (at + 4 + 1 + 1 + 1) (omega arith) in
+      let f₁ : getD bytes (at + 1 + 1 + 1 + 1 + 1) 0 ≡ getD bytes (at + 4 + 1) 0 =
+      byte-at (at + 1 + 1 + 1 + 1 + 1) (at + 4 + 1) (omega arith) in
+      let f₂ : getD bytes (at + 1 + 1 + 1 + 1 + 1 + 1) 0 ≡ getD bytes (at + 4 + 1 + 1) 0 =
+      byte-at (at + 1 + 1 + 1 + 1 + 1 + 1) (at + 4 + 1 + 1) (omega arith) in
+      let f₃ : getD bytes (at + 1 + 1 + 1 + 1 + 1 + 1 + 1) 0 ≡ getD bytes (at + 4 + 1 + 1 + 1) 0 =
+      byte-at (at + 1 + 1 + 1 + 1 + 1 + 1 + 1) (at + 4 + 1 + 1 + 1) (omega arith) in
       omega (arith, p, q, f₀, f₁, f₂, f₃)
 
 -- what is refused, from the sizes that were read
-pub refused-by : (bytes : List ℕ) (m d : ℕ) → m ≡ wholeAt bytes 0 4 → d ≡ wholeAt bytes 4 4 → 8 ≤ length bytes → refusalBy (length bytes) m d ≡ fileRefusal bytes
+pub refused-by : (bytes : List ℕ) (m d : ℕ) → m ≡ wholeAt bytes 0 4 → d ≡ wholeAt bytes 4 4 → 8 ≤ length bytes
+    → refusalBy (length bytes) m d ≡ fileRefusal bytes
 unfolding fileRefusal
 refused-by bytes m d p q h = rw (p, q, le-leb 8 (length bytes) h) refl
 
 -- what it says that nothing is refused
-pub sized : (bytes : List ℕ) (m d : ℕ) → m ≡ wholeAt bytes 0 4 → d ≡ wholeAt bytes 4 4 → fileRefusal bytes ≡ 0 → (8 ≤ length bytes) × (Sized (length bytes) 64 1024 m d)
+pub sized : (bytes : List ℕ) (m d : ℕ) → m ≡ wholeAt bytes 0 4 → d ≡ wholeAt bytes 4 4 → fileRefusal bytes ≡ 0
+    → (8 ≤ length bytes) × (Sized (length bytes) 64 1024 m d)
 unfolding fileRefusal
 sized bytes m d p q e =
     let e1 = met (leb 8 (length bytes)) 7 _ e in

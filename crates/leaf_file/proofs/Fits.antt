@@ -13,7 +13,8 @@ use Rattle.mixture_outputs.specs.Outputs.{arrays}
 use Rattle.auto.specs.Outcome.{Outcome, outcome}
 use Rattle.auto.specs.Best.{AnswerKeepsBest}
 use Rattle.auto.specs.declared.Chosen.the-variants.{Refused}
-use Rattle.leaf_file.specs.LeafFile.{Leaves, wholeAt, f64sAt, leavesOf, leavesIn, fileRefusal, settings, room, workRoom, workU32Room, leavesFit, LeavesKeepBest, FileFit, fileFitBy, fileFit}
+use Rattle.leaf_file.specs.LeafFile.{Leaves, wholeAt, f64sAt, leavesOf, leavesIn, fileRefusal, settings, room, workRoom, workU32Room}
+use Rattle.leaf_file.specs.LeafFile.{leavesFit, LeavesKeepBest, FileFit, fileFitBy, fileFit}
 
 module _ (weights coords : List Float) (d : ℕ) (labels : List ℕ) where
   abbrev leaves : Leaves
@@ -34,18 +35,23 @@ module _ (weights coords : List Float) (d : ℕ) (labels : List ℕ) where
       let best' : AnswerKeepsBest (room labels) weights coords d settings 1 4 workRoom workU32Room (e .answer) (e .outputs) =
       rw (a, b, c, f, g, h, i) at best in (
         ap (λ (o : Outcome). record { answer = o .answer; labels = o .outputs .labels }) q,
-        subst (λ (o : Outcome). AnswerKeepsBest (room labels) weights coords d settings 1 4 workRoom workU32Room (e .answer) (o .outputs)) q best',
+        subst (λ (o : Outcome). AnswerKeepsBest (room labels) weights coords d settings 1 4 workRoom workU32Room (e .answer)
+            (o .outputs)) q best',
       )
 
 -- the fit of the numbers that a file holds is the fit of its leaves
-pub fit-read : (bytes : List ℕ) (m d : ℕ) (labels : List ℕ) (ws cs : List Float) (x : FileFit) → ws ≡ f64sAt bytes 8 m → cs ≡ f64sAt bytes (8 + 8 * m) (m * d)
-    → (x ≡ fileFitBy 0 (record { d = d; weights = ws; coords = cs }) labels) × (LeavesKeepBest (record { d = d; weights = ws; coords = cs }) labels (x .answer))
+pub fit-read : (bytes : List ℕ) (m d : ℕ) (labels : List ℕ) (ws cs : List Float) (x : FileFit) → ws ≡ f64sAt bytes 8 m
+    → cs ≡ f64sAt bytes (8 + 8 * m) (m * d)
+    → (x ≡ fileFitBy 0 (record { d = d; weights = ws; coords = cs }) labels)
+    × (LeavesKeepBest (record { d = d; weights = ws; coords = cs }) labels (x .answer))
     → (x ≡ fileFitBy 0 (leavesOf bytes m d) labels) × (LeavesKeepBest (leavesOf bytes m d) labels (x .answer))
 fit-read bytes m d labels ws cs x e f p =
-    subst (λ (l : Leaves). (x ≡ fileFitBy 0 l labels) × (LeavesKeepBest l labels (x .answer))) (ap₂ (λ (w v : List Float). record { d = d; weights = w; coords = v }) e f) p
+    subst (λ (l : Leaves). (x ≡ fileFitBy 0 l labels) × (LeavesKeepBest l labels (x .answer)))
+    (ap₂ (λ (w v : List Float). record { d = d; weights = w; coords = v }) e f) p
 
 -- the front of an array, after f 0, f 1, .. were read into it
-pub front-read : (f : ℕ → Float) (w v : List Float) (n : ℕ) → n ≤ length w → v ≡ tabulate f (length (take n w)) → take n (v ++ drop n w) ≡ tabulate f n
+pub front-read : (f : ℕ → Float) (w v : List Float) (n : ℕ) → n ≤ length w → v ≡ tabulate f (length (take n w))
+    → take n (v ++ drop n w) ≡ tabulate f n
 front-read f w v n h e =
     let g : v ≡ tabulate f n = e ∙ ap (tabulate f) (length-take-le n w h) in
     take-at v (drop n w) n (ap length g ∙ tabulate-length f n) ∙ g
@@ -62,5 +68,6 @@ pub file-fitted : (bytes labels : List ℕ) (m d : ℕ) (x : FileFit) → m ≡ 
     → (x ≡ fileFit bytes labels) × (fileRefusal bytes ≡ 0 → LeavesKeepBest (leavesIn bytes) labels (x .answer))
 file-fitted bytes labels m d x p q e f =
     let g : (x ≡ fileFitBy 0 (leavesIn bytes) labels) × (LeavesKeepBest (leavesIn bytes) labels (x .answer)) =
-    subst (λ (l : Leaves). (x ≡ fileFitBy 0 l labels) × (LeavesKeepBest l labels (x .answer))) (ap₂ (λ (i j : ℕ). leavesOf bytes i j) p q) f in
+    subst (λ (l : Leaves). (x ≡ fileFitBy 0 l labels) × (LeavesKeepBest l labels (x .answer)))
+    (ap₂ (λ (i j : ℕ). leavesOf bytes i j) p q) f in
     (g .0 ∙ ap (λ (n : ℕ). fileFitBy n (leavesIn bytes) labels) (sym e), λ z. g .1)

@@ -11,8 +11,11 @@ use Rattle.leaf_file.specs.Listing.{textOf, blank, listingBy, listing}
 use Rattle.leaf_file.specs.Texts.{Put, Counted}
 
 put-whole : (t l r : List ℕ) (e : ℕ) → Put t l r 0 e → (e ≡ length t) × (r ≡ t ++ drop e l)
-put-whole t l r e p =
-    (omega (arith, p .ends), sym (take-append-drop e r) ∙ ap (λ (x : List ℕ). x ++ drop e r) (p .front) ∙ ap (λ (x : List ℕ). t ++ x) (p .rest))
+put-whole t l r e p = (
+  omega (arith, p .ends),
+  sym (take-append-drop e r) ∙ ap (λ (x : List ℕ). x ++ drop e r) (p .front)
+      ∙ ap (λ (x : List ℕ). t ++ x) (p .rest),
+)
 
 text-by : (code : ℕ) (l : Leaves) (m : ℕ) → (code ≡ 0 → m ≡ length (l .weights))
     → textOf (fileFitBy code l blank .answer) (take m (fileFitBy code l blank .labels)) ≡ listingBy code l
@@ -27,7 +30,8 @@ text-listed bytes x m e h =
 
 -- the listing of a file, put at the start of an array
 pub list-end : (bytes l r : List ℕ) (x : FileFit) (m e : ℕ) → x ≡ fileFit bytes blank → (fileRefusal bytes ≡ 0 → m ≡ wholeAt bytes 0 4)
-    → Put (textOf (x .answer) (take m (x .labels))) l r 0 e → ((e ≡ length (listing bytes)) × (r ≡ listing bytes ++ drop e l)) × (Counted e r)
+    → Put (textOf (x .answer) (take m (x .labels))) l r 0 e → ((e ≡ length (listing bytes)) × (r ≡ listing bytes ++ drop e l))
+    × (Counted e r)
 list-end bytes l r x m e p h q =
     let w = put-whole (listing bytes) l r e (subst (λ (t : List ℕ). Put t l r 0 e) (text-listed bytes x m p h) q) in
     let inside : e ≤ length r = omega (arith, w .0, ap length (w .1), length-append (listing bytes) (drop e l)) in

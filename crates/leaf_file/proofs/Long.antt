@@ -1,5 +1,5 @@
--- A file longer than any leaf file is listed as its first 8,713 bytes are: both are refused, and alike. By the sizes, which both have, and the lengths, which fit neither.
--- Assumes nothing.
+-- A file longer than any leaf file is listed as its first 8,713 bytes are: both are refused, and alike. By the sizes, which both have, and
+-- the lengths, which fit neither. Assumes nothing.
 use mathlib.Core.Path.{_≡_, refl, sym, ap, ap₂, _∙_}
 use mathlib.Core.List.{List}
 use mathlib.Core.Bool.{Bool, true, false, _&&_}
@@ -32,7 +32,8 @@ code true = 8
 code false = 9
 
 refused-long : (n m d : ℕ) → 8712 < n → refusalBy n m d ≡ code (leb m 64 && leb d 16)
-refused-long n m d h = by (leb m 64 && leb d 16) (λ t. let b = both (leb m 64) (leb d 16) t in ne-eqb n (8 + 8 * m + 8 * (m * d)) (never n m d h (leb-true m 64 (b .0)) (leb-true d 16 (b .1))))
+refused-long n m d h = by (leb m 64 && leb d 16) (λ t. let b = both (leb m 64) (leb d 16) t in
+    ne-eqb n (8 + 8 * m + 8 * (m * d)) (never n m d h (leb-true m 64 (b .0)) (leb-true d 16 (b .1))))
   where
     by : (b : Bool) → (b ≡ true → eqb n (8 + 8 * m + 8 * (m * d)) ≡ false) → need b 9 (need (eqb n (8 + 8 * m + 8 * (m * d))) 8 0) ≡ code b
     by true f = rw (f refl)
@@ -55,7 +56,8 @@ listed-long bytes h =
     let p = file-long (take 8713 bytes) (omega (arith, n)) in
     let m = whole-take bytes 8713 0 4 (omega arith) in
     let d = whole-take bytes 8713 4 4 (omega arith) in
-    let q : fileRefusal (take 8713 bytes) ≡ code (leb (wholeAt bytes 0 4) 64 && leb (wholeAt bytes 4 4) 16) = p ∙ ap₂ (λ (i j : ℕ). code (leb i 64 && leb j 16)) m d in
+    let q : fileRefusal (take 8713 bytes) ≡ code (leb (wholeAt bytes 0 4) 64 && leb (wholeAt bytes 4 4) 16) =
+    p ∙ ap₂ (λ (i j : ℕ). code (leb i 64 && leb j 16)) m d in
     ap (λ (c : ℕ). listingBy c (leavesIn (take 8713 bytes))) q
     ∙ same-text (leb (wholeAt bytes 0 4) 64 && leb (wholeAt bytes 4 4) 16) (leavesIn (take 8713 bytes)) (leavesIn bytes)
     ∙ ap (λ (c : ℕ). listingBy c (leavesIn bytes)) (sym (file-long bytes (omega arith)))

@@ -1,4 +1,5 @@
--- Text put at a place: nothing, one byte, and one text after another; and a decimal digit by digit. By the laws of `take` and `drop`. Assumes nothing.
+-- Text put at a place: nothing, one byte, and one text after another; and a decimal digit by digit. By the laws of `take` and `drop`.
+-- Assumes nothing.
 use mathlib.Core.Path.{_≡_, refl, sym, ap, subst, _∙_}
 use mathlib.Core.List.{List, [], _∷_, _++_, append-assoc, append-nil}
 use Prim.Native.Nat.{ℕ, zero, suc, _+_, _-_, _/_, _%_, _≤_, _<_}
@@ -25,7 +26,8 @@ put-one l at b h =
 behind : (l r : List ℕ) (e f : ℕ) → e ≤ f → drop e l ≡ drop e r → drop f l ≡ drop f r
 behind l r e f h p =
     let g : e + (f - e) ≡ f = omega arith in
-    ap (λ (n : ℕ). drop n l) (sym g) ∙ sym (drop-drop (f - e) e l) ∙ ap (drop (f - e)) p ∙ drop-drop (f - e) e r ∙ ap (λ (n : ℕ). drop n r) g
+    ap (λ (n : ℕ). drop n l) (sym g) ∙ sym (drop-drop (f - e) e l) ∙ ap (drop (f - e)) p ∙ drop-drop (f - e) e r
+    ∙ ap (λ (n : ℕ). drop n r) g
 
 pub put-both : (t u l r s : List ℕ) (at e f : ℕ) → Put t l r at e → Put u r s e f → Put (t ++ u) l s at f
 put-both t u l r s at e f p q =
@@ -46,9 +48,11 @@ unfolding decimalIn
 decimal-one zero n l r at e h g q = absurd (h refl)
 decimal-one (suc p) n l r at e h g q = rw (lt-ltb n 10 g) q
 
-pub decimal-more : (p n : ℕ) (l r s : List ℕ) (at e f : ℕ) → ¬ (p ≡ 0) → 10 ≤ n → Put (decimalIn (p - 1) (n / 10)) l r at e → Put ((48 + n % 10) ∷ []) r s e f → Put (decimalIn p n) l s at f
+pub decimal-more : (p n : ℕ) (l r s : List ℕ) (at e f : ℕ) → ¬ (p ≡ 0) → 10 ≤ n → Put (decimalIn (p - 1) (n / 10)) l r at e
+    → Put ((48 + n % 10) ∷ []) r s e f → Put (decimalIn p n) l s at f
 unfolding decimalIn
 decimal-more zero n l r s at e f h g q w = absurd (h refl)
 decimal-more (suc p) n l r s at e f h g q w =
     let d : suc p - 1 ≡ p = omega arith in
-    rw (le-ltb n 10 g) (put-both (decimalIn p (n / 10)) ((48 + n % 10) ∷ []) l r s at e f (subst (λ (i : ℕ). Put (decimalIn i (n / 10)) l r at e) d q) w)
+    rw (le-ltb n 10 g) (put-both (decimalIn p (n / 10)) ((48 + n % 10) ∷ []) l r s at e f
+    (subst (λ (i : ℕ). Put (decimalIn i (n / 10)) l r at e) d q) w)

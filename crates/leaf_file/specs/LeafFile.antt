@@ -1,5 +1,5 @@
--- Document 01, 'Leaf file and listing program' and 'Refusals by call': the leaves that a file holds, what is refused, and the
--- fit of a file. Definitions only. The leaves and their fit do not depend on the format that held them.
+-- Document 01, 'Leaf file and listing program' and 'Refusals by call': the leaves that a file holds, what is refused,
+-- and the fit of a file. Definitions only. The leaves and their fit do not depend on the format that held them.
 use mathlib.Core.List.{List}
 use mathlib.Core.Bool.{_&&_}
 use Prim.Native.Nat.{ℕ, zero, suc, _+_, _*_}
@@ -7,8 +7,8 @@ use lib.Dec.{leb, eqb}
 use lib.ListN.{length, getD, replicate}
 use lib.Ieee.{Float, binary64, ofBits}
 use Rattle.float.specs.Arithmetic.{plusZero}
-use Rattle.rows.specs.Tabulate.{tabulate}
 use Rattle.limits.specs.Limits.{need, workLength, workU32Length}
+use Rattle.rows.specs.Tabulate.{tabulate}
 use Rattle.mixture_kappa.specs.declared.Settings.{Settings}
 use Rattle.mixture_kappa.specs.declared.Kappa.the-variants.{Free}
 use Rattle.mixture_outputs.specs.Outputs.{Outputs, arrays}
@@ -63,8 +63,8 @@ settings = record { rounds = 100; seed = 7; kappa = Free }
 -- beside the labels, arrays as long as 64 leaves of 16 coordinates in 4 groups make them; the work arrays likewise
 abbrev pub room : List ℕ → Outputs
 room labels =
-    arrays labels (replicate (64 * 4) plusZero) (replicate 4 plusZero) (replicate (4 * 16) plusZero) (replicate 4 plusZero)
-    (replicate 4 plusZero)
+    arrays labels (replicate (64 * 4) plusZero) (replicate 4 plusZero) (replicate (4 * 16) plusZero)
+    (replicate 4 plusZero) (replicate 4 plusZero)
 
 abbrev pub workRoom : ℕ
 workRoom = workLength 64 4 16
@@ -78,7 +78,8 @@ leavesFit l labels = outcome (room labels) (l .weights) (l .coords) (l .d) setti
 -- the mission's third demand of such a fit
 abbrev pub LeavesKeepBest : Leaves → List ℕ → Chosen → Type 0
 LeavesKeepBest l labels answer =
-    AnswerKeepsBest (room labels) (l .weights) (l .coords) (l .d) settings 1 4 workRoom workU32Room answer (leavesFit l labels .outputs)
+    AnswerKeepsBest (room labels) (l .weights) (l .coords) (l .d) settings 1 4 workRoom workU32Room answer
+    (leavesFit l labels .outputs)
 
 -- what a call answers, and the labels after it; the labels as found where the file is refused
 pub record FileFit : Type 0 where

@@ -64,7 +64,8 @@ refusedText code = numberLine refusedWord code
 abbrev pub groupsText : ℕ → Counts → List ℕ → List ℕ
 groupsText k counts labels =
     numberLine groupsWord k
-    ++ (numberLine madeWord (counts .made) ++ (numberLine savedWord (counts .saved) ++ shopLines labels (length labels)))
+    ++ (numberLine madeWord (counts .made) ++ (numberLine savedWord (counts .saved)
+    ++ shopLines labels (length labels)))
 
 -- these, or a refusal alone
 abbrev pub textOf : Chosen → List ℕ → List ℕ

@@ -1,4 +1,5 @@
--- What the functions that read files and write text ask and promise one another. No definition of document 01 stands on this file.
+-- What the functions that read files and write text ask and promise one another. No definition of document 01 stands on
+-- this file.
 use mathlib.Core.Path.{_≡_}
 use mathlib.Core.List.{List, _++_}
 use Prim.Native.Nat.{ℕ, _+_, _*_, _≤_}
@@ -16,6 +17,7 @@ pub record Put (text before after : List ℕ) (at end : ℕ) : Type 0 where
   pub front : take end after ≡ take at before ++ text
   pub rest : drop end after ≡ drop end before
 
--- n counts elements at the start of an array. The second part follows from the first; both are stated, since lending that part of the array asks for both
+-- n counts elements at the start of an array. The second part follows from the first; both are stated, since lending
+-- that part of the array asks for both
 abbrev pub Counted : {A : Type 0} → ℕ → List A → Type 0
 Counted n xs = (n ≤ length xs) × (n ≡ length (take n xs))

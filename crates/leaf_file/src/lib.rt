@@ -1,10 +1,13 @@
-// Leaf files and their listing (document 01, 'Leaf file and listing program'): a file's leaves are read from its bytes, fitted by the automatic fit, and listed as text.
+// Leaf files and their listing (document 01, 'Leaf file and listing program'): a file's leaves are read from its bytes,
+// fitted by the automatic fit, and listed as text.
 ghost use mathlib.Core.Path.{_≡_};
 ghost use mathlib.Core.List.{[], _∷_, _++_};
 ghost use Prim.Native.Nat.{_+_, _*_, _≤_, _<_};
 ghost use lib.ListN.{length, drop};
-ghost use Rattle.leaf_file.specs.LeafFile.{wholeAt, f64At, f64sAt, refusalBy, fileRefusal, leavesOf, leavesIn, LeavesKeepBest, FileFit, fileFitBy, fileFit};
-ghost use Rattle.leaf_file.specs.Listing.{decimalIn, numberLine, shopLine, shopLines, groupsText, refusedText, textOf, listing};
+ghost use Rattle.leaf_file.specs.LeafFile.{wholeAt, f64At, f64sAt, refusalBy, fileRefusal, leavesOf, leavesIn};
+ghost use Rattle.leaf_file.specs.LeafFile.{LeavesKeepBest, FileFit, fileFitBy, fileFit};
+ghost use Rattle.leaf_file.specs.Listing.{decimalIn, numberLine, shopLine, shopLines, groupsText, refusedText};
+ghost use Rattle.leaf_file.specs.Listing.{textOf, listing};
 ghost use Rattle.leaf_file.specs.Texts.{Sized, Put, Counted};
 
 // ---- reading
@@ -82,8 +85,10 @@ fn file_refusal(bytes: &[u8]) -> u32
 // The automatic fit of leaves: k 1 to 4, 100 rounds, seed 7, Free.
 fn fit_leaves(weights: &[f64], coords: &[f64], d: usize, labels: &mut [u32]) -> auto::Chosen
     ensures { λ r. ⌜ _≡_ {A = FileFit} (record { answer = r; labels = now (labels .exit) })
-        (fileFitBy 0 (record { d = d; weights = now (weights .entry); coords = now (coords .entry) }) (now (labels .entry))) ⌝ }
-    ensures { λ r. ⌜ LeavesKeepBest (record { d = d; weights = now (weights .entry); coords = now (coords .entry) }) (now (labels .entry)) r ⌝ }
+        (fileFitBy 0 (record { d = d; weights = now (weights .entry); coords = now (coords .entry) })
+        (now (labels .entry))) ⌝ }
+    ensures { λ r. ⌜ LeavesKeepBest (record { d = d; weights = now (weights .entry); coords = now (coords .entry) })
+        (now (labels .entry)) r ⌝ }
 {
     let mut responsibilities = [0.0; 256];
     let mut group_weights = [0.0; 4];
@@ -121,7 +126,8 @@ fn fit_sized(
     labels: &mut [u32],
 ) -> auto::Chosen
     requires { ⌜ Sized (length (now bytes)) (length (now weights)) (length (now coords)) m d ⌝ }
-    ensures { λ r. ⌜ _≡_ {A = FileFit} (record { answer = r; labels = now (labels .exit) }) (fileFitBy 0 (leavesOf (now (bytes .entry)) m d) (now (labels .entry))) ⌝ }
+    ensures { λ r. ⌜ _≡_ {A = FileFit} (record { answer = r; labels = now (labels .exit) })
+        (fileFitBy 0 (leavesOf (now (bytes .entry)) m d) (now (labels .entry))) ⌝ }
     ensures { λ r. ⌜ LeavesKeepBest (leavesOf (now (bytes .entry)) m d) (now (labels .entry)) r ⌝ }
 {
     let n = m * d;
@@ -132,8 +138,10 @@ fn fit_sized(
 
 // The automatic fit of a leaf file; the labels are as found where it is refused.
 pub fn fit_file(bytes: &[u8], labels: &mut [u32]) -> auto::Chosen
-    ensures { λ r. ⌜ _≡_ {A = FileFit} (record { answer = r; labels = now (labels .exit) }) (fileFit (now (bytes .entry)) (now (labels .entry))) ⌝ }
-    ensures { λ r. ⌜ (fileRefusal (now (bytes .entry)) ≡ 0 → LeavesKeepBest (leavesIn (now (bytes .entry))) (now (labels .entry)) r) ⌝ }
+    ensures { λ r. ⌜ _≡_ {A = FileFit} (record { answer = r; labels = now (labels .exit) })
+        (fileFit (now (bytes .entry)) (now (labels .entry))) ⌝ }
+    ensures { λ r. ⌜ (fileRefusal (now (bytes .entry)) ≡ 0 → LeavesKeepBest (leavesIn (now (bytes .entry)))
+        (now (labels .entry)) r) ⌝ }
 {
     let code = file_refusal(bytes);
     if code != 0 {
@@ -212,7 +220,8 @@ fn put_shop(out: &mut [u8], at: usize, i: usize, label: u32) -> usize
 // Puts a line for each shop.
 fn put_shops(out: &mut [u8], at: usize, labels: &[u32]) -> usize
     requires { ⌜ at + 42 * length (now labels) ≤ length (now out) ⌝ }
-    ensures { λ r. ⌜ Put (shopLines (now (labels .entry)) (length (now (labels .entry)))) (now (out .entry)) (now (out .exit)) at r ⌝ }
+    ensures { λ r. ⌜ Put (shopLines (now (labels .entry)) (length (now (labels .entry)))) (now (out .entry))
+        (now (out .exit)) at r ⌝ }
 {
     let mut end = at;
     let mut i = 0;
@@ -275,7 +284,8 @@ fn shops(bytes: &[u8]) -> usize
 
 // Puts the listing of a leaf file at the start of out, and answers how many bytes it has. The rest of out is as found.
 pub fn list_file(bytes: &[u8], out: &mut [u8; 4096]) -> usize
-    ensures { λ r. ⌜ (r ≡ length (listing (now (bytes .entry)))) × (now (out .exit) ≡ listing (now (bytes .entry)) ++ drop r (now (out .entry))) ⌝ }
+    ensures { λ r. ⌜ (r ≡ length (listing (now (bytes .entry))))
+        × (now (out .exit) ≡ listing (now (bytes .entry)) ++ drop r (now (out .entry))) ⌝ }
     ensures { λ r. ⌜ Counted r (now (out .exit)) ⌝ }
 {
     let mut labels = [0u32; 64];

@@ -1,4 +1,5 @@
--- The limits: a list whose elements are tested one by one, and what each limit says where its tests are passed. By cases on the Bools of the tests. Assumes nothing.
+-- The limits: a list whose elements are tested one by one, and what each limit says where its tests are passed. By cases on the Bools of
+-- the tests. Assumes nothing.
 use mathlib.Core.Path.{_≡_, refl, sym, subst}
 use mathlib.Core.List.{List}
 use mathlib.Core.Bool.{Bool, true, false, _&&_}

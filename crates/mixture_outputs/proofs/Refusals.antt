@@ -24,12 +24,12 @@ record Arrays (m k d : ℕ) (l : Lengths) : Type 0 where
   leaves : LeavesFit (l .labels) (l .responsibilities) m k
   groups : GroupsFit (l .weights) (l .directions) (l .concentrations) (l .logw) k d
   work-long : workLength m k d ≤ l .work
-  workU32-long : workU32Length m k ≤ l .work-u32
+  workU32-long : workU32Length m k ≤ l .«work_u32»
 
 arrays-met : (m k d : ℕ) (l : Lengths) → arraysOk m k d l ≡ true → Arrays m k d l
 arrays-met m k d l e =
     let o = both (outputsOk m k d l) _ e in
-    let w = both (leb (workLength m k d) (l .work)) (leb (workU32Length m k) (l .work-u32)) (o .1) in
+    let w = both (leb (workLength m k d) (l .work)) (leb (workU32Length m k) (l .«work_u32»)) (o .1) in
     let a1 = both (leb m (l .labels)) _ (o .0) in
     let a2 = both (leb (m * k) (l .responsibilities)) _ (a1 .1) in
     let a3 = both (leb k (l .weights)) _ (a2 .1) in
@@ -64,7 +64,7 @@ arrays-below m hi k d l most e =
       le-leb k (l .concentrations) (omega (arith, a .groups .concentrations-long)),
       le-leb k (l .logw) (omega (arith, a .groups .logw-long)),
       le-leb (workLength m k d) (l .work) (omega (arith, a .work-long, rows, groups)),
-      le-leb (workU32Length m k) (l .work-u32) (omega (arith, a .workU32-long)),
+      le-leb (workU32Length m k) (l .«work_u32») (omega (arith, a .workU32-long)),
     )
 
 -- ---- nothing is refused
@@ -120,7 +120,7 @@ pub fillable : (work weights coords m k d rounds : ℕ) (l : Lengths) → work �
     → Fillable (l .labels) (l .responsibilities) (l .weights) (l .directions) (l .concentrations) (l .logw) work m k d
 fillable work weights coords m k d rounds l e f =
     record {
-      halves = halves-of (l .work) work (l .work-u32) weights coords m k d rounds e (f .runnable);
+      halves = halves-of (l .work) work (l .«work_u32») weights coords m k d rounds e (f .runnable);
       leaves = f .leaves;
       groups = f .groups;
     }

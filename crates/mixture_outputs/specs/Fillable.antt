@@ -1,5 +1,5 @@
--- What a fit and the functions that fill the outputs ask of the arrays' lengths. No definition of document 01 stands on this
--- file.
+-- What a fit and the functions that fill the outputs ask of the arrays' lengths. No definition of document 01 stands on
+-- this file.
 use Prim.Native.Nat.{ℕ, _*_, _≤_}
 use Rattle.mixture_restarts.specs.Halves.{TwoHalves, Runnable}
 use Rattle.mixture_outputs.specs.declared.Lengths.{Lengths}
@@ -23,6 +23,6 @@ pub record Fillable (labels responsibilities weights directions concentrations l
 
 -- a whole fit of k groups
 pub record Fittable (weights coords m k d rounds : ℕ) (l : Lengths) : Type 0 where
-  pub runnable : Runnable (l .work) (l .work-u32) weights coords m k d rounds
+  pub runnable : Runnable (l .work) (l .«work_u32») weights coords m k d rounds
   pub leaves : LeavesFit (l .labels) (l .responsibilities) m k
   pub groups : GroupsFit (l .weights) (l .directions) (l .concentrations) (l .logw) k d

@@ -50,5 +50,5 @@ lengthsOf o work workU32 =
       concentrations = length (o .concentrations);
       logw = length (o .logw);
       work = work;
-      work-u32 = workU32;
+      «work_u32» = workU32;
     }

@@ -17,7 +17,7 @@ outputsOk m k d l =
     && (leb (k * d) (l .directions) && (leb k (l .concentrations) && leb k (l .logw)))))
 
 abbrev pub arraysOk : (m k d : ℕ) → Lengths → Bool
-arraysOk m k d l = outputsOk m k d l && workOk m k d (l .work) (l .work-u32)
+arraysOk m k d l = outputsOk m k d l && workOk m k d (l .work) (l .«work_u32»)
 
 -- the order of `spherical_kmeans`, without restarts; 0 for none. k is the number of groups, of the automatic fit k_hi;
 -- whether it is admitted, which is number 2, each fit says for itself

@@ -1,5 +1,5 @@
-// What the mixture fits share (vmf.rs, the fields of a fit; mixture.rs, ln_weight; document 01, 'Leaves, settings, fit',
-// 'Mixture' and 'Refusals by call'): what they refuse, and the outputs filled from the part of the kept run.
+// What the mixture fits share (vmf.rs, the fields of a fit; mixture.rs, ln_weight; document 01, 'Leaves, settings,
+// fit', 'Mixture' and 'Refusals by call'): what they refuse, and the outputs filled from the part of the kept run.
 ghost use mathlib.Core.Path.{_≡_};
 ghost use mathlib.Core.List.{_++_};
 ghost use mathlib.Core.Bool.{true};
@@ -48,8 +48,8 @@ fn arrays_ok(m: usize, k: usize, d: usize, l: Lengths) -> bool
     outputs_ok(m, k, d, l) & limits::work_ok(m, k, d, l.work, l.work_u32)
 }
 
-// The first refusal from 1 to 6 that holds, or 0, of a fit of k groups, of the automatic fit up to k. Whether k is admitted is
-// the fit's to say.
+// The first refusal from 1 to 6 that holds, or 0, of a fit of k groups, of the automatic fit up to k. Whether k is
+// admitted is the fit's to say.
 pub fn refusal(
     weights: &[f64],
     coords: &[f64],

@@ -1,6 +1,6 @@
-// The four runs of a mixture fit (vmf.rs, movmf_with; document 01, 'Mixture'): they stand in turn in the two halves of the
-// lent work array, so that the held one and the last one are there at the end; the keeper hands back the part of the kept
-// one and makes no copy.
+// The four runs of a mixture fit (vmf.rs, movmf_with; document 01, 'Mixture'): they stand in turn in the two halves of
+// the lent work array, so that the held one and the last one are there at the end; the keeper hands back the part of
+// the kept one and makes no copy.
 ghost use mathlib.Core.Path.{_≡_};
 ghost use Prim.Native.Nat.{_+_, _≤_};
 ghost use lib.ListN.{length};
@@ -22,8 +22,8 @@ fn run_at(
     d: usize,
     a: usize,
 ) -> mixture_run::RunEnd
-    requires { ⌜ Runnable (length (now work)) (length (now «work_u32»)) (length (now weights)) (length (now coords)) m k d
-        (s .rounds) ⌝ }
+    requires { ⌜ Runnable (length (now work)) (length (now «work_u32»)) (length (now weights))
+        (length (now coords)) m k d (s .rounds) ⌝ }
     requires { ⌜ a + half m k d ≤ length (now work) ⌝ }
     ensures { λ r. ⌜ RunAt (runOf s (now (weights .entry)) (now (coords .entry)) m k d t)
         (now (work .entry)) (now (work .exit)) a m k d r ⌝ }
@@ -51,8 +51,8 @@ fn run_beside(
     d: usize,
     second: bool,
 ) -> mixture_run::RunEnd
-    requires { ⌜ Runnable (length (now work)) (length (now «work_u32»)) (length (now weights)) (length (now coords)) m k d
-        (s .rounds) ⌝ }
+    requires { ⌜ Runnable (length (now work)) (length (now «work_u32»)) (length (now weights))
+        (length (now coords)) m k d (s .rounds) ⌝ }
     ensures { λ r. ⌜ RunAt (runOf s (now (weights .entry)) (now (coords .entry)) m k d t)
         (now (work .entry)) (now (work .exit)) (freeAt second (half m k d)) m k d r ⌝ }
 {
@@ -71,8 +71,8 @@ fn first_runs(
     k: usize,
     d: usize,
 ) -> kmeans_layout::Held
-    requires { ⌜ Runnable (length (now work)) (length (now «work_u32»)) (length (now weights)) (length (now coords)) m k d
-        (s .rounds) ⌝ }
+    requires { ⌜ Runnable (length (now work)) (length (now «work_u32»)) (length (now weights))
+        (length (now coords)) m k d (s .rounds) ⌝ }
     ensures { λ h. ⌜ Holds (runsUpTo s (now (weights .entry)) (now (coords .entry)) m k d 2)
         (now (work .exit)) m k d 3 h ⌝ }
 {
@@ -93,8 +93,8 @@ fn first_runs(
     h
 }
 
-// Four runs: the one held of the first three stands in the half that `second` names and has the log-likelihood `held`, the
-// last one in the other and has `last`. The counts are those of all four.
+// Four runs: the one held of the first three stands in the half that `second` names and has the log-likelihood `held`,
+// the last one in the other and has `last`. The counts are those of all four.
 pub struct Runs {
     pub second: bool,
     pub held: f64,
@@ -113,8 +113,8 @@ pub fn four_runs(
     k: usize,
     d: usize,
 ) -> Runs
-    requires { ⌜ Runnable (length (now work)) (length (now «work_u32»)) (length (now weights)) (length (now coords)) m k d
-        (s .rounds) ⌝ }
+    requires { ⌜ Runnable (length (now work)) (length (now «work_u32»)) (length (now weights))
+        (length (now coords)) m k d (s .rounds) ⌝ }
     ensures { λ r. ⌜ Both (runsUpTo s (now (weights .entry)) (now (coords .entry)) m k d 2)
         (runOf s (now (weights .entry)) (now (coords .entry)) m k d 3) (now (work .exit)) m k d r ⌝ }
 {
@@ -133,7 +133,8 @@ pub fn four_runs(
 
 // ---- the keeper
 
-// Of two runs in two areas, the part of the kept one: that of the run, unless its log-likelihood is at most the held one's.
+// Of two runs in two areas, the part of the kept one: that of the run, unless its log-likelihood is at most the held
+// one's.
 fn keeper<'a>(
     held: &'a [f64],
     run: &'a [f64],

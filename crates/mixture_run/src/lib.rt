@@ -93,8 +93,8 @@ pub fn movmf_once(
     k: usize,
     d: usize,
 ) -> RunEnd
-    requires { ⌜ Runnable (length (now work)) (length (now «work_u32»)) (length (now weights)) (length (now coords)) m k d
-        (s .rounds) ⌝ }
+    requires { ⌜ Runnable (length (now work)) (length (now «work_u32»)) (length (now weights))
+        (length (now coords)) m k d (s .rounds) ⌝ }
     ensures { λ r. ⌜ (let once = onceOf s (now (weights .entry)) (now (coords .entry)) m k d in
         RunDone once (partsIn m k d (now (work .exit))) r) ⌝ }
 {

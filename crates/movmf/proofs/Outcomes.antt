@@ -54,7 +54,8 @@ module _ (o : Outputs) (weights coords : List Float) (d k : ℕ) (s : Settings) 
   number-by zero found = refl
   number-by (suc code) found = refl
 
-  pub number-is : (a : Fitted) (o' : Outputs) → _≡_ {A = Outcome} (record { answer = a; outputs = o' }) (outcome o weights coords d k s work workU32)
+  pub number-is : (a : Fitted) (o' : Outputs) → _≡_ {A = Outcome} (record { answer = a; outputs = o' })
+      (outcome o weights coords d k s work workU32)
       → AnswersWith (refusalOf weights coords d k s (lengthsOf o work workU32)) a
   number-is a o' e =
       subst (λ (x : Outcome). AnswersWith (refusalOf weights coords d k s (lengthsOf o work workU32)) (x .answer)) (sym e)

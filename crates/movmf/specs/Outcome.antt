@@ -1,5 +1,5 @@
--- Document 01, 'Leaves, settings, fit' and 'Mixture': what a call of `movmf_with` answers, and what the output arrays hold
--- after it. Definitions only.
+-- Document 01, 'Leaves, settings, fit' and 'Mixture': what a call of `movmf_with` answers, and what the output arrays
+-- hold after it. Definitions only.
 use mathlib.Core.List.{List}
 use Prim.Native.Nat.{ℕ, zero, suc}
 use lib.ListN.{length}

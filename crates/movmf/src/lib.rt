@@ -1,6 +1,6 @@
-// The mixture of von Mises-Fisher distributions, the public entries (vmf.rs, movmf_with and movmf; document 01, 'Mixture' and
-// 'Refusals by call'): what must be refused is, the four runs are made, and the outputs are filled from the part of the
-// kept one.
+// The mixture of von Mises-Fisher distributions, the public entries (vmf.rs, movmf_with and movmf; document 01,
+// 'Mixture' and 'Refusals by call'): what must be refused is, the four runs are made, and the outputs are filled from
+// the part of the kept one.
 ghost use mathlib.Core.Path.{_≡_};
 ghost use lib.ListN.{length};
 ghost use Rattle.mixture_kappa.specs.declared.Kappa.the-variants.{Free};
@@ -20,8 +20,8 @@ pub enum Fitted {
 }
 
 // The mixture fit of m leaves (m weights, m * d coordinates) with k groups. The outputs hold m labels, m * k
-// responsibilities, k weights, k * d directions, k concentrations and k logw and may be longer; a refusal changes none of
-// them. The work arrays' contents afterwards are free.
+// responsibilities, k weights, k * d directions, k concentrations and k logw and may be longer; a refusal changes none
+// of them. The work arrays' contents afterwards are free.
 pub fn movmf_with(
     weights: &[f64],
     coords: &[f64],
@@ -37,8 +37,8 @@ pub fn movmf_with(
     work: &mut [f64],
     work_u32: &mut [u32],
 ) -> Fitted
-    ensures { λ r. ⌜ answered r (arrays (now (labels .exit)) (now (responsibilities .exit)) (now («group_weights» .exit))
-        (now (directions .exit)) (now (concentrations .exit)) (now (logw .exit)))
+    ensures { λ r. ⌜ answered r (arrays (now (labels .exit)) (now (responsibilities .exit))
+        (now («group_weights» .exit)) (now (directions .exit)) (now (concentrations .exit)) (now (logw .exit)))
         ≡ outcome (arrays (now (labels .entry)) (now (responsibilities .entry)) (now («group_weights» .entry))
         (now (directions .entry)) (now (concentrations .entry)) (now (logw .entry)))
         (now (weights .entry)) (now (coords .entry)) d k s
@@ -101,8 +101,8 @@ pub fn movmf(
     work: &mut [f64],
     work_u32: &mut [u32],
 ) -> Fitted
-    ensures { λ r. ⌜ answered r (arrays (now (labels .exit)) (now (responsibilities .exit)) (now («group_weights» .exit))
-        (now (directions .exit)) (now (concentrations .exit)) (now (logw .exit)))
+    ensures { λ r. ⌜ answered r (arrays (now (labels .exit)) (now (responsibilities .exit))
+        (now («group_weights» .exit)) (now (directions .exit)) (now (concentrations .exit)) (now (logw .exit)))
         ≡ outcome (arrays (now (labels .entry)) (now (responsibilities .entry)) (now («group_weights» .entry))
         (now (directions .entry)) (now (concentrations .entry)) (now (logw .entry)))
         (now (weights .entry)) (now (coords .entry)) d k (record { rounds = rounds; seed = seed; kappa = Free })

@@ -12,5 +12,5 @@ calls-never-doubled weights coords d k rounds restarts seed labels directions wo
     let r = ready weights coords d k rounds restarts labels directions work workU32 e in
     none-over _ 0 (max restarts 1)
     (λ (t : ℕ) below above.
-    never-doubled weights coords d k rounds (generatorBefore weights coords (length weights) k d rounds seed t) (r .leaves) (r .sizes .k-some)
-    (r .k-below) .none)
+    never-doubled weights coords d k rounds (generatorBefore weights coords (length weights) k d rounds seed t) (r .leaves)
+    (r .sizes .k-some) (r .k-below) .none)

@@ -244,7 +244,8 @@ module _ (ls : List ℕ) (ds weights coords : List Float) (d k rounds restarts s
   number-by (suc code) found = refl
 
   pub number-is : (a : Clustered) (ls' : List ℕ) (ds' : List Float)
-      → _≡_ {A = Outcome} (record { answer = a; labels = ls'; directions = ds' }) (outcome ls ds weights coords d k rounds restarts seed work workU32)
+      → _≡_ {A = Outcome} (record { answer = a; labels = ls'; directions = ds' })
+      (outcome ls ds weights coords d k rounds restarts seed work workU32)
       → AnswersWith (refusalOf weights coords d k rounds restarts (length ls) (length ds) work workU32) a
   number-is a ls' ds' e =
       let code = refusalOf weights coords d k rounds restarts (length ls) (length ds) work workU32 in

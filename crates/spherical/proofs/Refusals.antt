@@ -39,7 +39,8 @@ pub record Ready (weights coords : List Float) (d k rounds restarts labels direc
   pub leaves : LeavesOk weights coords d
 
 module _ (weights coords : List Float) (d k rounds restarts labels directions work workU32 : ℕ) where
-  pub ready : refusalOf weights coords d k rounds restarts labels directions work workU32 ≡ 0 → Ready weights coords d k rounds restarts labels directions work workU32
+  pub ready : refusalOf weights coords d k rounds restarts labels directions work workU32 ≡ 0
+      → Ready weights coords d k rounds restarts labels directions work workU32
   unfolding refusalOf
   ready e =
       let m = length weights in

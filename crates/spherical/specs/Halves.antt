@@ -60,7 +60,8 @@ RunBeside result w w' u u' m k d h r =
 
 -- what is held after t runs
 pub record Holds (result : Result) (w : List Float) (u : List ℕ) (m k d t : ℕ) (h : Restarts) : Type 0 where
-  pub there : InHalf result (stateAt m k d w u (heldAt (h .held .second) (half m k d)) (heldAt (h .held .second) (m + k)))
+  pub there : InHalf result (stateAt m k d w u (heldAt (h .held .second) (half m k d))
+      (heldAt (h .held .second) (m + k)))
   pub cohesion : h .held .value ≡ result .cohesion
   pub counts : h .held .counts ≡ result .counts
   pub generator : h .generator ≡ result .generator

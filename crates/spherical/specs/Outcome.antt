@@ -1,4 +1,5 @@
--- Document 01, 'Spherical k-means': what a call of `spherical_kmeans` answers, and what the output arrays hold after it. Definitions only.
+-- Document 01, 'Spherical k-means': what a call of `spherical_kmeans` answers, and what the output arrays hold after
+-- it. Definitions only.
 use mathlib.Core.List.{List, _++_}
 use Prim.Native.Nat.{ℕ, zero, suc, _*_}
 use lib.ListN.{length, drop}

@@ -1,4 +1,5 @@
--- Document 01, 'Spherical k-means': the restarts of `spherical_kmeans`, one generator through all of them. Definitions only.
+-- Document 01, 'Spherical k-means': the restarts of `spherical_kmeans`, one generator through all of them. Definitions
+-- only.
 use mathlib.Core.List.{List}
 use Prim.Native.Nat.{ℕ, zero, suc, _+_, _-_, max}
 use lib.Ieee.{Float}

@@ -1,6 +1,6 @@
-// Spherical k-means, the public entry (vmf.rs; document 01, 'Spherical k-means' and 'Refusals by call'): it refuses what it
-// must, runs the restarts in the two halves of the lent work arrays, keeps the run of the greatest cohesion and fills the
-// outputs from it.
+// Spherical k-means, the public entry (vmf.rs; document 01, 'Spherical k-means' and 'Refusals by call'): it refuses
+// what it must, runs the restarts in the two halves of the lent work arrays, keeps the run of the greatest cohesion and
+// fills the outputs from it.
 ghost use mathlib.Core.Path.{_≡_};
 ghost use Prim.Native.Nat.{_+_, _*_, _≤_};
 ghost use mathlib.Core.List.{_++_};
@@ -85,8 +85,8 @@ fn run_at(
     a: usize,
     b: usize,
 ) -> kmeans_lloyd::RunEnd
-    requires { ⌜ Runnable (length (now work)) (length (now «work_u32»)) (length (now weights)) (length (now coords)) m k d
-        rounds ⌝ }
+    requires { ⌜ Runnable (length (now work)) (length (now «work_u32»)) (length (now weights))
+        (length (now coords)) m k d rounds ⌝ }
     requires { ⌜ (a + half m k d ≤ length (now work)) × (b + (m + k) ≤ length (now «work_u32»)) ⌝ }
     ensures { λ r. ⌜ RunAt (resultOf (now (weights .entry)) (now (coords .entry)) m k d rounds generator)
         (now (work .entry)) (now (work .exit)) (now («work_u32» .entry)) (now («work_u32» .exit)) a b m k d r ⌝ }
@@ -124,8 +124,8 @@ fn restart(
     d: usize,
     rounds: usize,
 ) -> Restarts
-    requires { ⌜ Runnable (length (now work)) (length (now «work_u32»)) (length (now weights)) (length (now coords)) m k d
-        rounds ⌝ }
+    requires { ⌜ Runnable (length (now work)) (length (now «work_u32»)) (length (now weights))
+        (length (now coords)) m k d rounds ⌝ }
     requires { ⌜ AtMost (ofRuns 64) (h .held .counts) ⌝ }
     ensures { λ q. ⌜ Restarted (resultOf (now (weights .entry)) (now (coords .entry)) m k d rounds (h .generator))
         (now (work .entry)) (now (work .exit)) (now («work_u32» .entry)) (now («work_u32» .exit)) m k d h q ⌝ }
@@ -167,8 +167,8 @@ fn run_all(
     rounds: usize,
     restarts: usize,
 ) -> Restarts
-    requires { ⌜ Runnable (length (now work)) (length (now «work_u32»)) (length (now weights)) (length (now coords)) m k d
-        rounds ⌝ }
+    requires { ⌜ Runnable (length (now work)) (length (now «work_u32»)) (length (now weights))
+        (length (now coords)) m k d rounds ⌝ }
     requires { ⌜ restarts ≤ mostRestarts ⌝ }
     ensures { λ h. ⌜ Holds (kmeansOf (now (weights .entry)) (now (coords .entry)) m k d rounds restarts seed)
         (now (work .exit)) (now («work_u32» .exit)) m k d 64 h ⌝ }
@@ -214,10 +214,10 @@ fn fill_outputs(
     k: usize,
     d: usize,
 )
-    requires { ⌜ Fillable (length (now labels)) (length (now directions)) (length (now work)) (length (now «work_u32»)) m k
-        d ⌝ }
-    ensures { λ _. ⌜ now (labels .exit) ≡ stateAt m k d (now (work .entry)) (now («work_u32» .entry)) (heldAt second (half m k d))
-        (heldAt second (m + k)) .labels ++ drop m (now (labels .entry)) ⌝ }
+    requires { ⌜ Fillable (length (now labels)) (length (now directions)) (length (now work))
+        (length (now «work_u32»)) m k d ⌝ }
+    ensures { λ _. ⌜ now (labels .exit) ≡ stateAt m k d (now (work .entry)) (now («work_u32» .entry))
+        (heldAt second (half m k d)) (heldAt second (m + k)) .labels ++ drop m (now (labels .entry)) ⌝ }
     ensures { λ _. ⌜ now (directions .exit) ≡ stateAt m k d (now (work .entry)) (now («work_u32» .entry))
         (heldAt second (half m k d)) (heldAt second (m + k)) .centers ++ drop (k * d) (now (directions .entry)) ⌝ }
 {
@@ -228,8 +228,8 @@ fn fill_outputs(
     rows::copy(&mut directions[..kd], &work[a..a + kd]);
 }
 
-// Spherical k-means of m leaves (m weights, m * d coordinates) into k groups. The outputs hold m labels and k * d directions
-// and may be longer; a refusal changes none of them. The work arrays' contents afterwards are free.
+// Spherical k-means of m leaves (m weights, m * d coordinates) into k groups. The outputs hold m labels and k * d
+// directions and may be longer; a refusal changes none of them. The work arrays' contents afterwards are free.
 pub fn spherical_kmeans(
     weights: &[f64],
     coords: &[f64],

@@ -1,5 +1,5 @@
--- What crosses the border to C: a Kappa, and the numbers of an answer as they are lent. The numbers of each case of an answer
--- are those of the entries' own maps. Definitions only.
+-- What crosses the border to C: a Kappa, and the numbers of an answer as they are lent. The numbers of each case of an
+-- answer are those of the entries' own maps. Definitions only.
 use mathlib.Core.List.{List}
 use mathlib.Core.Bool.{Bool, true, false}
 use Prim.Native.Nat.{ℕ}
@@ -26,7 +26,8 @@ abbrev pub clustered : ℕ → Float → List ℕ → ClusteredNumbers
 clustered refusal cohesion lent = record { refusal = refusal; cohesion = cohesion; counts = countsIn lent }
 
 abbrev pub fitted : ℕ → ℕ → Float → List ℕ → FittedNumbers
-fitted refusal groups loglik lent = record { refusal = refusal; groups = groups; loglik = loglik; counts = countsIn lent }
+fitted refusal groups loglik lent =
+    record { refusal = refusal; groups = groups; loglik = loglik; counts = countsIn lent }
 
 abbrev pub chosen : ℕ → ℕ → Float → Float → List ℕ → ChosenNumbers
 chosen refusal groups loglik score lent =

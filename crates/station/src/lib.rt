@@ -1,6 +1,6 @@
-// The three entries for a program in C or Rust (document 01, 'Refusals by call'): numbers and arrays in, the answer through
-// what is lent, the number of the refusal back, 0 for none. A slice crosses the border as a pointer and a length;
-// include/mosterklomp.h declares the functions.
+// The three entries for a program in C or Rust (document 01, 'Refusals by call'): numbers and arrays in, the answer
+// through what is lent, the number of the refusal back, 0 for none. A slice crosses the border as a pointer and a
+// length; include/mosterklomp.h declares the functions.
 ghost use mathlib.Core.Path.{_≡_};
 ghost use lib.ListN.{length};
 ghost use Rattle.mixture_outputs.specs.Outputs.{arrays};
@@ -64,7 +64,8 @@ fn give_fitted(a: movmf::Fitted, groups: &mut u64, loglik: &mut f64, counts: &mu
     }
 }
 
-// The number of the refusal; the number kept, its log-likelihood and score where there is none; the counts there and with 7.
+// The number of the refusal; the number kept, its log-likelihood and score where there is none; the counts there and
+// with 7.
 fn give_chosen(
     a: auto::Chosen,
     groups: &mut u64,
@@ -73,7 +74,8 @@ fn give_chosen(
     counts: &mut [u64; 2],
 ) -> u32
     ensures { λ r. ⌜ chosen r (now (groups .exit)) (now (loglik .exit)) (now (score .exit)) (now (counts .exit))
-        ≡ chosenNumbersOf (chosen 0 (now (groups .entry)) (now (loglik .entry)) (now (score .entry)) (now (counts .entry))) a ⌝ }
+        ≡ chosenNumbersOf (chosen 0 (now (groups .entry)) (now (loglik .entry)) (now (score .entry))
+        (now (counts .entry))) a ⌝ }
 {
     match a {
         auto::Chosen::Refused(code) => code,
@@ -116,7 +118,8 @@ pub extern "C" fn mosterklomp_spherical_kmeans(
     counts: &mut [u64; 2],
 ) -> u32
     ensures { λ r. ⌜ (let o = clusteredOutcome (now (labels .entry)) (now (directions .entry)) (now (weights .entry))
-        (now (coords .entry)) d k rounds restarts seed (length (now (work .entry))) (length (now («work_u32» .entry))) in
+        (now (coords .entry)) d k rounds restarts seed (length (now (work .entry)))
+        (length (now («work_u32» .entry))) in
         (clustered r (now (cohesion .exit)) (now (counts .exit))
         ≡ clusteredNumbersOf (clustered 0 (now (cohesion .entry)) (now (counts .entry))) (o .answer))
         × (now (labels .exit) ≡ o .labels) × (now (directions .exit) ≡ o .directions)) ⌝ }
@@ -159,10 +162,11 @@ pub extern "C" fn mosterklomp_movmf_with(
     loglik: &mut f64,
     counts: &mut [u64; 2],
 ) -> u32
-    ensures { λ r. ⌜ (let o = fittedOutcome (arrays (now (labels .entry)) (now (responsibilities .entry)) (now («group_weights» .entry))
-        (now (directions .entry)) (now (concentrations .entry)) (now (logw .entry)))
-        (now (weights .entry)) (now (coords .entry)) d k (record { rounds = rounds; seed = seed; kappa = kappaOf shared })
-        (length (now (work .entry))) (length (now («work_u32» .entry))) in
+    ensures { λ r. ⌜ (let o = fittedOutcome (arrays (now (labels .entry)) (now (responsibilities .entry))
+        (now («group_weights» .entry)) (now (directions .entry)) (now (concentrations .entry)) (now (logw .entry)))
+        (now (weights .entry)) (now (coords .entry)) d k
+        (record { rounds = rounds; seed = seed; kappa = kappaOf shared }) (length (now (work .entry)))
+        (length (now («work_u32» .entry))) in
         (fitted r (now (groups .exit)) (now (loglik .exit)) (now (counts .exit))
         ≡ fittedNumbersOf (fitted 0 (now (groups .entry)) (now (loglik .entry)) (now (counts .entry))) (o .answer))
         × (arrays (now (labels .exit)) (now (responsibilities .exit)) (now («group_weights» .exit))
@@ -216,16 +220,17 @@ pub extern "C" fn mosterklomp_movmf_auto_with(
     score: &mut f64,
     counts: &mut [u64; 2],
 ) -> u32
-    ensures { λ r. ⌜ (let o = chosenOutcome (arrays (now (labels .entry)) (now (responsibilities .entry)) (now («group_weights» .entry))
-        (now (directions .entry)) (now (concentrations .entry)) (now (logw .entry)))
+    ensures { λ r. ⌜ (let o = chosenOutcome (arrays (now (labels .entry)) (now (responsibilities .entry))
+        (now («group_weights» .entry)) (now (directions .entry)) (now (concentrations .entry)) (now (logw .entry)))
         (now (weights .entry)) (now (coords .entry)) d (record { rounds = rounds; seed = seed; kappa = kappaOf shared })
         «k_min» «k_max» (length (now (work .entry))) (length (now («work_u32» .entry))) in
         (chosen r (now (groups .exit)) (now (loglik .exit)) (now (score .exit)) (now (counts .exit))
-        ≡ chosenNumbersOf (chosen 0 (now (groups .entry)) (now (loglik .entry)) (now (score .entry)) (now (counts .entry)))
-        (o .answer)) × (arrays (now (labels .exit)) (now (responsibilities .exit)) (now («group_weights» .exit))
-        (now (directions .exit)) (now (concentrations .exit)) (now (logw .exit)) ≡ o .outputs)) ⌝ }
-    ensures { λ r. ⌜ KeepsBest (arrays (now (labels .entry)) (now (responsibilities .entry)) (now («group_weights» .entry))
-        (now (directions .entry)) (now (concentrations .entry)) (now (logw .entry)))
+        ≡ chosenNumbersOf (chosen 0 (now (groups .entry)) (now (loglik .entry)) (now (score .entry))
+        (now (counts .entry))) (o .answer)) × (arrays (now (labels .exit)) (now (responsibilities .exit))
+        (now («group_weights» .exit)) (now (directions .exit)) (now (concentrations .exit)) (now (logw .exit))
+        ≡ o .outputs)) ⌝ }
+    ensures { λ r. ⌜ KeepsBest (arrays (now (labels .entry)) (now (responsibilities .entry))
+        (now («group_weights» .entry)) (now (directions .entry)) (now (concentrations .entry)) (now (logw .entry)))
         (now (weights .entry)) (now (coords .entry)) d (record { rounds = rounds; seed = seed; kappa = kappaOf shared })
         «k_min» «k_max» (length (now (work .entry))) (length (now («work_u32» .entry)))
         (chosen r (now (groups .exit)) (now (loglik .exit)) (now (score .exit)) (now (counts .exit)))

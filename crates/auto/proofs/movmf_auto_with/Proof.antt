@@ -47,7 +47,8 @@ returns c =
     let l = r .before .lowest-number in
     let s = start h in
     let a = s .args in (
-      refused (found s) (a .weights .now) (a .coords .now) (a .d) (a .k-min) (a .k-max) (a .s) (length (a .work .now)) (length (a .work-u32 .now))
+      refused (found s) (a .weights .now) (a .coords .now) (a .d) (a .k-min) (a .k-max) (a .s) (length (a .work .now))
+          (length (a .work-u32 .now))
           (l .result) (h .highest-number .result) (h .highest-number .ensures) (l .ensures) (r .refusal .result) (r .refusal .ensures)
           (c .if1 .taken),
       refused-best (found s) (a .weights .now) (a .coords .now) (a .d) (a .k-min) (a .k-max) (a .s) (length (a .work .now))
@@ -65,7 +66,8 @@ fit-range-requires c κs =
     let a = s .args in
     let n = c .before .before .before .before .before .before .before in (
       admitted (a .weights .now) (a .coords .now) (a .d) (h .highest-number .result) (a .s)
-          (lengthsOf (found s) (length (a .work .now)) (length (a .work-u32 .now))) (some-at h) (sym (r .refusal .ensures) ∙ e .if1 .left) .fittable,
+          (lengthsOf (found s) (length (a .work .now)) (length (a .work-u32 .now))) (some-at h)
+          (sym (r .refusal .ensures) ∙ e .if1 .left) .fittable,
       (
         lowest-some (a .k-min) (h .highest-number .result) (l .result) (l .ensures) (some-at h),
         lowest-most (a .k-min) (h .highest-number .result) (l .result) (l .ensures),
@@ -85,7 +87,8 @@ returns-2 c =
     let n = f .fit-range in
     let x = n .last .1 .1 .1 .1 .1 .1 .1 in
     let o = arrays (x .0) (x .1 .0) (x .1 .1 .0) (x .1 .1 .1 .0) (x .1 .1 .1 .1 .0) (x .1 .1 .1 .1 .1 .0) in (
-      done (found s) (a .weights .now) (a .coords .now) (a .d) (a .k-min) (a .k-max) (a .s) (length (a .work .now)) (length (a .work-u32 .now))
+      done (found s) (a .weights .now) (a .coords .now) (a .d) (a .k-min) (a .k-max) (a .s) (length (a .work .now))
+          (length (a .work-u32 .now))
           (l .result) (h .highest-number .result) (h .highest-number .ensures) (l .ensures) (r .refusal .result) (r .refusal .ensures)
           (n .result) (c .answer .result) o (n .ensures) (c .answer .ensures) (e .if1 .left),
       done-best (found s) (a .weights .now) (a .coords .now) (a .d) (a .k-min) (a .k-max) (a .s) (length (a .work .now))

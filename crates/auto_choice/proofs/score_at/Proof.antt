@@ -1,5 +1,5 @@
--- `auto_choice::score_at` meets its contract: the number of parameters is what the call ensures and below 2^53, and the rest is one term once the constants are computed. Assumes
--- nothing.
+-- `auto_choice::score_at` meets its contract: the number of parameters is what the call ensures and below 2^53, and the rest is one term
+-- once the constants are computed. Assumes nothing.
 use mathlib.Core.Path.{ap}
 use Prim.Native.Nat.{ℕ, _*_, _≤_}
 use native.Mathlib.Omega.{arith}
@@ -29,7 +29,8 @@ returns : tie.Need-returns
 unfolding ofBits ofInt neg
 returns c =
     let a = c .before .before .args in
-    ap (λ (p : ℕ). add binary64 (mul binary64 (neg (number 2)) (a .loglik)) (mul binary64 (number p) (a .ln-total))) (c .before .parameters .ensures)
+    ap (λ (p : ℕ). add binary64 (mul binary64 (neg (number 2)) (a .loglik)) (mul binary64 (number p) (a .ln-total)))
+    (c .before .parameters .ensures)
 
 pub score-at-spec : {M : Type 1} → statement M
 score-at-spec = tie.close (tie.spec (λ c κs. search needs) int-to-float-result returns)

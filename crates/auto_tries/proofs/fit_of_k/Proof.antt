@@ -77,10 +77,11 @@ returns c =
     let l = scored b .before .kept-loglik in
     let n = b .before .plus in
     let x = f .fill-outputs .last in
-    fitted-kept (a .weights .now) (a .coords .now) (a .d) (a .k) (a .s) (r .four-runs .last .0) (r .four-runs .result) (r .four-runs .ensures)
-    (a .t) (l .result) (a .ln-total) (scored b .score-at .result) (b .beats .result) (n .result) (l .ensures) (s .pre .1 .1)
-    (scored b .score-at .ensures) (b .beats .ensures) (n .ensures) (halves-at r) (found s)
-    (arrays (x .0) (x .1 .0) (x .1 .1 .0) (x .1 .1 .1 .0) (x .1 .1 .1 .1 .0) (x .1 .1 .1 .1 .1 .0)) (p .if1 .taken) (f .fill-outputs .ensures)
+    fitted-kept (a .weights .now) (a .coords .now) (a .d) (a .k) (a .s) (r .four-runs .last .0) (r .four-runs .result)
+    (r .four-runs .ensures) (a .t) (l .result) (a .ln-total) (scored b .score-at .result) (b .beats .result) (n .result) (l .ensures)
+    (s .pre .1 .1) (scored b .score-at .ensures) (b .beats .ensures) (n .ensures) (halves-at r) (found s)
+    (arrays (x .0) (x .1 .0) (x .1 .1 .0) (x .1 .1 .1 .0) (x .1 .1 .1 .1 .0) (x .1 .1 .1 .1 .1 .0)) (p .if1 .taken)
+    (f .fill-outputs .ensures)
 
 returns-2 : tie.Need-returns-2
 returns-2 c =
@@ -90,9 +91,9 @@ returns-2 c =
     let a = s .args in
     let l = scored b .before .kept-loglik in
     let n = b .before .plus in
-    fitted-left (a .weights .now) (a .coords .now) (a .d) (a .k) (a .s) (r .four-runs .last .0) (r .four-runs .result) (r .four-runs .ensures)
-    (a .t) (l .result) (a .ln-total) (scored b .score-at .result) (b .beats .result) (n .result) (l .ensures) (s .pre .1 .1)
-    (scored b .score-at .ensures) (b .beats .ensures) (n .ensures) (halves-at r) (found s) (c .if1 .left)
+    fitted-left (a .weights .now) (a .coords .now) (a .d) (a .k) (a .s) (r .four-runs .last .0) (r .four-runs .result)
+    (r .four-runs .ensures) (a .t) (l .result) (a .ln-total) (scored b .score-at .result) (b .beats .result) (n .result) (l .ensures)
+    (s .pre .1 .1) (scored b .score-at .ensures) (b .beats .ensures) (n .ensures) (halves-at r) (found s) (c .if1 .left)
 
 pub fit-of-k-spec : {M : Type 1} → statement M
 fit-of-k-spec =

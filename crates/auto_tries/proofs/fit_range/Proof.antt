@@ -81,8 +81,8 @@ fit-of-k-requires c κs =
     let most = p .loop-test .taken in
     let m = length (a .weights .now) in
     let n = length (a .coords .now) in
-    let v = fittable-below m n m (a .hi) (l .k) (a .d) (a .s .rounds) (lengthsOf (found s) (length (a .work .now)) (length (a .work-u32 .now)))
-    (omega (arith, l .inv .0, s .pre .1 .0)) most (s .pre .0) in (
+    let v = fittable-below m n m (a .hi) (l .k) (a .d) (a .s .rounds)
+    (lengthsOf (found s) (length (a .work .now)) (length (a .work-u32 .now))) (omega (arith, l .inv .0, s .pre .1 .0)) most (s .pre .0) in (
       fittable-of m n m (l .k) (a .d) (a .s .rounds) _ _ (l .inv .2) v,
       (
         at-most-more (omega (arith, most, s .pre .1 .0, s .pre .0 .runnable .halves .sizes .k-small)) (l .inv .5),
@@ -157,5 +157,5 @@ fit-range-spec =
     (λ c. ap (λ (l : Lengths). l .concentrations) (kept c))
     (λ c. ap (λ (l : Lengths). l .logw) (kept c))
     (λ c. ap (λ (l : Lengths). l .work) (kept c))
-    (λ c. ap (λ (l : Lengths). l .work-u32) (kept c))
+    (λ c. ap (λ (l : Lengths). l .«work_u32») (kept c))
     returns)

@@ -22,8 +22,8 @@ returns-2 c =
     let x = stateIn (a .m) (a .k) (a .d) (a .work .now) (a .work-u32 .now) in
     leaf-placed (a .coords .now) (a .k) (a .d) (a .it) (a .i) x _ (b .bounds-at .result)
     (f .before .before .before .before .is-skipped .result)
-    (b .bounds-at .ensures (a .work-u32 .now)) (f .before .before .before .before .is-skipped .ensures) (f .before .before .before .if1 .left)
-    (f .place-leaf .result) (f .place-leaf .ensures)
+    (b .bounds-at .ensures (a .work-u32 .now)) (f .before .before .before .before .is-skipped .ensures)
+    (f .before .before .before .if1 .left) (f .place-leaf .result) (f .place-leaf .ensures)
 
 pub assign-leaf-spec : {M : Type 1} → statement M
 assign-leaf-spec =

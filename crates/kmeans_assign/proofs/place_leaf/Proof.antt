@@ -57,8 +57,8 @@ cast-label c =
     let s = start-of b in
     let a = s .args in
     let below =
-    leaf-below (a .m) (a .k) (a .d) (a .work .now) (a .work-u32 .now) (a .coords .now) (a .i) (b .best-of .result) (s .pre .0 .sizes .k-some)
-    (best-at b) in
+    leaf-below (a .m) (a .k) (a .d) (a .work .now) (a .work-u32 .now) (a .coords .now) (a .i) (b .best-of .result)
+    (s .pre .0 .sizes .k-some) (best-at b) in
     omega (arith, below, s .pre .0 .sizes .k-small)
 
 slice-read-changed : tie.Need-slice-read-changed
@@ -68,7 +68,8 @@ mul-work-u32 : tie.Need-mul-work-u32
 mul-work-u32 c = let s = start (c .before .before .before .before .before) in omega (arith, s .pre .0 .sizes .m-small, s .pre .1 .below)
 
 slice-write-work-u32 : tie.Need-slice-write-work-u32
-slice-write-work-u32 c = let s = start (c .before .before .before .before .before) in omega (arith, s .pre .0 .workU32-long, s .pre .1 .below)
+slice-write-work-u32 c = let s = start (c .before .before .before .before .before) in
+    omega (arith, s .pre .0 .workU32-long, s .pre .1 .below)
 
 same-length : tie.Need-same-length
 same-length c = simp length-set at (c .before .before .before .before .put-bounds .kept .0)

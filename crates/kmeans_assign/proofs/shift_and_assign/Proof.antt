@@ -48,10 +48,11 @@ turn-leaf-requires c κs =
     let a = s .args in
     let h : l .i < a .m = c .before .before .loop-test .taken in
     let labelled =
-    fused-labelled (a .coords .now) (a .k) (a .d) (a .it) _ (stateIn (a .m) (a .k) (a .d) (a .work .now) (a .work-u32 .now)) (a .m) (s .pre .1)
-    (s .pre .0 .sizes .k-some) (l .i)
+    fused-labelled (a .coords .now) (a .k) (a .d) (a .it) _ (stateIn (a .m) (a .k) (a .d) (a .work .now) (a .work-u32 .now)) (a .m)
+    (s .pre .1) (s .pre .0 .sizes .k-some) (l .i)
     (stateIn (a .m) (a .k) (a .d) (l .work) (l .work-u32)) (l .p) (l .inv .2) in
-    (l .inv .1, (leaf-of (l .i) (a .m) (a .d) h, rw (get-labels (a .m) (a .k) (a .d) (l .work) (l .work-u32) (l .i) 0 h) (labelled (l .i) h)))
+    let own = get-labels (a .m) (a .k) (a .d) (l .work) (l .work-u32) (l .i) 0 h in
+    (l .inv .1, (leaf-of (l .i) (a .m) (a .d) h, rw own (labelled (l .i) h)))
 
 -- what is counted so far is small
 small-at : (p : tie.At-loop Inv-loop μ-loop) → AtMost ofRound (p .loop .p .counts)

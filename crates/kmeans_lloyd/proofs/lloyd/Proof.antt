@@ -17,7 +17,8 @@ use Rattle.kmeans_lloyd.proofs.lloyd.Tie as tie
 
 abbrev Inv-loop : tie.InvT-loop
 Inv-loop work₀ work-u32₀ weights coords m k d rounds c₀ it₀ work work-u32 c it =
-    (it ≤ rounds) × Sized (length work) (length work-u32) (length coords) m k d × (length work ≡ length work₀) × (length work-u32 ≡ length work-u32₀)
+    (it ≤ rounds) × Sized (length work) (length work-u32) (length coords) m k d × (length work ≡ length work₀)
+    × (length work-u32 ≡ length work-u32₀)
     × Labelled m k (stateIn m k d work work-u32) × Few it c
     × GoesOn weights coords m k d (roundsFrom weights coords m k d rounds 0 (freshRun (stateIn m k d work₀ work-u32₀))) (rounds - it) it
     (stateIn m k d work work-u32) c

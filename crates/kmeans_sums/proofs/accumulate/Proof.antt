@@ -80,7 +80,8 @@ loop-again c =
     let eu = g .gain .kept .1 .0 in (
       omega (arith, c .before .before .before .before .before .before .before .loop-test .taken),
       sized-of _ _ _ _ (length (a .coords .now)) (a .m) (a .k) (a .d) ew eu (l .inv .1),
-      gather-turn (a .weights .now) (a .coords .now) (a .m) (a .k) (a .d) _ (l .i) (l .work) (l .work-u32) (l .inv .2) _ _ (g .gain .ensures),
+      gather-turn (a .weights .now) (a .coords .now) (a .m) (a .k) (a .d) _ (l .i) (l .work) (l .work-u32) (l .inv .2) _ _
+          (g .gain .ensures),
       ew ∙ l .inv .3,
       eu ∙ l .inv .4,
     )

@@ -1,4 +1,5 @@
--- `leaf_file::put_decimal` meets its contract. The measure is the number of places; what a call of itself puts is the digits before the last. Assumes nothing.
+-- `leaf_file::put_decimal` meets its contract. The measure is the number of places; what a call of itself puts is the digits before
+-- the last. Assumes nothing.
 use borrow.Author.Needs.{needs}
 use native.Mathlib.Omega.{arith}
 use Rattle.leaf_file.proofs.Placing.{decimal-none, decimal-one, decimal-more}
@@ -23,142 +24,71 @@ abbrev put-decimal-below : ℕ → In 1 put-decimal-kinds.ps
 put-decimal-below t =
     and 1 put-decimal-kinds.ps (falls 1 put-decimal-kinds.ps _<_ μ-put-decimal t) put-decimal.Pre
 
-put-decimal-cast-put-byte : (t : ℕ) → put-decimal-lts.Need-cast-put-byte (
-  put-byte-reads.Asked,
-  put-byte-reads.Learnt,
-  put-decimal-below t,
-  put-decimal.Post,
-) (put-decimal-at t) put-decimal.Post
-put-decimal-cast-put-byte t c = search needs
+-- what the functions that are called ask and promise; a call of itself has fewer places
+abbrev claims : ℕ → put-decimal-lts.Claims
+claims t = (put-byte-reads.Asked, put-byte-reads.Learnt, put-decimal-below t, put-decimal.Post)
 
-put-decimal-add-put-byte : (t : ℕ) → put-decimal-lts.Need-add-put-byte (
-  put-byte-reads.Asked,
-  put-byte-reads.Learnt,
-  put-decimal-below t,
-  put-decimal.Post,
-) (put-decimal-at t) put-decimal.Post
-put-decimal-add-put-byte t c = search needs
+module _ (t : ℕ) where
+  -- places, each from a later one
+  abbrev start : put-decimal-lts.Else1 (claims t) (put-decimal-at t) put-decimal.Post
+      → put-decimal-lts.Start (claims t) (put-decimal-at t) put-decimal.Post
+  start p = p .before .before
 
-put-decimal-put-byte-requires : (t : ℕ) → put-decimal-lts.Need-put-byte-requires (
-  put-byte-reads.Asked,
-  put-byte-reads.Learnt,
-  put-decimal-below t,
-  put-decimal.Post,
-) (put-decimal-at t) put-decimal.Post
-put-decimal-put-byte-requires t c κs = search needs
+  abbrev one-digit : put-decimal-lts.After-slice-known2 (claims t) (put-decimal-at t) put-decimal.Post
+      → put-decimal-lts.Then2 (claims t) (put-decimal-at t) put-decimal.Post
+  one-digit p = p .before .before .before .before
 
-put-decimal-sub-put-decimal : (t : ℕ) → put-decimal-lts.Need-sub-put-decimal (
-  put-byte-reads.Asked,
-  put-byte-reads.Learnt,
-  put-decimal-below t,
-  put-decimal.Post,
-) (put-decimal-at t) put-decimal.Post
-put-decimal-sub-put-decimal t c = search needs
+  abbrev own-call : put-decimal-lts.After-slice-known4 (claims t) (put-decimal-at t) put-decimal.Post
+      → put-decimal-lts.After-put-decimal (claims t) (put-decimal-at t) put-decimal.Post
+  own-call p = p .before .before .before .before .before .before
 
-put-decimal-put-decimal-requires : (t : ℕ) → put-decimal-lts.Need-put-decimal-requires (
-  put-byte-reads.Asked,
-  put-byte-reads.Learnt,
-  put-decimal-below t,
-  put-decimal.Post,
-) (put-decimal-at t) put-decimal.Post
-put-decimal-put-decimal-requires t c κs =
-    let s = c .before .before .before .before in
-    (omega (arith, s .pre .0, c .before .before .if1 .left), omega (arith, s .pre .1))
+  abbrev more-digits : put-decimal-lts.After-put-decimal (claims t) (put-decimal-at t) put-decimal.Post
+      → put-decimal-lts.Else2 (claims t) (put-decimal-at t) put-decimal.Post
+  more-digits p = p .before .before
 
-put-decimal-cast-put-byte-2 : (t : ℕ) → put-decimal-lts.Need-cast-put-byte-2 (
-  put-byte-reads.Asked,
-  put-byte-reads.Learnt,
-  put-decimal-below t,
-  put-decimal.Post,
-) (put-decimal-at t) put-decimal.Post
-put-decimal-cast-put-byte-2 t c = search needs
+  put-decimal-requires : put-decimal-lts.Need-put-decimal-requires (claims t) (put-decimal-at t) put-decimal.Post
+  put-decimal-requires c κs =
+      let e = c .before .before in
+      (omega (arith, start e .pre .0, e .if1 .left), omega (arith, start e .pre .1))
 
-put-decimal-add-put-byte-2 : (t : ℕ) → put-decimal-lts.Need-add-put-byte-2 (
-  put-byte-reads.Asked,
-  put-byte-reads.Learnt,
-  put-decimal-below t,
-  put-decimal.Post,
-) (put-decimal-at t) put-decimal.Post
-put-decimal-add-put-byte-2 t c = search needs
+  returns : put-decimal-lts.Need-returns (claims t) (put-decimal-at t) put-decimal.Post
+  returns c =
+      let a = c .before .before .args in
+      (decimal-none (a .places) (a .n) (a .out .now) (a .at) (c .if1 .taken), omega arith)
 
-put-decimal-put-byte-requires-2 : (t : ℕ) → put-decimal-lts.Need-put-byte-requires-2 (
-  put-byte-reads.Asked,
-  put-byte-reads.Learnt,
-  put-decimal-below t,
-  put-decimal.Post,
-) (put-decimal-at t) put-decimal.Post
-put-decimal-put-byte-requires-2 t c κs = search needs
+  returns-2 : put-decimal-lts.Need-returns-2 (claims t) (put-decimal-at t) put-decimal.Post
+  returns-2 c =
+      let h = one-digit c in
+      let some = h .before .if1 .left in
+      let a = start (h .before) .args in
+      let v = c .before .before .put-byte in (
+        decimal-one (a .places) (a .n) (a .out .now) _ (a .at) (v .result) some (h .if2 .taken) (v .ensures),
+        omega (arith, v .ensures .ends, some),
+      )
 
-put-decimal-returns : (t : ℕ) → put-decimal-lts.Need-returns (
-  put-byte-reads.Asked,
-  put-byte-reads.Learnt,
-  put-decimal-below t,
-  put-decimal.Post,
-) (put-decimal-at t) put-decimal.Post
-put-decimal-returns t c =
-    let a = c .before .before .args in
-    (decimal-none (a .places) (a .n) (a .out .now) (a .at) (c .if1 .taken), omega arith)
-
-put-decimal-same-length : (t : ℕ) → put-decimal-lts.Need-same-length (
-  put-byte-reads.Asked,
-  put-byte-reads.Learnt,
-  put-decimal-below t,
-  put-decimal.Post,
-) (put-decimal-at t) put-decimal.Post
-put-decimal-same-length t c = search needs
-
-put-decimal-returns-2 : (t : ℕ) → put-decimal-lts.Need-returns-2 (
-  put-byte-reads.Asked,
-  put-byte-reads.Learnt,
-  put-decimal-below t,
-  put-decimal.Post,
-) (put-decimal-at t) put-decimal.Post
-put-decimal-returns-2 t c =
-    let a = c .before .before .before .before .before .before .before .args in
-    let v = c .before .before .put-byte in
-    (decimal-one (a .places) (a .n) (a .out .now) _ (a .at) (v .result) (c .before .before .before .before .before .if1 .left) (c .before .before .before .before .if2 .taken) (v .ensures), omega (arith, v .ensures .ends, c .before .before .before .before .before .if1 .left))
-
-put-decimal-same-length-2 : (t : ℕ) → put-decimal-lts.Need-same-length-2 (
-  put-byte-reads.Asked,
-  put-byte-reads.Learnt,
-  put-decimal-below t,
-  put-decimal.Post,
-) (put-decimal-at t) put-decimal.Post
-put-decimal-same-length-2 t c = search needs
-
-put-decimal-returns-3 : (t : ℕ) → put-decimal-lts.Need-returns-3 (
-  put-byte-reads.Asked,
-  put-byte-reads.Learnt,
-  put-decimal-below t,
-  put-decimal.Post,
-) (put-decimal-at t) put-decimal.Post
-put-decimal-returns-3 t c =
-    let a = c .before .before .before .before .before .before .before .before .before .before .before .args in
-    let u = c .before .before .before .before .before .before .put-decimal in
-    let v = c .before .before .put-byte2 in (
-      decimal-more (a .places) (a .n) (a .out .now) _ _ (a .at) (u .result) (v .result) (c .before .before .before .before .before .before .before .before .before .if1 .left) (c .before .before .before .before .before .before .before .before .if2 .left) (u .ensures .0) (v .ensures),
-      omega (arith, u .ensures .1, v .ensures .ends, c .before .before .before .before .before .before .before .before .before .if1 .left),
-    )
+  returns-3 : put-decimal-lts.Need-returns-3 (claims t) (put-decimal-at t) put-decimal.Post
+  returns-3 c =
+      let h = more-digits (own-call c) in
+      let some = h .before .if1 .left in
+      let a = start (h .before) .args in
+      let u = own-call c .put-decimal in
+      let v = c .before .before .put-byte2 in (
+        decimal-more (a .places) (a .n) (a .out .now) _ _ (a .at) (u .result) (v .result) some (h .if2 .left) (u .ensures .0) (v .ensures),
+        omega (arith, u .ensures .1, v .ensures .ends, some),
+      )
 
 pub +put-decimal-spec : {M : Type 1} → statement M
-+put-decimal-spec = close μ-put-decimal λ t. put-decimal-lts.spec (
-  put-byte-reads.Asked,
-  put-byte-reads.Learnt,
-  put-decimal-below t,
-  put-decimal.Post,
-)
-    (put-decimal-at t)
-    put-decimal.Post
-    (put-decimal-cast-put-byte t)
-    (put-decimal-add-put-byte t)
-    (put-decimal-put-byte-requires t)
-    (put-decimal-sub-put-decimal t)
-    (put-decimal-put-decimal-requires t)
-    (put-decimal-cast-put-byte-2 t)
-    (put-decimal-add-put-byte-2 t)
-    (put-decimal-put-byte-requires-2 t)
-    (put-decimal-returns t)
-    (put-decimal-same-length t)
-    (put-decimal-returns-2 t)
-    (put-decimal-same-length-2 t)
-    (put-decimal-returns-3 t)
++put-decimal-spec = close μ-put-decimal λ t. put-decimal-lts.spec (claims t) (put-decimal-at t) put-decimal.Post
+    (λ c. search needs)
+    (λ c. search needs)
+    (λ c κs. search needs)
+    (λ c. search needs)
+    (put-decimal-requires t)
+    (λ c. search needs)
+    (λ c. search needs)
+    (λ c κs. search needs)
+    (returns t)
+    (λ c. search needs)
+    (returns-2 t)
+    (λ c. search needs)
+    (returns-3 t)

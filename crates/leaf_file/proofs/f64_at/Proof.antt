@@ -11,7 +11,8 @@ returns c =
     let a = c .before .before .before .before .args in
     let low = c .before .before .u32-at in
     let high = c .before .u32-at2 in
-    c .of-bits .ensures ∙ ap (ofBits binary64) (whole-eight (a .bytes .now) (a .at) (low .result) (high .result) (low .ensures .0) (high .ensures .0))
+    c .of-bits .ensures ∙ ap (ofBits binary64) (whole-eight (a .bytes .now) (a .at) (low .result) (high .result) (low .ensures .0)
+    (high .ensures .0))
 
 pub f64-at-spec : {M : Type 1} → statement M
 f64-at-spec =

@@ -14,7 +14,8 @@ returns c = search (le-leb, lt-leb, needs)
 returns-2 : tie.Need-returns-2
 returns-2 c =
     let a = c .before .before .before .before .before .args in
-    c .sizes-refusal .ensures ∙ refused-by (a .bytes .now) (c .before .before .u32-at .result) (c .before .u32-at2 .result) (c .before .before .u32-at .ensures .0) (c .before .u32-at2 .ensures .0) (c .before .before .before .if1 .left)
+    c .sizes-refusal .ensures ∙ refused-by (a .bytes .now) (c .before .before .u32-at .result) (c .before .u32-at2 .result)
+    (c .before .before .u32-at .ensures .0) (c .before .u32-at2 .ensures .0) (c .before .before .before .if1 .left)
 
 pub file-refusal-spec : {M : Type 1} → statement M
 file-refusal-spec =

@@ -37,13 +37,16 @@ abbrev u32-at2-at : tie.After-slice-known2 → tie.After-u32-at2
 u32-at2-at p = let q = p .before .before .before .before in q .before .before .before .before
 
 fit-sized-requires : tie.Need-fit-sized-requires
-fit-sized-requires c κs = sized (start (c .before .before .before .before .before) .args .bytes .now) _ _ (c .before .before .before .before .u32-at .ensures .0) (c .before .before .before .u32-at2 .ensures .0) (none (c .before .before .before .before .before)) .1
+fit-sized-requires c κs = sized (start (c .before .before .before .before .before) .args .bytes .now) _ _
+    (c .before .before .before .before .u32-at .ensures .0) (c .before .before .before .u32-at2 .ensures .0)
+    (none (c .before .before .before .before .before)) .1
 
 returns-2 : tie.Need-returns-2
 returns-2 c =
     let u32 = u32-at2-at c in
     let a = start (u32 .before .before) .args in
-    file-fitted (a .bytes .now) (a .labels .now) _ _ _ (u32 .before .u32-at .ensures .0) (u32 .u32-at2 .ensures .0) (none (u32 .before .before)) (c .before .before .before .before .fit-sized .ensures)
+    file-fitted (a .bytes .now) (a .labels .now) _ _ _ (u32 .before .u32-at .ensures .0) (u32 .u32-at2 .ensures .0)
+    (none (u32 .before .before)) (c .before .before .before .before .fit-sized .ensures)
 
 pub fit-file-spec : {M : Type 1} → statement M
 fit-file-spec =

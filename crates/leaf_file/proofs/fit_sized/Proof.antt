@@ -47,14 +47,16 @@ slice-aggregate-fit-leaves c =
     let s = start (load-at (c .before .before .before)) in
     let a = s .args in
     let f : ℕ → Float = λ (i : ℕ). f64At (a .bytes .now) (8 + 8 * i) in
-    sym (ap length (front-read f (a .weights .now) _ (a .m) (s .pre .leaves) (c .before .before .before .before .before .before .before .load .ensures)) ∙ tabulate-length f (a .m))
+    sym (ap length (front-read f (a .weights .now) _ (a .m) (s .pre .leaves)
+    (c .before .before .before .before .before .before .before .load .ensures)) ∙ tabulate-length f (a .m))
 
 slice-aggregate-fit-leaves-2 : tie.Need-slice-aggregate-fit-leaves-2
 slice-aggregate-fit-leaves-2 c =
     let s = start (load-at (c .before .before .before .before)) in
     let a = s .args in
     let g : ℕ → Float = λ (i : ℕ). f64At (a .bytes .now) (8 + 8 * a .m + 8 * i) in
-    sym (ap length (front-read g (a .coords .now) _ (a .m * a .d) (s .pre .numbers) (c .before .before .before .before .load2 .ensures)) ∙ tabulate-length g (a .m * a .d))
+    sym (ap length (front-read g (a .coords .now) _ (a .m * a .d) (s .pre .numbers) (c .before .before .before .before .load2 .ensures))
+    ∙ tabulate-length g (a .m * a .d))
 
 returns : tie.Need-returns
 returns c =

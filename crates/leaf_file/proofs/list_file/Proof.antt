@@ -16,7 +16,13 @@ put-answer-requires : tie.Need-put-answer-requires
 put-answer-requires c κs =
     let m = c .before .before .shops in
     let h : length (c .before .before .before .before .before .before .before .args .out .now) ≡ 4096 = search needs in
-    omega (arith, h, m .ensures .0, few-labels (c .before .before .before .before .fit-file .last .1 .0) (m .result) (m .ensures .0) (c .before .before .before .before .fit-file .kept .1 .0))
+    omega (
+      arith,
+      h,
+      m .ensures .0,
+      few-labels (c .before .before .before .before .fit-file .last .1 .0) (m .result) (m .ensures .0)
+          (c .before .before .before .before .fit-file .kept .1 .0),
+    )
 
 -- places, each from a later one
 abbrev start : tie.After-put-answer → tie.Start

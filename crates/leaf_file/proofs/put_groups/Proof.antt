@@ -19,7 +19,8 @@ returns c =
     let z = c .before .before .before .before .before .before .put-number3 in
     let w = c .before .before .put-shops in
     put-both _ _ _ _ _ 0 (x .result) (w .result) (x .ensures .0)
-    (put-both _ _ _ _ _ (x .result) (y .result) (w .result) (y .ensures .0) (put-both _ _ _ _ _ (y .result) (z .result) (w .result) (z .ensures .0) (w .ensures)))
+    (put-both _ _ _ _ _ (x .result) (y .result) (w .result) (y .ensures .0)
+    (put-both _ _ _ _ _ (y .result) (z .result) (w .result) (z .ensures .0) (w .ensures)))
 
 pub put-groups-spec : {M : Type 1} → statement M
 put-groups-spec =

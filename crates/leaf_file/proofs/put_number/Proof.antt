@@ -21,7 +21,8 @@ returns c =
     let w = put .put-word in
     let n = c .before .before .before .before .before .before .put-decimal in
     let e = c .before .before .put-byte in (
-      put-both (a .word .now) _ (a .out .now) _ _ (a .at) (w .result) (e .result) (w .ensures) (put-both (decimal (a .n)) (10 ∷ []) _ _ _ (w .result) (n .result) (e .result) (n .ensures .0) (e .ensures)),
+      put-both (a .word .now) _ (a .out .now) _ _ (a .at) (w .result) (e .result) (w .ensures)
+          (put-both (decimal (a .n)) (10 ∷ []) _ _ _ (w .result) (n .result) (e .result) (n .ensures .0) (e .ensures)),
       omega (arith, w .ensures .ends, n .ensures .1, e .ensures .ends),
     )
 

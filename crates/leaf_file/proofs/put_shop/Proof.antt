@@ -27,7 +27,8 @@ returns c =
     let n = c .before .before .before .before .before .before .put-decimal2 in
     let e = c .before .before .put-byte2 in (
       put-both (decimal (a .i)) _ (a .out .now) _ _ (a .at) (i .result) (e .result) (i .ensures .0)
-          (put-both (32 ∷ []) _ _ _ _ (i .result) (s .result) (e .result) (s .ensures) (put-both (decimal (a .label)) (10 ∷ []) _ _ _ (s .result) (n .result) (e .result) (n .ensures .0) (e .ensures))),
+          (put-both (32 ∷ []) _ _ _ _ (i .result) (s .result) (e .result) (s .ensures)
+          (put-both (decimal (a .label)) (10 ∷ []) _ _ _ (s .result) (n .result) (e .result) (n .ensures .0) (e .ensures))),
       omega (arith, i .ensures .1, s .ensures .ends, n .ensures .1, e .ensures .ends),
     )
 

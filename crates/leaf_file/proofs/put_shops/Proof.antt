@@ -13,12 +13,14 @@ use Rattle.leaf_file.proofs.put_shops.Statement.{statement}
 use Rattle.leaf_file.proofs.put_shops.Tie as tie
 
 -- one shop more
-more : (labels l r s : List ℕ) (at i e f : ℕ) → Put (shopLines labels i) l r at e → Put (shopLine i (getD labels i 0)) r s e f → Put (shopLines labels (i + 1)) l s at f
+more : (labels l r s : List ℕ) (at i e f : ℕ) → Put (shopLines labels i) l r at e → Put (shopLine i (getD labels i 0)) r s e f
+    → Put (shopLines labels (i + 1)) l s at f
 unfolding shopLines
 more labels l r s at i e f p q = rw add-one (put-both (shopLines labels i) (shopLine i (getD labels i 0)) l r s at e f p q)
 
 abbrev Inv-loop : tie.InvT-loop
-Inv-loop out₀ at labels end₀ i₀ out end i = (i ≤ length labels) × (length out ≡ length out₀) × (end ≤ at + 42 * i) × (Put (shopLines labels i) out₀ out at end)
+Inv-loop out₀ at labels end₀ i₀ out end i = (i ≤ length labels) × (length out ≡ length out₀) × (end ≤ at + 42 * i)
+    × (Put (shopLines labels i) out₀ out at end)
 
 abbrev μ-loop : tie.MeasureT-loop
 μ-loop out₀ at labels end₀ i₀ out end i = length labels - i
@@ -35,8 +37,13 @@ loop-again : tie.Need-loop-again Inv-loop μ-loop
 loop-again c =
     let l = c .before .before .before .before .before .before .loop in
     let a = start c .args in
-    let v = c .before .before .put-shop in
-    (omega arith, search needs, omega (arith, v .ensures .1, l .inv .2), more (a .labels .now) (a .out .now) (l .out) _ (a .at) (l .i) (l .end) _ (l .inv .3) (v .ensures .0))
+    let v = c .before .before .put-shop in (
+      omega arith,
+      search needs,
+      omega (arith, v .ensures .1, l .inv .2),
+      more (a .labels .now) (a .out .now) (l .out) _ (a .at) (l .i)
+          (l .end) _ (l .inv .3) (v .ensures .0),
+    )
 
 returns : tie.Need-returns Inv-loop μ-loop
 returns c =

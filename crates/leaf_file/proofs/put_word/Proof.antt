@@ -13,11 +13,13 @@ use Rattle.leaf_file.proofs.put_word.Statement.{statement}
 use Rattle.leaf_file.proofs.put_word.Tie as tie
 
 -- one byte more of the word
-more : (w l r : List ℕ) (at i : ℕ) → i < length w → at + i < length r → Put (take i w) l r at (at + i) → Put (take (i + 1) w) l (set r (at + i) (getD w i 0)) at (at + (i + 1))
+more : (w l r : List ℕ) (at i : ℕ) → i < length w → at + i < length r → Put (take i w) l r at (at + i)
+    → Put (take (i + 1) w) l (set r (at + i) (getD w i 0)) at (at + (i + 1))
 more w l r at i h g p =
     let q : at + (i + 1) ≡ at + i + 1 = omega arith in
     let t : take (i + 1) w ≡ take i w ++ (getD w i 0 ∷ []) = rw add-one (take-suc w i 0 h) in
-    rw (q, t) (put-both (take i w) (getD w i 0 ∷ []) l r (set r (at + i) (getD w i 0)) at (at + i) (at + i + 1) p (put-one r (at + i) (getD w i 0) g))
+    rw (q, t) (put-both (take i w) (getD w i 0 ∷ []) l r (set r (at + i) (getD w i 0)) at (at + i) (at + i + 1) p
+    (put-one r (at + i) (getD w i 0) g))
 
 -- the whole word
 done : (w l r : List ℕ) (at i : ℕ) → i ≡ length w → Put (take i w) l r at (at + i) → Put w l r at (at + length w)

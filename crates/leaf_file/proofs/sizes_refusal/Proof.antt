@@ -1,4 +1,5 @@
--- `leaf_file::sizes_refusal` meets its contract: each return by the test that failed; the product by the limits of m and d. Assumes nothing.
+-- `leaf_file::sizes_refusal` meets its contract: each return by the test that failed; the product by the limits of m and d. Assumes
+-- nothing.
 use Prim.Native.Nat.{ℕ, _*_, _≤_}
 use native.Mathlib.Nat.{mul-le-mul}
 use native.Mathlib.Omega.{arith}

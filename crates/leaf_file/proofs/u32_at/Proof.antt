@@ -16,7 +16,8 @@ returns c =
     let x = c .before .before .before .before .wide2 in
     let y = c .before .before .wide3 in
     let z = c .wide4 in (
-      whole-four (a .bytes .now) (a .at) (w .result) (x .result) (y .result) (z .result) (w .ensures .0) (x .ensures .0) (y .ensures .0) (z .ensures .0),
+      whole-four (a .bytes .now) (a .at) (w .result) (x .result) (y .result) (z .result) (w .ensures .0) (x .ensures .0) (y .ensures .0)
+          (z .ensures .0),
       omega (arith, w .ensures .1, x .ensures .1, y .ensures .1, z .ensures .1),
     )
 

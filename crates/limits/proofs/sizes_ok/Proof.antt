@@ -19,7 +19,8 @@ returns-4 : tie.Need-returns-4
 returns-4 c = search (le-leb, lt-leb, needs)
 
 mul-result : tie.Need-mul-result
-mul-result c = let a = c .before .before .before .before .args in omega (arith, mul-le-mul {n₁ = a .m} {m₁ = a .d} {n₂ = 4096} {m₂ = 256} (omega arith) (omega arith))
+mul-result c = let a = c .before .before .before .before .args in
+    omega (arith, mul-le-mul {n₁ = a .m} {m₁ = a .d} {n₂ = 4096} {m₂ = 256} (omega arith) (omega arith))
 
 returns-5 : tie.Need-returns-5
 returns-5 c = search (le-leb, lt-leb, needs)

@@ -1,4 +1,5 @@
--- `limits::work_ok` meets its contract: no product or sum is out of reach, by the limits of m, k and d; the tests are those of the definition. Assumes nothing.
+-- `limits::work_ok` meets its contract: no product or sum is out of reach, by the limits of m, k and d; the tests are those of the
+-- definition. Assumes nothing.
 use Prim.Native.Nat.{_*_, _≤_}
 use native.Mathlib.Nat.{mul-le-mul}
 use native.Mathlib.Omega.{arith}

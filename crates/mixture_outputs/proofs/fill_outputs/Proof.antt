@@ -18,7 +18,8 @@ abbrev leaves-at : tie.After-fill-groups-arg → tie.After-fill-leaves
 leaves-at g = g .before .before .before .before .before
 
 area-at : (p : tie.After-kept-part) → let a = start p .args in Area (length (p .kept-part .result .now)) (a .m) (a .k) (a .d)
-area-at p = let s = start p in let a = s .args in kept-area (a .m) (a .k) (a .d) (a .work .now) (a .r) (s .pre .halves) _ (p .kept-part .ensures)
+area-at p = let s = start p in let a = s .args in kept-area (a .m) (a .k) (a .d) (a .work .now) (a .r) (s .pre .halves) _
+    (p .kept-part .ensures)
 
 fill-leaves-requires : tie.Need-fill-leaves-requires
 fill-leaves-requires c κs = let p = c .before .before in (area-at p, start p .pre .leaves)

@@ -1,4 +1,5 @@
--- `mixture_outputs::outputs_ok` meets its contract: the products are in reach by the limits of m, k and d; the tests are those of the definition. Assumes nothing.
+-- `mixture_outputs::outputs_ok` meets its contract: the products are in reach by the limits of m, k and d; the tests are those of the
+-- definition. Assumes nothing.
 use native.Mathlib.Nat.{mul-le-mul}
 use native.Mathlib.Omega.{arith}
 use borrow.Author.Needs.{needs}

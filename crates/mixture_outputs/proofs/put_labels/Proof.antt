@@ -20,7 +20,8 @@ abbrev μ-loop : tie.MeasureT-loop
 μ-loop labels₀ resp m k i₀ labels i = m - i
 
 -- the row of leaf i, in a turn
-row-of : (c : tie.In-loop Inv-loop μ-loop) → let a = c .before .before .before .before .args in c .before .loop .i * a .k + a .k ≤ a .m * a .k
+row-of : (c : tie.In-loop Inv-loop μ-loop) → let a = c .before .before .before .before .args in
+    c .before .loop .i * a .k + a .k ≤ a .m * a .k
 row-of c = let a = c .before .before .before .before .args in row-within (c .before .loop .i) (a .m) (a .k) (omega arith)
 
 loop-holds : tie.Need-loop-holds Inv-loop μ-loop
@@ -44,7 +45,12 @@ cast-labels c =
     let a = c .before .before .before .before .before .before .args in
     let s = c .before .before .before .before .before .before .pre in
     let at = c .before .before .before .loop .i * a .k in
-    omega (arith, label-below (a .resp .now) at (a .k) (c .argmax .result) (omega (arith, row-of (c .before .before), s .1)) (s .3) (c .argmax .ensures), s .4)
+    omega (
+      arith,
+      label-below (a .resp .now) at (a .k) (c .argmax .result) (omega (arith, row-of (c .before .before), s .1)) (s .3)
+          (c .argmax .ensures),
+      s .4,
+    )
 
 loop-again : tie.Need-loop-again Inv-loop μ-loop
 loop-again c =

@@ -27,8 +27,8 @@ run-beside-requires c κs =
     let f = c .before .before .before .before .before .before in
     let s = start f in
     let a = s .args in
-    runnable-of (length (a .work .now)) _ (length (a .work-u32 .now)) _ (length (a .weights .now)) (length (a .coords .now)) (a .m) (a .k) (a .d)
-    (a .s .rounds) (f .first-runs .kept .0) (f .first-runs .kept .1 .0) (s .pre)
+    runnable-of (length (a .work .now)) _ (length (a .work-u32 .now)) _ (length (a .weights .now)) (length (a .coords .now)) (a .m) (a .k)
+    (a .d) (a .s .rounds) (f .first-runs .kept .0) (f .first-runs .kept .1 .0) (s .pre)
 
 plus-requires : tie.Need-plus-requires
 plus-requires c κs =

@@ -54,8 +54,8 @@ fittable-at : (c : tie.Else1) → let s = start (c .before .before) in let a = s
 fittable-at c =
     let s = start (c .before .before) in
     let a = s .args in
-    admitted (a .weights .now) (a .coords .now) (a .d) (a .k) (a .s) (lengthsOf (found s) (length (a .work .now)) (length (a .work-u32 .now)))
-    (sym (refusal-is (c .before)) ∙ c .if1 .left) .fittable
+    admitted (a .weights .now) (a .coords .now) (a .d) (a .k) (a .s)
+    (lengthsOf (found s) (length (a .work .now)) (length (a .work-u32 .now))) (sym (refusal-is (c .before)) ∙ c .if1 .left) .fittable
 
 refusal-requires : tie.Need-refusal-requires
 refusal-requires c κs =

@@ -1,4 +1,5 @@
--- `spherical::arrays_ok` meets its contract: the product is within reach, by the limits of k and d; the tests are those of the definition. Assumes nothing.
+-- `spherical::arrays_ok` meets its contract: the product is within reach, by the limits of k and d; the tests are those of the definition.
+-- Assumes nothing.
 use native.Mathlib.Nat.{mul-le-mul}
 use native.Mathlib.Omega.{arith}
 use borrow.Author.Needs.{needs}

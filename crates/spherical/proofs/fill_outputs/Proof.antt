@@ -25,13 +25,15 @@ workU32-held : (c : tie.After-held-at2)
     → let a = start c .args in (c .held-at2 .result + (a .m + a .k) ≤ length (a .work-u32 .now)) × (c .held-at2 .result ≤ a .m + a .k)
 workU32-held c =
     let s = start c in
-    held-within (s .args .second) (s .args .m + s .args .k) (length (s .args .work-u32 .now)) _ (s .pre .halves .workU32-long) (c .held-at2 .ensures)
+    held-within (s .args .second) (s .args .m + s .args .k) (length (s .args .work-u32 .now)) _ (s .pre .halves .workU32-long)
+    (c .held-at2 .ensures)
 
 work-from : (c : tie.After-held-at2) → let a = start c .args in c .before .held-at .result ≡ heldAt (a .second) (half (a .m) (a .k) (a .d))
 work-from c = c .before .held-at .ensures ∙ ap (heldAt (start c .args .second)) (half-at c .half .ensures)
 
 work-held : (c : tie.After-held-at2) → let a = start c .args in
-    (c .before .held-at .result + half (a .m) (a .k) (a .d) ≤ length (a .work .now)) × (c .before .held-at .result ≤ half (a .m) (a .k) (a .d))
+    (c .before .held-at .result + half (a .m) (a .k) (a .d) ≤ length (a .work .now))
+    × (c .before .held-at .result ≤ half (a .m) (a .k) (a .d))
 work-held c =
     let s = start c in
     let n = half (s .args .m) (s .args .k) (s .args .d) in
@@ -89,7 +91,8 @@ returns c =
     let marked = h .held-at2 .result in (
       ap (λ (l : List ℕ). l ++ drop (s .m) (s .labels .now))
           (f .copy-u32 .ensures
-          ∙ labels-at (s .m) (s .k) (s .d) (s .work .now) (s .work-u32 .now) a b marked (marked + s .m - marked) (h .held-at2 .ensures) (omega arith)),
+          ∙ labels-at (s .m) (s .k) (s .d) (s .work .now) (s .work-u32 .now) a b marked (marked + s .m - marked) (h .held-at2 .ensures)
+          (omega arith)),
       ap (λ (l : List Float). l ++ drop n (s .directions .now))
           (g .copy .ensures
           ∙ centers-at (s .m) (s .k) (s .d) (s .work .now) (s .work-u32 .now) a b from (from + n - from) (work-from h) (omega arith)),

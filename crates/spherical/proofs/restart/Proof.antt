@@ -67,9 +67,9 @@ returns c =
       run = r .run-at .result;
       beside =
           run-at-of (resultOf (a .weights .now) (a .coords .now) (a .m) (a .k) (a .d) (a .rounds) (a .h .generator)) (a .work .now)
-          (r .run-at .last .0) (a .work-u32 .now) (r .run-at .last .1 .0) (f .before .free-at .result) (freeAt b (half (a .m) (a .k) (a .d)))
-          (f .free-at2 .result) (freeAt b (a .m + a .k)) (a .m) (a .k) (a .d) (r .run-at .result) (work-free f) (f .free-at2 .ensures)
-          (r .run-at .ensures);
+          (r .run-at .last .0) (a .work-u32 .now) (r .run-at .last .1 .0) (f .before .free-at .result)
+          (freeAt b (half (a .m) (a .k) (a .d))) (f .free-at2 .result) (freeAt b (a .m + a .k)) (a .m) (a .k) (a .d) (r .run-at .result)
+          (work-free f) (f .free-at2 .ensures) (r .run-at .ensures);
       kept = ap (λ (x : Held). afterwards x (r .run-at .result .generator)) (c .keep .ensures);
     }
 

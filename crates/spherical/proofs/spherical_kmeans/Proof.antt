@@ -34,8 +34,8 @@ returns : tie.Need-returns
 returns c =
     let r = c .before in
     let a = start r .args in
-    let e = refused (a .labels .now) (a .directions .now) (a .weights .now) (a .coords .now) (a .d) (a .k) (a .rounds) (a .restarts) (a .seed)
-    (length (a .work .now)) (length (a .work-u32 .now)) (r .refusal .result) (r .refusal .ensures) (c .if1 .taken) in (
+    let e = refused (a .labels .now) (a .directions .now) (a .weights .now) (a .coords .now) (a .d) (a .k) (a .rounds) (a .restarts)
+    (a .seed) (length (a .work .now)) (length (a .work-u32 .now)) (r .refusal .result) (r .refusal .ensures) (c .if1 .taken) in (
       e,
       number-is (a .labels .now) (a .directions .now) (a .weights .now) (a .coords .now) (a .d) (a .k) (a .rounds) (a .restarts) (a .seed)
           (length (a .work .now)) (length (a .work-u32 .now)) _ _ _ e,

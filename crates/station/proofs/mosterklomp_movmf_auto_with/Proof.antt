@@ -46,8 +46,9 @@ returns c =
     let o = arrays (x .0) (x .1 .0) (x .1 .1 .0) (x .1 .1 .1 .0) (x .1 .1 .1 .1 .0) (x .1 .1 .1 .1 .1 .0) in
     let lent = chosen 0 (a .groups .now) (a .loglik .now) (a .score .now) (a .counts .now) in (
       chosen-call lent _ (f .result) o
-          (λ (z : Kappa). outcome (found s) (a .weights .now) (a .coords .now) (a .d) (settings s z) (a .k-min) (a .k-max) (length (a .work .now))
-          (length (a .work-u32 .now))) (q .kappa-of .result) (kappaOf (a .shared)) (q .kappa-of .ensures) (f .ensures .0) (c .give-chosen .ensures),
+          (λ (z : Kappa). outcome (found s) (a .weights .now) (a .coords .now) (a .d) (settings s z) (a .k-min) (a .k-max)
+          (length (a .work .now)) (length (a .work-u32 .now))) (q .kappa-of .result) (kappaOf (a .shared)) (q .kappa-of .ensures)
+          (f .ensures .0) (c .give-chosen .ensures),
       given-best
           (λ (z : Kappa) (n : Numbers). KeepsBest (found s) (a .weights .now) (a .coords .now) (a .d) (settings s z) (a .k-min) (a .k-max)
           (length (a .work .now)) (length (a .work-u32 .now)) n o) lent _ (f .result) (q .kappa-of .result) (kappaOf (a .shared))

@@ -33,9 +33,10 @@ returns c =
     fitted-call (fitted 0 (a .groups .now) (a .loglik .now) (a .counts .now)) _ (f .result)
     (arrays (x .0) (x .1 .0) (x .1 .1 .0) (x .1 .1 .1 .0) (x .1 .1 .1 .1 .0) (x .1 .1 .1 .1 .1 .0))
     (λ (z : Kappa). outcome
-    (arrays (a .labels .now) (a .responsibilities .now) (a .group-weights .now) (a .directions .now) (a .concentrations .now) (a .logw .now))
-    (a .weights .now) (a .coords .now) (a .d) (a .k) (record { rounds = a .rounds; seed = a .seed; kappa = z }) (length (a .work .now))
-    (length (a .work-u32 .now))) (q .kappa-of .result) (kappaOf (a .shared)) (q .kappa-of .ensures) (f .ensures .0) (c .give-fitted .ensures)
+    (arrays (a .labels .now) (a .responsibilities .now) (a .group-weights .now) (a .directions .now) (a .concentrations .now)
+    (a .logw .now)) (a .weights .now) (a .coords .now) (a .d) (a .k) (record { rounds = a .rounds; seed = a .seed; kappa = z })
+    (length (a .work .now)) (length (a .work-u32 .now))) (q .kappa-of .result) (kappaOf (a .shared)) (q .kappa-of .ensures) (f .ensures .0)
+    (c .give-fitted .ensures)
 
 pub mosterklomp-movmf-with-spec : {M : Type 1} → statement M
 mosterklomp-movmf-with-spec =

@@ -50,8 +50,12 @@ label-of c = start (filled c) .pre .1 (c .before .loop .i) (omega arith)
 
 loop-holds : tie.Need-loop-holds Inv-loop μ-loop
 loop-holds c =
-    let a = start (c .before .before) .args in
-    (search needs, refl, totals-start (a .m) (a .k) (a .d) _ (a .weights .now) (a .work-u32 .now) (a .work .now) (cleared (c .before .before)))
+    let a = start (c .before .before) .args in (
+      search needs,
+      refl,
+      totals-start (a .m) (a .k) (a .d) _ (a .weights .now) (a .work-u32 .now) (a .work .now)
+          (cleared (c .before .before)),
+    )
 
 cast-at : tie.Need-cast-at Inv-loop μ-loop
 cast-at c = search (label-of (c .before), needs)
