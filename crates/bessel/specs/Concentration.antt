@@ -1,5 +1,5 @@
--- Document 01, 'Concentration and normalizer': the cap and the estimate of a concentration (Banerjee et al. 2005), in vmf.rs's order of operations.
--- Definitions, and the record of what `estimate_kappa` promises.
+-- Document 01, 'Concentration and normalizer': the cap and the estimate of a concentration (Banerjee et al. 2005), in
+-- vmf.rs's order of operations. Definitions, and the record of what `estimate_kappa` promises.
 use mathlib.Core.Path.{_≡_}
 use mathlib.Core.Bool.{not, cond}
 use Prim.Native.Nat.{ℕ, _≤_}

@@ -31,7 +31,8 @@ termsOf nu w =
     let p = div binary64 (number 1) w in
     let p2 = mul binary64 p p in
     let p3 = mul binary64 (mul binary64 p p) p in
-    add binary64 (add binary64 (number 1) (div binary64 (u1Of p p3) nu)) (div binary64 (u2Of p2 p3) (mul binary64 nu nu))
+    add binary64 (add binary64 (number 1) (div binary64 (u1Of p p3) nu))
+    (div binary64 (u2Of p2 p3) (mul binary64 nu nu))
 
 -- at z = kappa/nu and w = √(1 + z·z): nu·eta − 0.5·ln(TAU·nu) − 0.5·ln w + ln(terms), eta = w + ln(z/(1 + w))
 abbrev pub asymptoticAt : Float → Float → Float → Float
@@ -70,7 +71,8 @@ withTerm s logA =
 
 -- past the peak (m > kappa·0.5) and a negligible tail, or m > 200000
 abbrev pub endsAt : Float → Float → Float → Float → Bool
-endsAt kappa m peak logA = (lt (mul binary64 kappa half) m && lt logA (sub binary64 peak (number 40))) || lt (number 200000) m
+endsAt kappa m peak logA =
+    (lt (mul binary64 kappa half) m && lt logA (sub binary64 peak (number 40))) || lt (number 200000) m
 
 abbrev pub orGoOn : Bool → PeakSum → PeakSum → PeakSum
 orGoOn true s t = s
@@ -86,7 +88,8 @@ seriesFrom (suc n) nu kappa halfLn logA s m =
 
 -- from log a_0: the peak is log a_0 and the sum 1; m = 200001 is the last turn
 abbrev pub peakSumOf : Float → Float → Float → Float → PeakSum
-peakSumOf nu kappa halfLn first = seriesFrom 200001 nu kappa halfLn first (record { peak = first; sum = number 1 }) (number 1)
+peakSumOf nu kappa halfLn first =
+    seriesFrom 200001 nu kappa halfLn first (record { peak = first; sum = number 1 }) (number 1)
 
 -- nu·halfLn + peak + ln sum
 abbrev pub seriesAt : Float → Float → PeakSum → Float

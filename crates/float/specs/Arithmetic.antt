@@ -1,5 +1,6 @@
--- Document 01, 'Arithmetic under the Rust': constants, sums, maximum, clamp and absolute value of f64, over the kit's IEEE 754 (`lib.Ieee`).
--- Definitions only. An f64 is a `Float` that `binary64` holds; there is one `nan`, so all NaN are one.
+-- Document 01, 'Arithmetic under the Rust': constants, sums, maximum, clamp and absolute value of f64, over the kit's
+-- IEEE 754 (`lib.Ieee`). Definitions only. An f64 is a `Float` that `binary64` holds; there is one `nan`, so all NaN
+-- are one.
 use Prim.Native.Nat.{ℕ}
 use mathlib.Core.Bool.{false, true, cond}
 use lib.IntN.{pos}
@@ -21,7 +22,8 @@ plusZero = fin false 0 (pos 0)
 abbrev pub minusZero : Float
 minusZero = fin true 0 (pos 0)
 
--- An accumulator that starts at s, with each in turn added, rounded one by one: Rust's `sum` is `sumFrom minusZero`, an adding fold `sumFrom plusZero`.
+-- An accumulator that starts at s, with each in turn added, rounded one by one: Rust's `sum` is `sumFrom minusZero`, an
+-- adding fold `sumFrom plusZero`.
 abbrev pub sumFrom : Float → List Float → Float
 sumFrom s [] = s
 sumFrom s (x ∷ xs) = sumFrom (add binary64 s x) xs
@@ -32,7 +34,8 @@ dotFrom s [] ys = s
 dotFrom s (x ∷ xs) [] = s
 dotFrom s (x ∷ xs) (y ∷ ys) = dotFrom (add binary64 s (mul binary64 x y)) xs ys
 
--- The greater of two. With one NaN it is the other operand, and of two that compare equal the first (so a zero keeps the first one's sign).
+-- The greater of two. With one NaN it is the other operand, and of two that compare equal the first (so a zero keeps
+-- the first one's sign).
 unfoldable pub maxOf : Float → Float → Float
 maxOf x y = cond (isNan x) y (cond (lt x y) y x)
 

@@ -1,5 +1,6 @@
-// f64 arithmetic as document 01 has it ('Arithmetic under the Rust'): maximum, clamp, absolute value, bit patterns, and a positive number taken apart and put
-// together. Every function but the last three is total: it takes any f64, NaN, infinities, zeros and subnormals included.
+// f64 arithmetic as document 01 has it ('Arithmetic under the Rust'): maximum, clamp, absolute value, bit patterns, and
+// a positive number taken apart and put together. Every function but the last three is total: it takes any f64, NaN,
+// infinities, zeros and subnormals included.
 ghost use mathlib.Core.Path.{_≡_};
 ghost use Prim.Native.Nat.{_^_, _<_, _≤_};
 ghost use lib.Dec.{T};

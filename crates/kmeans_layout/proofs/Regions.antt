@@ -262,10 +262,6 @@ module _ (m k d : ℕ) (w : List Float) (u : List ℕ) where
   unfolding stateIn
   length-served g = cut-length (lengths m k d) w 5 (omega arith)
 
-  pub length-drift : total m k d ≤ length w → length (stateIn m k d w u .drift) ≡ k
-  unfolding stateIn
-  length-drift g = cut-length (lengths m k d) w 6 (omega arith)
-
 -- the sums
 module _ (m k d : ℕ) (w : List Float) where
   in-sums : {a b : List (List Float)} → a ≡ b → _≡_ {A = List Float} (getD a 1 []) (getD b 1 [])

@@ -1,7 +1,8 @@
 // The limits that the entries share (document 01, 'Leaves, settings, fit' and 'Refusals by call').
 ghost use mathlib.Core.Path.{_≡_};
 ghost use Prim.Native.Nat.{_≤_};
-ghost use Rattle.limits.specs.Limits.{within, weightOk, coordinateOk, every, leavesRefusal, sizesOk, groupsOk, workOk};
+ghost use Rattle.limits.specs.Limits.{within, weightOk, coordinateOk, every, leavesRefusal};
+ghost use Rattle.limits.specs.Limits.{sizesOk, groupsOk, workOk};
 
 // x from low to high.
 fn is_within(x: f64, low: f64, high: f64) -> bool

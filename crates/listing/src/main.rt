@@ -1,4 +1,5 @@
-// The listing program (document 01, 'Leaf file and listing program'): reads a leaf file from standard input and prints which shop is in which group.
+// The listing program (document 01, 'Leaf file and listing program'): reads a leaf file from standard input and prints
+// which shop is in which group.
 fn main() {
     // One byte more than the longest leaf file: what is longer still is refused alike.
     let mut bytes = [0u8; 8713];

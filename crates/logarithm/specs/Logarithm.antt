@@ -27,7 +27,8 @@ unfolding lnFrom
 lnAt e f =
     let s = div binary64 (sub binary64 f (number 1)) (add binary64 f (number 1)) in
     let p = lnFrom 10 (mul binary64 s s) (div binary64 (number 1) (number 21)) in
-    add binary64 (mul binary64 e partH) (add binary64 (mul binary64 (mul binary64 (number 2) s) p) (mul binary64 e partT))
+    add binary64 (mul binary64 e partH)
+    (add binary64 (mul binary64 (mul binary64 (number 2) s) p) (mul binary64 e partT))
 
 -- f is halved and e raised by 1 where f > 1.4142135623730951
 unfoldable pub lnBy : ℤ → Float → Float

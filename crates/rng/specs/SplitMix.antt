@@ -1,5 +1,5 @@
--- Document 01, 'SplitMix64': the published generator over whole numbers, its fraction, and the seeds of the restarts. Definitions only.
--- Everything here computes on numerals.
+-- Document 01, 'SplitMix64': the published generator over whole numbers, its fraction, and the seeds of the restarts.
+-- Definitions only. Everything here computes on numerals.
 use Prim.Native.Nat.{ℕ, zero, suc, _+_, _*_, _/_, _%_, _^_}
 use lib.IntN.{pos}
 use lib.Ieee.{Float, binary64, div, ofInt}

@@ -1,6 +1,6 @@
-// SplitMix64 (rng.rs; document 01, 'SplitMix64'). A draw is made by value: a state goes in, and the moved state comes back
-// with what was drawn. The generator is lent, and its state moves on in place, by thin functions over such a draw. The
-// product modulo 2^64 is made of 32-bit halves, and gives the restarts' seeds too.
+// SplitMix64 (rng.rs; document 01, 'SplitMix64'). A draw is made by value: a state goes in, and the moved state comes
+// back with what was drawn. The generator is lent, and its state moves on in place, by thin functions over such a draw.
+// The product modulo 2^64 is made of 32-bit halves, and gives the restarts' seeds too.
 ghost use mathlib.Core.Path.{_≡_};
 ghost use Prim.Native.Nat.{_*_, _%_, _^_};
 ghost use Rattle.rng.specs.SplitMix.{stepOf, mixOf, unitOf, restartSeedOf};

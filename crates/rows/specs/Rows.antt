@@ -1,5 +1,5 @@
--- Flat arrays: parts, rows and regions of a list. Document 01, 'From generics and vectors to lent slices': vectors of vectors become flat arrays with a row
--- length. Definitions only.
+-- Flat arrays: parts, rows and regions of a list. Document 01, 'From generics and vectors to lent slices': vectors of
+-- vectors become flat arrays with a row length. Definitions only.
 use mathlib.Core.Path.{_≡_}
 use mathlib.Core.List.{List, [], _∷_, _++_}
 use Prim.Native.Nat.{ℕ, zero, suc, _+_, _*_, _≤_}

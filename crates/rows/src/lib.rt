@@ -1,5 +1,5 @@
-// Flat arrays and their rows (document 01, 'From generics and vectors to lent slices'): parts that are filled and copied. Vectors of vectors are flat arrays with a row
-// length; a row is lent as a part.
+// Flat arrays and their rows (document 01, 'From generics and vectors to lent slices'): parts that are filled and
+// copied. Vectors of vectors are flat arrays with a row length; a row is lent as a part.
 ghost use mathlib.Core.Path.{_≡_};
 ghost use lib.ListN.{length, replicate};
 ghost use Rattle.rows.specs.Rows.{Alike, Apart, part, putPart};

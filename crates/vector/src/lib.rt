@@ -1,4 +1,5 @@
-// The helpers that vmf.rs shares among its methods, on lent slices of f64: dot, norm, unit, sums, and rows that are divided, scaled and added.
+// The helpers that vmf.rs shares among its methods, on lent slices of f64: dot, norm, unit, sums, and rows that are
+// divided, scaled and added.
 ghost use mathlib.Core.Path.{_≡_};
 ghost use Prim.Native.Nat.{min};
 ghost use Rattle.float.specs.Arithmetic.{minusZero, plusZero, sumFrom};
