@@ -1,5 +1,5 @@
--- What 1 ≤ m ≤ 4,096, 1 ≤ k ≤ 64 and 1 ≤ d ≤ 256 give: m leaves of d coordinates in k groups. Every record of what a
--- function asks of its sizes holds this one. No definition of document 01 stands on this file.
+-- What 1 ≤ m ≤ 4,096, 1 ≤ k ≤ 64 and 1 ≤ d ≤ 256 give: m leaves of d coordinates in k groups. The records of what the
+-- functions of a run ask of their sizes hold this one. No definition of document 01 stands on this file.
 use Prim.Native.Nat.{ℕ, _*_, _≤_, _<_}
 use Rattle.limits.specs.Limits.{mostLeaves, mostCoordinates, mostGroups}
 

@@ -20,9 +20,9 @@ start p = p .before .before .before
 returns : tie.Need-returns
 returns c =
     let put = put-byte-at c in
-    let putdecimal = put-decimal-at put in
-    let a = start putdecimal .args in
-    let i = putdecimal .put-decimal in
+    let number = put-decimal-at put in
+    let a = start number .args in
+    let i = number .put-decimal in
     let s = put .put-byte in
     let n = c .before .before .before .before .before .before .put-decimal2 in
     let e = c .before .before .put-byte2 in (

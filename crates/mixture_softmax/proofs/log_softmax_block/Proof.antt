@@ -48,12 +48,12 @@ returns : tie.Need-returns
 returns c =
     let less = less-log-sums-at c in
     let exp = exp-front-at less in
-    let lessgreatests = less-greatests-at exp in
-    let st = start lessgreatests in
+    let greatest = less-greatests-at exp in
+    let st = start greatest in
     let a = st .args in
     let p = st .pre in
     let m = length (a .weights .now) in
-    let g = lessgreatests .less-greatests in
+    let g = greatest .less-greatests in
     let x = exp .exp-front in
     let s = less .less-log-sums in
     let y = c .before .before .before .before .before .before .exp-front2 in (
