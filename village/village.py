@@ -1,13 +1,23 @@
 #!/usr/bin/env python3
-"""Makes the sample village, a table of shops for village/leaf_file.py:
+"""Makes a sample village, a table of shops for village/leaf_file.py:
 
     python3 village/village.py > village/shops.csv
+    python3 village/village.py equal > village/equal.csv
+    python3 village/village.py nearer > village/nearer.csv
 
-Twenty shops in three quarters that sell six product lines (bread, milk, fruit, wine, bait, garden). A line of the table is one shop: its
-baskets of the season, then its sales direction, the share of each product line with the squares adding up to 1. The shops of a quarter have
-that quarter's mean shares, each share moved up or down by at most a fifth. The last shop, a kiosk between the harbour and the hill, lies
-halfway between two quarters. The random numbers are SplitMix64's from seed 7, so the table is the same wherever it is made.
+A line of a table is one shop: its baskets of the season, then its sales direction.
+
+Without a word: twenty shops in three quarters that sell six product lines (bread, milk, fruit, wine, bait, garden),
+the share of each with the squares adding up to 1. The shops of a quarter have that quarter's mean shares, each share
+moved up or down by at most a fifth. The last shop, a kiosk between the harbour and the hill, lies halfway between two
+quarters. The random numbers are SplitMix64's from seed 7, so the table is the same wherever it is made.
+
+`equal`: ten shops that sell mostly bread and ten that sell mostly wine, each the mirror of another, and a new shop of
+one basket that sells as much of both: it is equally like two groups, to the last bit. `nearer`: the same village, and
+the new shop's wine one bit more.
 """
+
+import sys
 
 LINES = ["bread", "milk", "fruit", "wine", "bait", "garden"]
 QUARTERS = [
@@ -43,7 +53,23 @@ def shops():
     yield 60, direction([a + b for a, b in zip(harbour, hill)])
 
 
-if __name__ == "__main__":
-    print("# baskets, " + ", ".join(LINES))
+def table():
+    yield "# baskets, " + ", ".join(LINES)
     for baskets, shares in shops():
-        print(", ".join([str(baskets)] + ["%.4f" % x for x in shares]))
+        yield ", ".join([str(baskets)] + ["%.4f" % x for x in shares])
+
+
+def mirrored(wine):
+    yield "# baskets, bread, wine"
+    for i in range(10):
+        less = [0.0, 0.125, 0.25][i % 3]
+        yield "1000, 1.0, %s" % less
+        yield "1000, %s, 1.0" % less
+    yield "1, 0.7, %s" % wine
+
+
+TABLES = {"shops": table, "equal": lambda: mirrored("0.7"), "nearer": lambda: mirrored("0.7000000000000001")}
+
+if __name__ == "__main__":
+    for line in TABLES[sys.argv[1] if len(sys.argv) > 1 else "shops"]():
+        print(line)

@@ -22,7 +22,8 @@ pub struct Call {
     pub rounds: usize,
     pub restarts: usize,
     pub seed: u64,
-    pub shared: bool,
+    // the kind as it crosses the border: 0 Free, 1 Shared, any other none
+    pub kappa: u32,
     pub lent: Lent,
 }
 
@@ -104,8 +105,8 @@ pub fn large(fit: Fit, g: &mut SplitMix64) -> Call {
 #[allow(clippy::too_many_arguments)]
 fn call(fit: Fit, sort: usize, m: usize, d: usize, k_min: usize, k: usize, rounds: usize, restarts: usize, faults: usize, g: &mut SplitMix64) -> Call {
     let flat = flat(&set_of(sort, m, d, g.next_u64()));
-    let (seed, shared) = (g.next_u64(), below(g, 2) == 0);
-    let mut c = Call { fit, sort, flat, d, k_min, k, rounds, restarts, seed, shared, lent: Lent::new(0, 0, 0) };
+    let (seed, kappa) = (g.next_u64(), (below(g, 2) == 0) as u32);
+    let mut c = Call { fit, sort, flat, d, k_min, k, rounds, restarts, seed, kappa, lent: Lent::new(0, 0, 0) };
     c.lent = Lent::new(m, d, c.most());
     lengthen(&mut c.lent, g);
     for _ in 0..faults {
@@ -144,6 +145,7 @@ fn spoil(c: &mut Call, g: &mut SplitMix64) {
         0 => spoil_sizes(c, any, far, g),
         1 => spoil_groups(c, any, far),
         2 if c.fit == Fit::Spherical && any < 3 => c.restarts = [65, 64, far][any],
+        2 if c.fit != Fit::Spherical && any == 6 => c.kappa = [2, 3, 13, 256, u32::MAX][below(g, 5)],
         2 => c.rounds = [10001, 10001, 10002, 20000, far, far, 1 << 16][any],
         3 => shorten(c, g),
         4 => put(&mut c.flat.weights, [f64::NAN, -1.0, f64::INFINITY, 1099511627776.0002, -5e-324, f64::NEG_INFINITY, -0.0][any], g),

@@ -6,8 +6,11 @@ use oracle::vmf::{self, Kappa, Movmf};
 use oracle::{counts, document};
 use std::panic::{catch_unwind, AssertUnwindSafe};
 
-// Document 01, 'Refusals by call', but for 7.
+// Document 01, 'Refusals by call', but for 7; before them 13, for a kind of Kappa that is none.
 pub fn refusal(c: &Call) -> u32 {
+    if c.fit != Fit::Spherical && c.kappa > 1 {
+        return 13;
+    }
     let (m, n) = (c.flat.weights.len(), c.flat.coords.len());
     if m < 1 || m > 4096 || c.d < 1 || c.d > 256 || n != m * c.d {
         return 1;
@@ -43,7 +46,7 @@ pub fn answer(c: &Call, l: &mut Lent) -> u32 {
         return code;
     }
     let set: Vec<Leaf> = c.flat.weights.iter().zip(c.flat.coords.chunks(c.d)).map(|(&weight, row)| Leaf { mean: row.to_vec(), weight }).collect();
-    let kappa = if c.shared { Kappa::Shared } else { Kappa::Free };
+    let kappa = if c.kappa == 1 { Kappa::Shared } else { Kappa::Free };
     counts::take();
     match c.fit {
         Fit::Spherical => {
@@ -83,7 +86,7 @@ fn counted(l: &mut Lent) {
 // −2·loglik + p·ln(total weight), which the original does not return.
 fn score(c: &Call, r: &Movmf<f64>) -> f64 {
     let k = r.weights.len();
-    let p = if c.shared { k * c.d } else { k * c.d + k - 1 };
+    let p = if c.kappa == 1 { k * c.d } else { k * c.d + k - 1 };
     -2.0 * r.loglik + p as f64 * document::ln(c.flat.weights.iter().sum())
 }
 
@@ -94,7 +97,7 @@ fn fitted(r: &Movmf<f64>, l: &mut Lent) {
     write(&mut l.directions, &r.means.concat());
     write(&mut l.concentrations, &r.kappas);
     write(&mut l.logw, &r.mixture.logw);
-    (l.groups, l.loglik) = (r.weights.len() as u64, r.loglik);
+    (l.groups, l.loglik) = (r.weights.len(), r.loglik);
 }
 
 fn labels(found: &[usize], l: &mut Lent) {

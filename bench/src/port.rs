@@ -11,16 +11,16 @@ mod c {
             cohesion: *mut f64, counts: *mut u64,
         ) -> u32;
         pub fn mosterklomp_movmf_with(
-            weights: *const f64, m: usize, coords: *const f64, n: usize, d: usize, k: usize, rounds: usize, seed: u64, shared: bool,
+            weights: *const f64, m: usize, coords: *const f64, n: usize, d: usize, k: usize, rounds: usize, seed: u64, kappa: u32, fixed: f64,
             labels: *mut u32, labels_len: usize, responsibilities: *mut f64, responsibilities_len: usize, group_weights: *mut f64, group_weights_len: usize,
             directions: *mut f64, directions_len: usize, concentrations: *mut f64, concentrations_len: usize, logw: *mut f64, logw_len: usize,
-            work: *mut f64, work_len: usize, work_u32: *mut u32, work_u32_len: usize, groups: *mut u64, loglik: *mut f64, counts: *mut u64,
+            work: *mut f64, work_len: usize, work_u32: *mut u32, work_u32_len: usize, groups: *mut usize, loglik: *mut f64, counts: *mut u64,
         ) -> u32;
         pub fn mosterklomp_movmf_auto_with(
-            weights: *const f64, m: usize, coords: *const f64, n: usize, d: usize, k_min: usize, k_max: usize, rounds: usize, seed: u64, shared: bool,
+            weights: *const f64, m: usize, coords: *const f64, n: usize, d: usize, k_min: usize, k_max: usize, rounds: usize, seed: u64, kappa: u32, fixed: f64,
             labels: *mut u32, labels_len: usize, responsibilities: *mut f64, responsibilities_len: usize, group_weights: *mut f64, group_weights_len: usize,
             directions: *mut f64, directions_len: usize, concentrations: *mut f64, concentrations_len: usize, logw: *mut f64, logw_len: usize,
-            work: *mut f64, work_len: usize, work_u32: *mut u32, work_u32_len: usize, groups: *mut u64, loglik: *mut f64, score: *mut f64, counts: *mut u64,
+            work: *mut f64, work_len: usize, work_u32: *mut u32, work_u32_len: usize, groups: *mut usize, loglik: *mut f64, score: *mut f64, counts: *mut u64,
         ) -> u32;
     }
 }
@@ -43,7 +43,7 @@ pub struct Lent {
     pub logw: Vec<f64>,
     pub work: Vec<f64>,
     pub work_u32: Vec<u32>,
-    pub groups: u64,
+    pub groups: usize,
     pub cohesion: f64,
     pub loglik: f64,
     pub score: f64,
@@ -81,10 +81,10 @@ impl Lent {
         }
     }
 
-    pub fn movmf_with(&mut self, f: &Flat, d: usize, k: usize, rounds: usize, seed: u64, shared: bool) -> u32 {
+    pub fn movmf_with(&mut self, f: &Flat, d: usize, k: usize, rounds: usize, seed: u64, kappa: u32) -> u32 {
         unsafe {
             c::mosterklomp_movmf_with(
-                f.weights.as_ptr(), f.weights.len(), f.coords.as_ptr(), f.coords.len(), d, k, rounds, seed, shared,
+                f.weights.as_ptr(), f.weights.len(), f.coords.as_ptr(), f.coords.len(), d, k, rounds, seed, kappa, 0.0,
                 self.labels.as_mut_ptr(), self.labels.len(), self.responsibilities.as_mut_ptr(), self.responsibilities.len(),
                 self.weights.as_mut_ptr(), self.weights.len(), self.directions.as_mut_ptr(), self.directions.len(),
                 self.concentrations.as_mut_ptr(), self.concentrations.len(), self.logw.as_mut_ptr(), self.logw.len(),
@@ -94,10 +94,10 @@ impl Lent {
     }
 
     #[allow(clippy::too_many_arguments)]
-    pub fn movmf_auto_with(&mut self, f: &Flat, d: usize, k_min: usize, k_max: usize, rounds: usize, seed: u64, shared: bool) -> u32 {
+    pub fn movmf_auto_with(&mut self, f: &Flat, d: usize, k_min: usize, k_max: usize, rounds: usize, seed: u64, kappa: u32) -> u32 {
         unsafe {
             c::mosterklomp_movmf_auto_with(
-                f.weights.as_ptr(), f.weights.len(), f.coords.as_ptr(), f.coords.len(), d, k_min, k_max, rounds, seed, shared,
+                f.weights.as_ptr(), f.weights.len(), f.coords.as_ptr(), f.coords.len(), d, k_min, k_max, rounds, seed, kappa, 0.0,
                 self.labels.as_mut_ptr(), self.labels.len(), self.responsibilities.as_mut_ptr(), self.responsibilities.len(),
                 self.weights.as_mut_ptr(), self.weights.len(), self.directions.as_mut_ptr(), self.directions.len(),
                 self.concentrations.as_mut_ptr(), self.concentrations.len(), self.logw.as_mut_ptr(), self.logw.len(),

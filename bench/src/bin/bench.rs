@@ -62,8 +62,8 @@ fn port(r: &Row, f: &Flat, lent: &mut Lent) -> f64 {
     let start = seconds();
     let code = match r.fit {
         Fit::Spherical => lent.spherical_kmeans(black_box(f), r.d, r.k, r.rounds, 1, SEED),
-        Fit::Mixture => lent.movmf_with(black_box(f), r.d, r.k, r.rounds, SEED, r.shared),
-        Fit::Auto => lent.movmf_auto_with(black_box(f), r.d, r.k_min, r.k, r.rounds, SEED, r.shared),
+        Fit::Mixture => lent.movmf_with(black_box(f), r.d, r.k, r.rounds, SEED, r.shared as u32),
+        Fit::Auto => lent.movmf_auto_with(black_box(f), r.d, r.k_min, r.k, r.rounds, SEED, r.shared as u32),
     };
     let time = seconds() - start;
     assert_eq!(code, 0);

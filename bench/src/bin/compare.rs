@@ -11,7 +11,7 @@ use oracle::rng::SplitMix64;
 // 2^-1022, and how many numbers were compared.
 struct Seen {
     sorts: [u64; NAMES.len()],
-    answers: [u64; 8],
+    answers: [u64; 14],
     small_shares: u64,
     numbers: u64,
 }
@@ -20,8 +20,8 @@ fn run(c: &Call) -> (u32, Lent) {
     let mut l = c.lent.clone();
     let code = match c.fit {
         Fit::Spherical => l.spherical_kmeans(&c.flat, c.d, c.k, c.rounds, c.restarts, c.seed),
-        Fit::Mixture => l.movmf_with(&c.flat, c.d, c.k, c.rounds, c.seed, c.shared),
-        Fit::Auto => l.movmf_auto_with(&c.flat, c.d, c.k_min, c.k, c.rounds, c.seed, c.shared),
+        Fit::Mixture => l.movmf_with(&c.flat, c.d, c.k, c.rounds, c.seed, c.kappa),
+        Fit::Auto => l.movmf_auto_with(&c.flat, c.d, c.k_min, c.k, c.rounds, c.seed, c.kappa),
     };
     (code, l)
 }
@@ -31,7 +31,7 @@ fn numbers(code: u32, l: &Lent) -> Vec<(&'static str, Vec<u64>)> {
     let floats = |v: &[f64]| v.iter().map(|&x| bits(x)).collect();
     vec![
         ("refusal", vec![code as u64]),
-        ("groups", vec![l.groups]),
+        ("groups", vec![l.groups as u64]),
         ("cohesion", vec![bits(l.cohesion)]),
         ("loglik", vec![bits(l.loglik)]),
         ("score", vec![bits(l.score)]),
@@ -49,11 +49,11 @@ fn numbers(code: u32, l: &Lent) -> Vec<(&'static str, Vec<u64>)> {
 fn show(c: &Call) {
     let words = |v: &[f64]| v.iter().map(|x| format!("{:016x}", x.to_bits())).collect::<Vec<_>>().join(" ");
     println!("{:?}, leaves: {}", c.fit, NAMES[c.sort]);
-    println!("m {} d {} k_min {} k {} rounds {} restarts {} seed {} shared {}", c.flat.weights.len(), c.d, c.k_min, c.k, c.rounds, c.restarts, c.seed, c.shared);
+    println!("m {} d {} k_min {} k {} rounds {} restarts {} seed {} kappa {}", c.flat.weights.len(), c.d, c.k_min, c.k, c.rounds, c.restarts, c.seed, c.kappa);
     let l = &c.lent;
     println!(
-        "lengths: labels {} responsibilities {} weights {} directions {} concentrations {} logw {} work {} marks {}",
-        l.labels.len(), l.responsibilities.len(), l.weights.len(), l.directions.len(), l.concentrations.len(), l.logw.len(), l.work.len(), l.marks.len()
+        "lengths: labels {} responsibilities {} weights {} directions {} concentrations {} logw {} work {} work_u32 {}",
+        l.labels.len(), l.responsibilities.len(), l.weights.len(), l.directions.len(), l.concentrations.len(), l.logw.len(), l.work.len(), l.work_u32.len()
     );
     println!("weights {}\ncoordinates {}", words(&c.flat.weights), words(&c.flat.coords));
 }
@@ -80,7 +80,7 @@ fn compare(c: &Call, at: u64, seen: &mut Seen) {
 }
 
 fn kind(name: &str, make: fn(Fit, &mut SplitMix64) -> Call, fit: Fit, count: u64, seed: u64) {
-    let mut seen = Seen { sorts: [0; NAMES.len()], answers: [0; 8], small_shares: 0, numbers: 0 };
+    let mut seen = Seen { sorts: [0; NAMES.len()], answers: [0; 14], small_shares: 0, numbers: 0 };
     let mut g = SplitMix64::new(seed);
     for at in 0..count {
         compare(&make(fit, &mut g), at, &mut seen);
@@ -88,7 +88,7 @@ fn kind(name: &str, make: fn(Fit, &mut SplitMix64) -> Call, fit: Fit, count: u64
     println!("{name}: {count} calls agree, {} numbers", seen.numbers);
     let sorts: Vec<String> = NAMES.iter().zip(seen.sorts).map(|(n, s)| format!("{n} {s}")).collect();
     println!("  leaves: {}", sorts.join("; "));
-    let answers: Vec<String> = (0..8).map(|i| format!("{i}: {}", seen.answers[i])).collect();
+    let answers = [0, 1, 2, 3, 4, 5, 6, 7, 13].map(|i: usize| format!("{i}: {}", seen.answers[i]));
     println!("  refusals (0 for none): {}", answers.join(", "));
     if fit != Fit::Spherical {
         println!("  with a responsibility above 0 and below 2^-1022: {}", seen.small_shares);

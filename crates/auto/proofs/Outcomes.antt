@@ -14,16 +14,19 @@ use Rattle.limits.specs.Limits.{mostGroups}
 use Rattle.mixture_kappa.specs.declared.Settings.{Settings}
 use Rattle.mixture_outputs.specs.Outputs.{Outputs, lengthsOf}
 use Rattle.mixture_outputs.specs.declared.Lengths.{Lengths}
+use Rattle.mixture_restarts.proofs.Lengths.{fit-resp}
+use Rattle.mixture_outputs.specs.Labels.{LabelsFirst}
 use Rattle.mixture_outputs.proofs.Refusals.{Ready, ready}
+use Rattle.mixture_outputs.proofs.Labels.{written-first}
 use Rattle.auto_choice.specs.Choice.{highest, lowest}
 use Rattle.auto_choice.specs.declared.Choice.{Choice}
 use Rattle.auto_choice.specs.declared.Choice.the-variants.{Number, Nothing}
-use Rattle.auto_tries.specs.Lone.{chosenOf, countsOf}
+use Rattle.auto_tries.specs.Lone.{lone, chosenOf, countsOf}
 use Rattle.auto_tries.specs.Tries.{loglikBy, Fitted}
 use Rattle.auto_tries.specs.declared.Tally.{Tally}
 use Rattle.auto.specs.Refusals.{refusalOf}
 use Rattle.auto.specs.Outcome.{Outcome, answerBy, ended, outcomeIn, outcome}
-use Rattle.auto.specs.Answers.{numbersOf}
+use Rattle.auto.specs.Answers.{Numbers, numbersOf, AnswerLabelsFirst}
 use Rattle.auto.specs.Best.{Best, AnswerKeepsBest}
 use Rattle.auto.specs.Tallied.{answerOf}
 use Rattle.auto.specs.declared.Chosen.{Chosen}
@@ -75,6 +78,9 @@ module _ (o : Outputs) (weights coords : List Float) (d kMin kMax : ℕ) (s : Se
   refused-best h found z =
       absurd (h (ec ∙ ap (λ (n : ℕ). refusalOf weights coords d n s (lengthsOf o work workU32)) eh ∙ z))
 
+  pub refused-first : (code ≡ 0 → ⊥) → AnswerLabelsFirst (length weights) (Refused code) o
+  refused-first h found z = absurd (h z)
+
   module _ (t : Tally) (r : Chosen) (o' : Outputs) (fit : Fitted weights coords d s o lo (hi + 1 - lo) t o') (er : r ≡ answerOf t) where
     done-in : _≡_ {A = Outcome} (record { answer = r; outputs = o' }) (ended o weights coords d s lo hi)
     done-in =
@@ -94,10 +100,21 @@ module _ (o : Outputs) (weights coords : List Float) (d kMin kMax : ℕ) (s : Se
         f ∙ in-range
 
     -- what holds of the best of the range holds of the call's own answer
+    best-in : (found : Numbers) → Best weights coords d s lo hi (numbersOf found r) o o'
+    best-in found =
+        subst (λ (x : Outcome). Best weights coords d s lo hi (numbersOf found (x .answer)) o (x .outputs)) (sym done-in)
+        (ended-best o weights coords d s lo hi (lowest-most kMin hi lo el) found)
+
     pub done-best : AnswerKeepsBest o weights coords d s kMin kMax work workU32 r o'
-    done-best found z =
-        let order = lowest-most kMin hi lo el in
-        let b = ended-best o weights coords d s lo hi order found in
-        let c : Best weights coords d s lo hi (numbersOf found r) o o' =
-        subst (λ (x : Outcome). Best weights coords d s lo hi (numbersOf found (x .answer)) o (x .outputs)) (sym done-in) b in
-        rw (el, eh) at c
+    done-best found z = let c = best-in found in rw (el, eh) at c
+
+    -- the arrays are those of the kept lone fit
+    pub done-first : AnswerLabelsFirst (length weights) r o'
+    done-first found z =
+        let b = best-in found in
+        let m = length weights in
+        let k = numbersOf found r .groups in
+        let first = lowest-some kMin hi lo el (highest-some kMax m hi eh) in
+        subst (λ (x : Outputs). LabelsFirst m 0 k x) (sym (b .values z .2))
+        (written-first m k d (lone weights coords d s k .em) o (omega (arith, first, b .kept-is-best z .least))
+        (fit-resp s weights coords m k d)) refl

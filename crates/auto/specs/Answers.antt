@@ -2,6 +2,8 @@
 use Prim.Native.Nat.{ℕ}
 use lib.Ieee.{Float}
 use Rattle.counts.specs.declared.Counts.{Counts}
+use Rattle.mixture_outputs.specs.Outputs.{Outputs}
+use Rattle.mixture_outputs.specs.Labels.{LabelsFirst}
 use Rattle.auto.specs.declared.Chosen.{Chosen}
 use Rattle.auto.specs.declared.Chosen.the-variants.{Refused, Unscored, Done}
 
@@ -27,3 +29,8 @@ numbersOf found (Unscored counts) =
     record { refusal = 7; groups = found .groups; loglik = found .loglik; score = found .score; counts = counts }
 numbersOf found (Done k loglik score counts) =
     record { refusal = 0; groups = k; loglik = loglik; score = score; counts = counts }
+
+-- the labels of this answer, with these arrays after it: of equal responsibilities the lower group
+abbrev pub AnswerLabelsFirst : ℕ → Chosen → Outputs → Type 0
+AnswerLabelsFirst m answer o =
+    (found : Numbers) → let n = numbersOf found answer in LabelsFirst m (n .refusal) (n .groups) o

@@ -6,6 +6,7 @@ ghost use lib.ListN.{length};
 ghost use Rattle.mixture_kappa.specs.declared.Kappa.the-variants.{Free};
 ghost use Rattle.mixture_outputs.specs.Outputs.{arrays};
 ghost use Rattle.auto.specs.Outcome.{answered, outcome};
+ghost use Rattle.auto.specs.Answers.{AnswerLabelsFirst};
 ghost use Rattle.auto.specs.Best.{AnswerKeepsBest};
 ghost use Rattle.auto.specs.Tallied.{answerOf};
 
@@ -72,6 +73,9 @@ pub fn movmf_auto_with(
         (length (now (work .entry))) (length (now («work_u32» .entry))) r
         (arrays (now (labels .exit)) (now (responsibilities .exit)) (now («group_weights» .exit))
         (now (directions .exit)) (now (concentrations .exit)) (now (logw .exit))) ⌝ }
+    ensures { λ r. ⌜ AnswerLabelsFirst (length (now (weights .entry))) r
+        (arrays (now (labels .exit)) (now (responsibilities .exit)) (now («group_weights» .exit))
+        (now (directions .exit)) (now (concentrations .exit)) (now (logw .exit))) ⌝ }
 {
     let m = weights.len();
     let hi = auto_choice::highest_number(k_max, m);
@@ -86,7 +90,7 @@ pub fn movmf_auto_with(
         work: work.len(),
         work_u32: work_u32.len(),
     };
-    let groups = hi <= 64;
+    let groups = hi <= limits::MOST_GROUPS;
     let code = mixture_outputs::refusal(weights, coords, d, hi, groups, s, l);
     if code != 0 {
         return Chosen::Refused(code);
@@ -143,6 +147,9 @@ pub fn movmf_auto(
         (record { rounds = rounds; seed = seed; kappa = Free }) «k_min» «k_max» (length (now (work .entry)))
         (length (now («work_u32» .entry))) r (arrays (now (labels .exit)) (now (responsibilities .exit))
         (now («group_weights» .exit)) (now (directions .exit)) (now (concentrations .exit)) (now (logw .exit))) ⌝ }
+    ensures { λ r. ⌜ AnswerLabelsFirst (length (now (weights .entry))) r
+        (arrays (now (labels .exit)) (now (responsibilities .exit)) (now («group_weights» .exit))
+        (now (directions .exit)) (now (concentrations .exit)) (now (logw .exit))) ⌝ }
 {
     let s = mixture_kappa::Settings {
         rounds,

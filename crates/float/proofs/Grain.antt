@@ -1,4 +1,5 @@
--- Whole multiples of 2 ^ -g stay such through sums and products, and so a dot product of scaled rows is the scaled dot product. Assumes nothing.
+-- Whole multiples of 2 ^ -g stay such through sums and products, and so a dot product of scaled rows is the scaled dot product. Only root's
+-- RootSame stands on it yet: document 02, #114, will. Assumes nothing.
 use mathlib.Core.Path.{_≡_, refl, sym, ap, _∙_, subst}
 use mathlib.Core.List.{List, [], _∷_}
 use Prim.Native.Nat.{ℕ, suc, _+_, _-_, _*_, _/_, _^_, _≤_, _<_}

@@ -1,4 +1,4 @@
--- Sums of whole numbers as floats are exact. Assumes nothing.
+-- Sums of whole numbers as floats are exact. Nothing stands on it yet: document 02, #109, will. Assumes nothing.
 use mathlib.Core.Path.{_≡_, refl, sym, ap, _∙_}
 use mathlib.Core.List.{List, [], _∷_}
 use Prim.Native.Nat.{ℕ, zero, suc, _+_, _-_, _*_, _≤_, _<_}

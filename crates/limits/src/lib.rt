@@ -4,6 +4,22 @@ ghost use Prim.Native.Nat.{_≤_};
 ghost use Rattle.limits.specs.Limits.{within, weightOk, coordinateOk, every, leavesRefusal};
 ghost use Rattle.limits.specs.Limits.{sizesOk, groupsOk, workOk};
 
+// The greatest numbers of leaves, of coordinates of a leaf, of groups, of rounds and of restarts; the greatest weight,
+// and how far a coordinate may be from 0.
+pub const MOST_LEAVES: usize = 4096;
+
+pub const MOST_COORDINATES: usize = 256;
+
+pub const MOST_GROUPS: usize = 64;
+
+pub const MOST_ROUNDS: usize = 10000;
+
+pub const MOST_RESTARTS: usize = 64;
+
+const MOST_WEIGHT: f64 = 1099511627776.0;
+
+const FARTHEST: f64 = 2.0;
+
 // x from low to high.
 fn is_within(x: f64, low: f64, high: f64) -> bool
     ensures { λ r. ⌜ r ≡ within low high x ⌝ }
@@ -30,14 +46,14 @@ fn all_within(xs: &[f64], low: f64, high: f64) -> bool
 pub fn weights_ok(ws: &[f64]) -> bool
     ensures { λ r. ⌜ r ≡ every weightOk (now (ws .entry)) ⌝ }
 {
-    all_within(ws, 0.0, 1099511627776.0)
+    all_within(ws, 0.0, MOST_WEIGHT)
 }
 
 // Every coordinate is within +-2.
 pub fn coordinates_ok(xs: &[f64]) -> bool
     ensures { λ r. ⌜ r ≡ every coordinateOk (now (xs .entry)) ⌝ }
 {
-    all_within(xs, -2.0, 2.0)
+    all_within(xs, -FARTHEST, FARTHEST)
 }
 
 // 5 for a bad weight, 6 for a bad coordinate, 0 for neither.
@@ -60,13 +76,13 @@ pub fn sizes_ok(m: usize, d: usize, coords: usize) -> bool
     if m < 1 {
         return false;
     }
-    if m > 4096 {
+    if m > MOST_LEAVES {
         return false;
     }
     if d < 1 {
         return false;
     }
-    if d > 256 {
+    if d > MOST_COORDINATES {
         return false;
     }
     coords == m * d
@@ -76,7 +92,7 @@ pub fn sizes_ok(m: usize, d: usize, coords: usize) -> bool
 pub fn groups_ok(k: usize, m: usize) -> bool
     ensures { λ r. ⌜ r ≡ groupsOk k m ⌝ }
 {
-    (1 <= k) & ((k <= 64) & (k <= m))
+    (1 <= k) & ((k <= MOST_GROUPS) & (k <= m))
 }
 
 // The lent work arrays are long enough.

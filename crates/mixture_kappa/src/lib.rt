@@ -1,4 +1,4 @@
-// The settings of a mixture fit, and the numbers of its groups that no work area is needed for (vmf.rs, KappaModel and
+// The settings of a mixture fit, and the numbers of its groups that no work area is needed for (vmf.rs, Kappa and
 // movmf_once; document 01, 'Leaves, settings, fit', 'Mixture' and 'Choosing the number of groups'): how many parameters
 // k groups have, the log normalizer of a concentration, and the log coefficient of a group.
 ghost use mathlib.Core.Path.{_≡_};

@@ -2,3 +2,4 @@
 pub mod Refusals
 pub mod Listed
 pub mod Kept
+pub mod Labels

@@ -1,3 +1,4 @@
 pub mod Outputs
 pub mod Refusals
+pub mod Labels
 pub mod Fillable

@@ -69,7 +69,7 @@ pub fn refusal(
     if !groups {
         return 2;
     }
-    if s.rounds > 10000 {
+    if s.rounds > limits::MOST_ROUNDS {
         return 3;
     }
     if !arrays_ok(m, k, d, l) {

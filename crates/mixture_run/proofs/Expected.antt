@@ -175,7 +175,7 @@ module _ (coords : List Float) (k d : ℕ) (coefficients : List Float) (p : Mode
         (λ i h. ap logSumExp (row-is i h)) (λ i h. refl)
         ∙ expected-loglik weights m
 
-    resp-length : length (expectUpTo weights coords k d coefficients p m .resp) ≡ m * k
+    pub resp-length : length (expectUpTo weights coords k d coefficients p m .resp) ≡ m * k
     resp-length =
         ap length (sym (expected-resp weights m)) ∙ joined-length (λ (i : ℕ). softmax (densitiesOf i)) k m (λ i h. softmax-length i)
 

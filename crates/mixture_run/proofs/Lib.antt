@@ -8,3 +8,4 @@ pub mod Directions
 pub mod LabelTotals
 pub mod Rounds
 pub mod Runs
+pub mod Lengths

@@ -5,23 +5,18 @@ use mathlib.Core.List.{List}
 use Prim.Native.Nat.{ℕ, _+_, _*_, _-_, _≤_, _<_}
 use native.Mathlib.Numerals.{add-one}
 use native.Mathlib.Omega.{arith}
-use lib.ListN.{length, getD, drop, set, replicate, length-set}
-use lib.Seq.{getD-take, getD-drop}
+use lib.ListN.{length, getD, set, replicate, length-set}
 use lib.Ieee.{Float, nan, binary64, add, mul}
 use Rattle.float.specs.Arithmetic.{plusZero}
 use Rattle.rows.specs.Rows.{part, putPart, rowOf}
 use Rattle.vector.specs.Vectors.{addScaled}
-use Rattle.rows.proofs.Rows.{length-part}
+use Rattle.rows.proofs.Rows.{length-part, row-get}
 use Rattle.vector.proofs.Vectors.{add-scaled-length}
 use Rattle.mixture_run.specs.Mixture.{accumulateGroup, accumulateLeaf, statisticsUpTo}
 use Rattle.mixture_run.specs.Areas.{Parts, partsIn, totalsAt, responsibilitiesAt, statisticsOf, withSums, withTotals, withStatistics}
 use Rattle.mixture_run.specs.Areas.{Area, LeafOf, GroupOf, total}
 use Rattle.mixture_run.proofs.Regions.{sumsR, totalsR, respR, set-in, get-in, part-in, put-in, length-in}
 use Rattle.mixture_run.proofs.Groups.{fill-in}
-
--- an element of a row
-row-get : (l : List Float) (d i c : ℕ) (z : Float) → c < d → getD (rowOf l d i) c z ≡ getD l (i * d + c) z
-row-get l d i c z h = getD-take d (drop (i * d) l) c z h ∙ getD-drop (i * d) l c z
 
 -- a row added to another, as the code cuts them
 pub row-added : (w x r : List Float) (v : Float) (to from d : ℕ) → r ≡ addScaled v (part w to (to + d - to)) (part x from (from + d - from))

@@ -4,6 +4,7 @@ use mathlib.Core.Path.{_≡_, refl, ap, sym, subst, _∙_}
 use mathlib.Core.List.{List}
 use mathlib.Core.Bool.{true}
 use Prim.Native.Nat.{ℕ, zero, suc, _≤_}
+use native.Mathlib.Omega.{arith}
 use lib.ListN.{length}
 use lib.Ieee.{Float}
 use Rattle.limits.specs.Limits.{groupsOk, mostGroups}
@@ -19,7 +20,9 @@ use Rattle.mixture_outputs.proofs.Refusals.{Ready, ready}
 use Rattle.mixture_outputs.proofs.Kept.{fit-em, fit-counts}
 use Rattle.movmf.specs.Refusals.{refusalOf}
 use Rattle.movmf.specs.Outcome.{Outcome, outcomeBy, outcome}
-use Rattle.movmf.specs.Answers.{AnswersWith}
+use Rattle.mixture_restarts.proofs.Lengths.{fit-resp}
+use Rattle.mixture_outputs.proofs.Labels.{written-first}
+use Rattle.movmf.specs.Answers.{AnswersWith, AnswerLabelsFirst}
 use Rattle.movmf.specs.declared.Fitted.{Fitted}
 use Rattle.movmf.specs.declared.Fitted.the-variants.{Refused, Done}
 
@@ -60,3 +63,19 @@ module _ (o : Outputs) (weights coords : List Float) (d k : ℕ) (s : Settings) 
   number-is a o' e =
       subst (λ (x : Outcome). AnswersWith (refusalOf weights coords d k s (lengthsOf o work workU32)) (x .answer)) (sym e)
       (number-by (refusalOf weights coords d k s (lengthsOf o work workU32)))
+
+  -- its labels, by the number of the refusal
+  first-by : (code : ℕ) → code ≡ refusalOf weights coords d k s (lengthsOf o work workU32)
+      → let c = outcomeBy o weights coords d k s work workU32 code in AnswerLabelsFirst (length weights) (c .answer) (c .outputs)
+  first-by zero e found z =
+      let r = admitted weights coords d k s (lengthsOf o work workU32) (sym e) in
+      written-first (length weights) k d (fitOf s weights coords (length weights) k d .em) o (few k (length weights) (r .admitted) .0)
+      (fit-resp s weights coords (length weights) k d) z
+  first-by (suc code) e found z = absurd (omega (arith, z))
+
+  pub first-is : (a : Fitted) (o' : Outputs) → _≡_ {A = Outcome} (record { answer = a; outputs = o' })
+      (outcome o weights coords d k s work workU32)
+      → AnswerLabelsFirst (length weights) a o'
+  first-is a o' e =
+      subst (λ (x : Outcome). AnswerLabelsFirst (length weights) (x .answer) (x .outputs)) (sym e)
+      (first-by (refusalOf weights coords d k s (lengthsOf o work workU32)) refl)

@@ -3,6 +3,8 @@ use mathlib.Core.Path.{_≡_}
 use Prim.Native.Nat.{ℕ}
 use lib.Ieee.{Float}
 use Rattle.counts.specs.declared.Counts.{Counts}
+use Rattle.mixture_outputs.specs.Outputs.{Outputs}
+use Rattle.mixture_outputs.specs.Labels.{LabelsFirst}
 use Rattle.movmf.specs.declared.Fitted.{Fitted}
 use Rattle.movmf.specs.declared.Fitted.the-variants.{Refused, Done}
 
@@ -22,3 +24,8 @@ numbersOf found (Done k loglik counts) = record { refusal = 0; groups = k; logli
 -- the answer's number is this refusal
 abbrev pub AnswersWith : ℕ → Fitted → Type 0
 AnswersWith code answer = (found : Numbers) → numbersOf found answer .refusal ≡ code
+
+-- the labels of this answer, with these arrays after it: of equal responsibilities the lower group
+abbrev pub AnswerLabelsFirst : ℕ → Fitted → Outputs → Type 0
+AnswerLabelsFirst m answer o =
+    (found : Numbers) → let n = numbersOf found answer in LabelsFirst m (n .refusal) (n .groups) o

@@ -7,7 +7,7 @@ ghost use Rattle.mixture_kappa.specs.declared.Kappa.the-variants.{Free};
 ghost use Rattle.mixture_outputs.specs.Outputs.{arrays, lengthsOf};
 ghost use Rattle.movmf.specs.Refusals.{refusalOf};
 ghost use Rattle.movmf.specs.Outcome.{answered, outcome};
-ghost use Rattle.movmf.specs.Answers.{AnswersWith};
+ghost use Rattle.movmf.specs.Answers.{AnswersWith, AnswerLabelsFirst};
 
 // What a call answers: the number of the refusal, or k, the log-likelihood and the counts.
 pub enum Fitted {
@@ -48,6 +48,9 @@ pub fn movmf_with(
         (lengthsOf (arrays (now (labels .entry)) (now (responsibilities .entry)) (now («group_weights» .entry))
         (now (directions .entry)) (now (concentrations .entry)) (now (logw .entry)))
         (length (now (work .entry))) (length (now («work_u32» .entry))))) r ⌝ }
+    ensures { λ r. ⌜ AnswerLabelsFirst (length (now (weights .entry))) r
+        (arrays (now (labels .exit)) (now (responsibilities .exit)) (now («group_weights» .exit))
+        (now (directions .exit)) (now (concentrations .exit)) (now (logw .exit))) ⌝ }
 {
     let l = mixture_outputs::Lengths {
         labels: labels.len(),
@@ -112,6 +115,9 @@ pub fn movmf(
         (lengthsOf (arrays (now (labels .entry)) (now (responsibilities .entry)) (now («group_weights» .entry))
         (now (directions .entry)) (now (concentrations .entry)) (now (logw .entry)))
         (length (now (work .entry))) (length (now («work_u32» .entry))))) r ⌝ }
+    ensures { λ r. ⌜ AnswerLabelsFirst (length (now (weights .entry))) r
+        (arrays (now (labels .exit)) (now (responsibilities .exit)) (now («group_weights» .exit))
+        (now (directions .exit)) (now (concentrations .exit)) (now (logw .exit))) ⌝ }
 {
     let s = mixture_kappa::Settings {
         rounds,

@@ -34,7 +34,7 @@ pub fn mix(z: u64) -> u64
     w ^ (w >> 31)
 }
 
-// The top 53 bits of x, over 2^53: from 0 to 1, and below 1.
+// The top 53 bits of x, over 2^53: from 0 to below 1.
 pub fn unit_f64(x: u64) -> f64
     ensures { λ r. ⌜ r ≡ unitOf x ⌝ }
 {
@@ -95,7 +95,7 @@ pub fn next_u64(g: &mut SplitMix64) -> u64
     d.out
 }
 
-// The next fraction of a lent generator, from 0 to 1 and below 1; one number is spent.
+// The next fraction of a lent generator, from 0 to below 1; one number is spent.
 pub fn next_f64(g: &mut SplitMix64) -> f64
     ensures { λ r. ⌜ record { state = now (g .exit) .state; out = r } ≡ drawnF64 (now (g .entry) .state) ⌝ }
 {

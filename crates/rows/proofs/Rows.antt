@@ -25,6 +25,10 @@ module _ {A : Type 0} where
   pub row-cut : (l : List A) (d c : ℕ) → take (c * d + d - c * d) (drop (c * d) l) ≡ rowOf l d c
   row-cut l d c = part-cut l (c * d) d
 
+  -- an element of a row
+  pub row-get : (l : List A) (d i c : ℕ) (z : A) → c < d → getD (rowOf l d i) c z ≡ getD l (i * d + c) z
+  row-get l d i c z h = getD-take d (drop (i * d) l) c z h ∙ getD-drop (i * d) l c z
+
   take-front : (l v : List A) (n : ℕ) → length v ≤ n → n ≤ length l → take n (v ++ drop (length v) l) ≡ v ++ drop (length v) (take n l)
   take-front l [] n h g = refl
   take-front l (x ∷ v) zero h g = absurd (omega arith)

@@ -1,37 +1,55 @@
--- What the restarts count: the products made and those saved are together k * m for each round begun, over all runs. By
+-- What the restarts count: the products made and those saved are together k · m for each round begun, over all runs. By
 -- recursion on the restarts, from the same of each run. Assumes nothing.
-use mathlib.Core.Path.{_≡_}
+use mathlib.Core.Path.{_≡_, refl, ap, sym, subst, _∙_}
 use mathlib.Core.List.{List}
 use Prim.Native.Nat.{ℕ, zero, suc, _+_, _*_, _-_, max}
-use native.Mathlib.Nat.{mul-add}
+use native.Mathlib.Nat.{zero-add}
 use native.Mathlib.Omega.{arith}
+use lib.ListN.{length}
 use lib.Ieee.{Float}
-use Rattle.kmeans_layout.specs.Kept.{keptOf}
-use Rattle.kmeans_lloyd.specs.Results.{Result, resultOf}
+use Rattle.counts.specs.Counts.{sumOver}
 use Rattle.kmeans_lloyd.proofs.Runs.{run-counts}
-use Rattle.spherical.specs.Restarts.{counted, restartsUpTo, kmeansOf}
+use Rattle.spherical.specs.Restarts.{restartsUpTo, kmeansOf, generatorBefore}
+use Rattle.spherical.specs.Work.{begun, products, CountsEveryRound}
+use Rattle.spherical.specs.Refusals.{refusalOf}
+use Rattle.spherical.specs.Outcome.{Outcome, outcomeBy, outcome}
+use Rattle.spherical.specs.declared.Clustered.{Clustered}
 
--- all the dot products of a run: k * m for each round begun
-abbrev AllCounted : ℕ → ℕ → Result → Type 0
-AllCounted m k r = r .counts .made + r .counts .saved ≡ k * m * r .begun
+module _ (weights coords : List Float) (d k rounds seed : ℕ) where
+  abbrev m : ℕ
+  m = length weights
 
-sums-counted : (n a b c e f g : ℕ) → a + b ≡ n * c → e + f ≡ n * g → (a + e) + (b + f) ≡ n * (c + g)
-sums-counted n a b c e f g p q = rw mul-add (omega arith)
+  -- the products of run t
+  abbrev worth : ℕ → ℕ
+  worth t = k * m * begun weights coords d k rounds seed t
 
-kept-counted : (m k : ℕ) (kept held run : Result) → AllCounted m k held → AllCounted m k run → AllCounted m k (counted kept held run)
-kept-counted m k kept held run p q =
-    sums-counted (k * m) (held .counts .made) (held .counts .saved) (held .begun) (run .counts .made) (run .counts .saved) (run .begun) p q
+  -- of the first run and n more
+  runs-products : (n : ℕ) → let r = restartsUpTo weights coords m k d rounds seed n in
+      r .counts .made + r .counts .saved ≡ sumOver worth 0 (suc n)
+  unfolding restartsUpTo sumOver
+  runs-products zero = run-counts weights coords m k d rounds seed ∙ sym (zero-add (worth 0))
+  runs-products (suc n) =
+      let generator = generatorBefore weights coords m k d rounds seed (suc n) in
+      let last = run-counts weights coords m k d rounds generator ∙ ap worth (sym (zero-add (suc n))) in
+      omega (arith, runs-products n, last)
 
-module _ (weights coords : List Float) (m k d rounds : ℕ) where
-  restarts-counts : (seed n : ℕ) → AllCounted m k (restartsUpTo weights coords m k d rounds seed n)
-  unfolding restartsUpTo
-  restarts-counts seed zero = run-counts weights coords m k d rounds seed
-  restarts-counts seed (suc n) =
-      let held = restartsUpTo weights coords m k d rounds seed n in
-      let run = resultOf weights coords m k d rounds (held .generator) in
-      kept-counted m k (keptOf (held .cohesion) (run .cohesion) held run) held run (restarts-counts seed n)
-      (run-counts weights coords m k d rounds (held .generator))
+  made-and-saved : (restarts : ℕ) → let r = kmeansOf weights coords m k d rounds restarts seed in
+      r .counts .made + r .counts .saved ≡ products weights coords d k rounds seed restarts
+  made-and-saved restarts =
+      let e : suc (max restarts 1 - 1) ≡ max restarts 1 = omega arith in
+      runs-products (max restarts 1 - 1) ∙ ap (sumOver worth 0) e
 
-  pub made-and-saved : (restarts seed : ℕ)
-      → let r = kmeansOf weights coords m k d rounds restarts seed in r .counts .made + r .counts .saved ≡ k * m * r .begun
-  made-and-saved restarts seed = restarts-counts seed (max restarts 1 - 1)
+  -- ---- of the call's own answer, by the number of the refusal
+  module _ (restarts : ℕ) (ls : List ℕ) (ds : List Float) (work workU32 : ℕ) where
+    work-by : (code : ℕ) → CountsEveryRound weights coords d k rounds seed restarts
+        (outcomeBy ls ds weights coords d k rounds restarts seed work workU32 code .answer)
+    work-by zero found z = made-and-saved restarts
+    work-by (suc code) found z = absurd (omega (arith, z))
+
+    pub work-is : (a : Clustered) (ls' : List ℕ) (ds' : List Float)
+        → _≡_ {A = Outcome} (record { answer = a; labels = ls'; directions = ds' })
+        (outcome ls ds weights coords d k rounds restarts seed work workU32)
+        → CountsEveryRound weights coords d k rounds seed restarts a
+    work-is a ls' ds' e =
+        subst (λ (x : Outcome). CountsEveryRound weights coords d k rounds seed restarts (x .answer)) (sym e)
+        (work-by (refusalOf weights coords d k rounds restarts (length ls) (length ds) work workU32))

@@ -2,18 +2,13 @@
 -- Definitions only.
 use mathlib.Core.Path.{_≡_}
 use mathlib.Core.List.{List}
-use Prim.Native.Nat.{ℕ, zero, suc, max}
+use Prim.Native.Nat.{ℕ, max}
 use lib.ListN.{length}
 use lib.Ieee.{Float}
 use Rattle.counts.specs.Counts.{sumOver}
 use Rattle.kmeans_lloyd.specs.Doubled.{doubledOf}
-use Rattle.spherical.specs.Restarts.{restartsUpTo}
+use Rattle.spherical.specs.Restarts.{generatorBefore}
 use Rattle.spherical.specs.Refusals.{refusalOf}
-
--- the generator before run t: the seed, and then what the runs before have left
-abbrev pub generatorBefore : List Float → List Float → ℕ → ℕ → ℕ → ℕ → ℕ → ℕ → ℕ
-generatorBefore weights coords m k d rounds seed zero = seed
-generatorBefore weights coords m k d rounds seed (suc t) = restartsUpTo weights coords m k d rounds seed t .generator
 
 -- doubled, over all restarts; 0 restarts act as 1
 abbrev pub doubledIn : List Float → List Float → ℕ → ℕ → ℕ → ℕ → ℕ → ℕ → ℕ

@@ -4,3 +4,4 @@ pub mod Outcome
 pub mod Answers
 pub mod Halves
 pub mod Doubled
+pub mod Work

@@ -34,3 +34,8 @@ module _ (weights coords : List Float) (m k d rounds : ℕ) where
   -- 0 restarts act as 1
   abbrev pub kmeansOf : (restarts seed : ℕ) → Result
   kmeansOf restarts seed = restartsUpTo seed (max restarts 1 - 1)
+
+  -- the generator before run t: the seed, and then what the runs before have left
+  abbrev pub generatorBefore : (seed t : ℕ) → ℕ
+  generatorBefore seed zero = seed
+  generatorBefore seed (suc t) = restartsUpTo seed t .generator

@@ -12,6 +12,7 @@ ghost use Rattle.spherical.specs.Restarts.{kmeansOf};
 ghost use Rattle.spherical.specs.Refusals.{arraysOk, refusalOf};
 ghost use Rattle.spherical.specs.Outcome.{Outcome, outcome};
 ghost use Rattle.spherical.specs.Answers.{AnswersWith};
+ghost use Rattle.spherical.specs.Work.{CountsEveryRound};
 ghost use Rattle.kmeans_layout.specs.Halves.{half, heldAt};
 ghost use Rattle.spherical.specs.Halves.{stateAt, Runnable, Fillable, RunAt, Holds, Restarted};
 
@@ -57,10 +58,10 @@ fn refusal(
     if !limits::groups_ok(k, m) {
         return 2;
     }
-    if rounds > 10000 {
+    if rounds > limits::MOST_ROUNDS {
         return 3;
     }
-    if restarts > 64 {
+    if restarts > limits::MOST_RESTARTS {
         return 3;
     }
     if !arrays_ok(m, k, d, labels, directions, work, work_u32) {
@@ -250,6 +251,7 @@ pub fn spherical_kmeans(
     ensures { λ r. ⌜ AnswersWith (refusalOf (now (weights .entry)) (now (coords .entry)) d k rounds restarts
         (length (now (labels .entry))) (length (now (directions .entry))) (length (now (work .entry)))
         (length (now («work_u32» .entry)))) r ⌝ }
+    ensures { λ r. ⌜ CountsEveryRound (now (weights .entry)) (now (coords .entry)) d k rounds seed restarts r ⌝ }
 {
     let code = refusal(
         weights,

@@ -3,7 +3,9 @@
 // length; include/mosterklomp.h declares the functions.
 ghost use mathlib.Core.Path.{_≡_};
 ghost use lib.ListN.{length};
+ghost use mathlib.Core.Bool.{true};
 ghost use Rattle.mixture_outputs.specs.Outputs.{arrays};
+ghost use Rattle.mixture_outputs.specs.Labels.{LabelsFirst};
 ghost use Rattle.spherical.specs.Outcome.{outcome as clusteredOutcome};
 ghost use Rattle.spherical.specs.Answers.{numbersOf as clusteredNumbersOf};
 ghost use Rattle.movmf.specs.Outcome.{outcome as fittedOutcome};
@@ -11,15 +13,23 @@ ghost use Rattle.movmf.specs.Answers.{numbersOf as fittedNumbersOf};
 ghost use Rattle.auto.specs.Outcome.{outcome as chosenOutcome};
 ghost use Rattle.auto.specs.Answers.{numbersOf as chosenNumbersOf};
 ghost use Rattle.auto.specs.Best.{KeepsBest};
-ghost use Rattle.station.specs.Answers.{kappaOf, clustered, fitted, chosen};
+ghost use Rattle.mixture_kappa.specs.declared.Kappa.{Kappa};
+ghost use Rattle.station.specs.Answers.{kappaOf, kindOk, fittedBy, chosenBy, clustered, fitted, chosen};
 
 // ---- the answers' cases
 
-// Shared or Free.
-fn kappa_of(shared: bool) -> mixture_kappa::Kappa
-    ensures { λ r. ⌜ r ≡ kappaOf shared ⌝ }
+// The kinds of Kappa that the border knows: 0 Free, 1 Shared.
+fn kind_ok(kind: u32) -> bool
+    ensures { λ r. ⌜ r ≡ kindOk kind ⌝ }
 {
-    if shared {
+    kind <= 1
+}
+
+// Shared or Free.
+fn kappa_of(kind: u32) -> mixture_kappa::Kappa
+    ensures { λ r. ⌜ r ≡ kappaOf kind ⌝ }
+{
+    if kind == 1 {
         mixture_kappa::Kappa::Shared
     } else {
         mixture_kappa::Kappa::Free
@@ -45,7 +55,7 @@ fn give_clustered(a: spherical::Clustered, cohesion: &mut f64, counts: &mut [u64
 }
 
 // The number of the refusal; the number of groups, the log-likelihood and the counts where there is none.
-fn give_fitted(a: movmf::Fitted, groups: &mut u64, loglik: &mut f64, counts: &mut [u64; 2]) -> u32
+fn give_fitted(a: movmf::Fitted, groups: &mut usize, loglik: &mut f64, counts: &mut [u64; 2]) -> u32
     ensures { λ r. ⌜ fitted r (now (groups .exit)) (now (loglik .exit)) (now (counts .exit))
         ≡ fittedNumbersOf (fitted 0 (now (groups .entry)) (now (loglik .entry)) (now (counts .entry))) a ⌝ }
 {
@@ -56,7 +66,7 @@ fn give_fitted(a: movmf::Fitted, groups: &mut u64, loglik: &mut f64, counts: &mu
             loglik: found,
             counts: more,
         } => {
-            *groups = k as u64;
+            *groups = k;
             *loglik = found;
             *counts = [more.made, more.saved];
             0
@@ -68,7 +78,7 @@ fn give_fitted(a: movmf::Fitted, groups: &mut u64, loglik: &mut f64, counts: &mu
 // with 7.
 fn give_chosen(
     a: auto::Chosen,
-    groups: &mut u64,
+    groups: &mut usize,
     loglik: &mut f64,
     score: &mut f64,
     counts: &mut [u64; 2],
@@ -89,7 +99,7 @@ fn give_chosen(
             score: kept,
             counts: more,
         } => {
-            *groups = k as u64;
+            *groups = k;
             *loglik = found;
             *score = kept;
             *counts = [more.made, more.saved];
@@ -149,7 +159,8 @@ pub extern "C" fn mosterklomp_movmf_with(
     k: usize,
     rounds: usize,
     seed: u64,
-    shared: bool,
+    kappa: u32,
+    fixed: f64,
     labels: &mut [u32],
     responsibilities: &mut [f64],
     group_weights: &mut [f64],
@@ -158,21 +169,27 @@ pub extern "C" fn mosterklomp_movmf_with(
     logw: &mut [f64],
     work: &mut [f64],
     work_u32: &mut [u32],
-    groups: &mut u64,
+    groups: &mut usize,
     loglik: &mut f64,
     counts: &mut [u64; 2],
 ) -> u32
-    ensures { λ r. ⌜ (let o = fittedOutcome (arrays (now (labels .entry)) (now (responsibilities .entry))
-        (now («group_weights» .entry)) (now (directions .entry)) (now (concentrations .entry)) (now (logw .entry)))
-        (now (weights .entry)) (now (coords .entry)) d k
-        (record { rounds = rounds; seed = seed; kappa = kappaOf shared }) (length (now (work .entry)))
-        (length (now («work_u32» .entry))) in
+    ensures { λ r. ⌜ (let o = arrays (now (labels .entry)) (now (responsibilities .entry))
+        (now («group_weights» .entry)) (now (directions .entry)) (now (concentrations .entry)) (now (logw .entry)) in
+        let o = fittedBy kappa o (λ (z : Kappa). fittedOutcome o (now (weights .entry)) (now (coords .entry)) d k
+        (record { rounds = rounds; seed = seed; kappa = z }) (length (now (work .entry)))
+        (length (now («work_u32» .entry)))) in
         (fitted r (now (groups .exit)) (now (loglik .exit)) (now (counts .exit))
         ≡ fittedNumbersOf (fitted 0 (now (groups .entry)) (now (loglik .entry)) (now (counts .entry))) (o .answer))
         × (arrays (now (labels .exit)) (now (responsibilities .exit)) (now («group_weights» .exit))
         (now (directions .exit)) (now (concentrations .exit)) (now (logw .exit)) ≡ o .outputs)) ⌝ }
+    ensures { λ r. ⌜ LabelsFirst (length (now (weights .entry))) r (now (groups .exit))
+        (arrays (now (labels .exit)) (now (responsibilities .exit)) (now («group_weights» .exit))
+        (now (directions .exit)) (now (concentrations .exit)) (now (logw .exit))) ⌝ }
 {
-    let kappa = kappa_of(shared);
+    if !kind_ok(kappa) {
+        return 13;
+    }
+    let kappa = kappa_of(kappa);
     let s = mixture_kappa::Settings {
         rounds,
         seed,
@@ -206,7 +223,8 @@ pub extern "C" fn mosterklomp_movmf_auto_with(
     k_max: usize,
     rounds: usize,
     seed: u64,
-    shared: bool,
+    kappa: u32,
+    fixed: f64,
     labels: &mut [u32],
     responsibilities: &mut [f64],
     group_weights: &mut [f64],
@@ -215,29 +233,36 @@ pub extern "C" fn mosterklomp_movmf_auto_with(
     logw: &mut [f64],
     work: &mut [f64],
     work_u32: &mut [u32],
-    groups: &mut u64,
+    groups: &mut usize,
     loglik: &mut f64,
     score: &mut f64,
     counts: &mut [u64; 2],
 ) -> u32
-    ensures { λ r. ⌜ (let o = chosenOutcome (arrays (now (labels .entry)) (now (responsibilities .entry))
-        (now («group_weights» .entry)) (now (directions .entry)) (now (concentrations .entry)) (now (logw .entry)))
-        (now (weights .entry)) (now (coords .entry)) d (record { rounds = rounds; seed = seed; kappa = kappaOf shared })
-        «k_min» «k_max» (length (now (work .entry))) (length (now («work_u32» .entry))) in
+    ensures { λ r. ⌜ (let o = arrays (now (labels .entry)) (now (responsibilities .entry))
+        (now («group_weights» .entry)) (now (directions .entry)) (now (concentrations .entry)) (now (logw .entry)) in
+        let o = chosenBy kappa o (λ (z : Kappa). chosenOutcome o (now (weights .entry)) (now (coords .entry)) d
+        (record { rounds = rounds; seed = seed; kappa = z }) «k_min» «k_max» (length (now (work .entry)))
+        (length (now («work_u32» .entry)))) in
         (chosen r (now (groups .exit)) (now (loglik .exit)) (now (score .exit)) (now (counts .exit))
         ≡ chosenNumbersOf (chosen 0 (now (groups .entry)) (now (loglik .entry)) (now (score .entry))
         (now (counts .entry))) (o .answer)) × (arrays (now (labels .exit)) (now (responsibilities .exit))
         (now («group_weights» .exit)) (now (directions .exit)) (now (concentrations .exit)) (now (logw .exit))
         ≡ o .outputs)) ⌝ }
-    ensures { λ r. ⌜ KeepsBest (arrays (now (labels .entry)) (now (responsibilities .entry))
+    ensures { λ r. ⌜ kindOk kappa ≡ true → KeepsBest (arrays (now (labels .entry)) (now (responsibilities .entry))
         (now («group_weights» .entry)) (now (directions .entry)) (now (concentrations .entry)) (now (logw .entry)))
-        (now (weights .entry)) (now (coords .entry)) d (record { rounds = rounds; seed = seed; kappa = kappaOf shared })
+        (now (weights .entry)) (now (coords .entry)) d (record { rounds = rounds; seed = seed; kappa = kappaOf kappa })
         «k_min» «k_max» (length (now (work .entry))) (length (now («work_u32» .entry)))
         (chosen r (now (groups .exit)) (now (loglik .exit)) (now (score .exit)) (now (counts .exit)))
         (arrays (now (labels .exit)) (now (responsibilities .exit)) (now («group_weights» .exit))
         (now (directions .exit)) (now (concentrations .exit)) (now (logw .exit))) ⌝ }
+    ensures { λ r. ⌜ LabelsFirst (length (now (weights .entry))) r (now (groups .exit))
+        (arrays (now (labels .exit)) (now (responsibilities .exit)) (now («group_weights» .exit))
+        (now (directions .exit)) (now (concentrations .exit)) (now (logw .exit))) ⌝ }
 {
-    let kappa = kappa_of(shared);
+    if !kind_ok(kappa) {
+        return 13;
+    }
+    let kappa = kappa_of(kappa);
     let s = mixture_kappa::Settings {
         rounds,
         seed,

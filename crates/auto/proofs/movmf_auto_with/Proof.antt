@@ -8,7 +8,8 @@ use borrow.Author.Needs.{needs}
 use borrow.Author.Tests.{leb-true}
 use Rattle.logarithm.specs.Logarithm.{lnOf}
 use Rattle.mixture_outputs.specs.Outputs.{Outputs, arrays, lengthsOf}
-use Rattle.auto.proofs.Outcomes.{highest-some, lowest-some, lowest-most, admitted, refused, refused-best, done, done-best}
+use Rattle.auto.proofs.Outcomes.{highest-some, lowest-some, lowest-most, admitted, refused, refused-best}
+use Rattle.auto.proofs.Outcomes.{refused-first, done, done-best, done-first}
 use Rattle.auto.proofs.movmf_auto_with.Statement.{statement}
 use Rattle.auto.proofs.movmf_auto_with.Tie as tie
 
@@ -51,9 +52,14 @@ returns c =
           (length (a .work-u32 .now))
           (l .result) (h .highest-number .result) (h .highest-number .ensures) (l .ensures) (r .refusal .result) (r .refusal .ensures)
           (c .if1 .taken),
-      refused-best (found s) (a .weights .now) (a .coords .now) (a .d) (a .k-min) (a .k-max) (a .s) (length (a .work .now))
-          (length (a .work-u32 .now)) (l .result) (h .highest-number .result) (h .highest-number .ensures) (l .ensures) (r .refusal .result)
-          (r .refusal .ensures) (c .if1 .taken),
+      (
+        refused-best (found s) (a .weights .now) (a .coords .now) (a .d) (a .k-min) (a .k-max) (a .s) (length (a .work .now))
+            (length (a .work-u32 .now)) (l .result) (h .highest-number .result) (h .highest-number .ensures) (l .ensures) (r .refusal .result)
+            (r .refusal .ensures) (c .if1 .taken),
+        refused-first (found s) (a .weights .now) (a .coords .now) (a .d) (a .k-min) (a .k-max) (a .s) (length (a .work .now))
+            (length (a .work-u32 .now)) (l .result) (h .highest-number .result) (h .highest-number .ensures) (l .ensures) (r .refusal .result)
+            (r .refusal .ensures) (c .if1 .taken),
+      ),
     )
 
 fit-range-requires : tie.Need-fit-range-requires
@@ -91,9 +97,14 @@ returns-2 c =
           (length (a .work-u32 .now))
           (l .result) (h .highest-number .result) (h .highest-number .ensures) (l .ensures) (r .refusal .result) (r .refusal .ensures)
           (n .result) (c .answer .result) o (n .ensures) (c .answer .ensures) (e .if1 .left),
-      done-best (found s) (a .weights .now) (a .coords .now) (a .d) (a .k-min) (a .k-max) (a .s) (length (a .work .now))
-          (length (a .work-u32 .now)) (l .result) (h .highest-number .result) (h .highest-number .ensures) (l .ensures) (r .refusal .result)
-          (r .refusal .ensures) (n .result) (c .answer .result) o (n .ensures) (c .answer .ensures),
+      (
+        done-best (found s) (a .weights .now) (a .coords .now) (a .d) (a .k-min) (a .k-max) (a .s) (length (a .work .now))
+            (length (a .work-u32 .now)) (l .result) (h .highest-number .result) (h .highest-number .ensures) (l .ensures) (r .refusal .result)
+            (r .refusal .ensures) (n .result) (c .answer .result) o (n .ensures) (c .answer .ensures),
+        done-first (found s) (a .weights .now) (a .coords .now) (a .d) (a .k-min) (a .k-max) (a .s) (length (a .work .now))
+            (length (a .work-u32 .now)) (l .result) (h .highest-number .result) (h .highest-number .ensures) (l .ensures) (r .refusal .result)
+            (r .refusal .ensures) (n .result) (c .answer .result) o (n .ensures) (c .answer .ensures),
+      ),
     )
 
 pub movmf-auto-with-spec : {M : Type 1} → statement M

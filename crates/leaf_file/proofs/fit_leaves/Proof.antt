@@ -18,7 +18,7 @@ returns c =
     let movmf = movmf-auto-at c in
     let a = start movmf .args in
     let e = movmf .movmf-auto .ensures in
-    fit-by (a .weights .now) (a .coords .now) (a .d) (a .labels .now) _ _ _ _ _ _ _ refl refl refl refl refl refl refl _ (e .0) (e .1)
+    fit-by (a .weights .now) (a .coords .now) (a .d) (a .labels .now) _ _ _ _ _ _ _ refl refl refl refl refl refl refl _ (e .0) (e .1 .0)
 
 pub fit-leaves-spec : {M : Type 1} → statement M
 fit-leaves-spec =

@@ -10,7 +10,7 @@ use Rattle.mixture_outputs.specs.Refusals.{fitRefusal}
 use Rattle.mixture_outputs.specs.Fillable.{Fittable}
 use Rattle.mixture_outputs.proofs.Refusals.{fillable}
 use Rattle.movmf.specs.Refusals.{refusalOf}
-use Rattle.movmf.proofs.Outcomes.{few, admitted, refused, done, number-is}
+use Rattle.movmf.proofs.Outcomes.{few, admitted, refused, done, number-is, first-is}
 use Rattle.movmf.proofs.movmf_with.Statement.{statement}
 use Rattle.movmf.proofs.movmf_with.Tie as tie
 
@@ -70,7 +70,10 @@ returns c =
     let e = refused (found s) (a .weights .now) (a .coords .now) (a .d) (a .k) (a .s) (length (a .work .now)) (length (a .work-u32 .now))
     (r .refusal .result) (refusal-is r) (c .if1 .taken) in (
       e,
-      number-is (found s) (a .weights .now) (a .coords .now) (a .d) (a .k) (a .s) (length (a .work .now)) (length (a .work-u32 .now)) _ _ e,
+      (
+        number-is (found s) (a .weights .now) (a .coords .now) (a .d) (a .k) (a .s) (length (a .work .now)) (length (a .work-u32 .now)) _ _ e,
+        first-is (found s) (a .weights .now) (a .coords .now) (a .d) (a .k) (a .s) (length (a .work .now)) (length (a .work-u32 .now)) _ _ e,
+      ),
     )
 
 four-runs-requires : tie.Need-four-runs-requires
@@ -100,7 +103,10 @@ returns-2 c =
     (arrays (x .0) (x .1 .0) (x .1 .1 .0) (x .1 .1 .1 .0) (x .1 .1 .1 .1 .0) (x .1 .1 .1 .1 .1 .0)) (r .four-runs .ensures) (l .ensures)
     (f .fill-outputs .ensures) in (
       d,
-      number-is (found s) (a .weights .now) (a .coords .now) (a .d) (a .k) (a .s) (length (a .work .now)) (length (a .work-u32 .now)) _ _ d,
+      (
+        number-is (found s) (a .weights .now) (a .coords .now) (a .d) (a .k) (a .s) (length (a .work .now)) (length (a .work-u32 .now)) _ _ d,
+        first-is (found s) (a .weights .now) (a .coords .now) (a .d) (a .k) (a .s) (length (a .work .now)) (length (a .work-u32 .now)) _ _ d,
+      ),
     )
 
 pub movmf-with-spec : {M : Type 1} → statement M

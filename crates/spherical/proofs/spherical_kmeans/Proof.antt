@@ -5,6 +5,7 @@ use lib.ListN.{length}
 use borrow.Author.Needs.{needs}
 use Rattle.spherical.proofs.Refusals.{Ready, ready}
 use Rattle.spherical.proofs.Halves.{entry-runnable, entry-fillable, fillable-of, refused, done, number-is}
+use Rattle.spherical.proofs.Work.{work-is}
 use Rattle.spherical.proofs.spherical_kmeans.Statement.{statement}
 use Rattle.spherical.proofs.spherical_kmeans.Tie as tie
 
@@ -37,8 +38,12 @@ returns c =
     let e = refused (a .labels .now) (a .directions .now) (a .weights .now) (a .coords .now) (a .d) (a .k) (a .rounds) (a .restarts)
     (a .seed) (length (a .work .now)) (length (a .work-u32 .now)) (r .refusal .result) (r .refusal .ensures) (c .if1 .taken) in (
       e,
-      number-is (a .labels .now) (a .directions .now) (a .weights .now) (a .coords .now) (a .d) (a .k) (a .rounds) (a .restarts) (a .seed)
-          (length (a .work .now)) (length (a .work-u32 .now)) _ _ _ e,
+      (
+        number-is (a .labels .now) (a .directions .now) (a .weights .now) (a .coords .now) (a .d) (a .k) (a .rounds) (a .restarts) (a .seed)
+            (length (a .work .now)) (length (a .work-u32 .now)) _ _ _ e,
+        work-is (a .weights .now) (a .coords .now) (a .d) (a .k) (a .rounds) (a .seed) (a .restarts) (a .labels .now) (a .directions .now)
+            (length (a .work .now)) (length (a .work-u32 .now)) _ _ _ e,
+      ),
     )
 
 run-all-requires : tie.Need-run-all-requires
@@ -73,8 +78,12 @@ returns-2 c =
     (f .run-all .last .0) (f .run-all .last .1 .0) (f .run-all .result) _ _ (f .run-all .ensures) (o .fill-outputs .ensures .0)
     (o .fill-outputs .ensures .1) in (
       q,
-      number-is (a .labels .now) (a .directions .now) (a .weights .now) (a .coords .now) (a .d) (a .k) (a .rounds) (a .restarts) (a .seed)
-          (length (a .work .now)) (length (a .work-u32 .now)) _ _ _ q,
+      (
+        number-is (a .labels .now) (a .directions .now) (a .weights .now) (a .coords .now) (a .d) (a .k) (a .rounds) (a .restarts) (a .seed)
+            (length (a .work .now)) (length (a .work-u32 .now)) _ _ _ q,
+        work-is (a .weights .now) (a .coords .now) (a .d) (a .k) (a .rounds) (a .seed) (a .restarts) (a .labels .now) (a .directions .now)
+            (length (a .work .now)) (length (a .work-u32 .now)) _ _ _ q,
+      ),
     )
 
 pub spherical-kmeans-spec : {M : Type 1} → statement M
