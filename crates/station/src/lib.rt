@@ -248,13 +248,13 @@ pub extern "C" fn mosterklomp_movmf_auto_with(
         (now (counts .entry))) (o .answer)) × (arrays (now (labels .exit)) (now (responsibilities .exit))
         (now («group_weights» .exit)) (now (directions .exit)) (now (concentrations .exit)) (now (logw .exit))
         ≡ o .outputs)) ⌝ }
-    ensures { λ r. ⌜ kindOk kappa ≡ true → KeepsBest (arrays (now (labels .entry)) (now (responsibilities .entry))
+    ensures { λ r. ⌜ (kindOk kappa ≡ true → KeepsBest (arrays (now (labels .entry)) (now (responsibilities .entry))
         (now («group_weights» .entry)) (now (directions .entry)) (now (concentrations .entry)) (now (logw .entry)))
         (now (weights .entry)) (now (coords .entry)) d (record { rounds = rounds; seed = seed; kappa = kappaOf kappa })
         «k_min» «k_max» (length (now (work .entry))) (length (now («work_u32» .entry)))
         (chosen r (now (groups .exit)) (now (loglik .exit)) (now (score .exit)) (now (counts .exit)))
         (arrays (now (labels .exit)) (now (responsibilities .exit)) (now («group_weights» .exit))
-        (now (directions .exit)) (now (concentrations .exit)) (now (logw .exit))) ⌝ }
+        (now (directions .exit)) (now (concentrations .exit)) (now (logw .exit)))) ⌝ }
     ensures { λ r. ⌜ LabelsFirst (length (now (weights .entry))) r (now (groups .exit))
         (arrays (now (labels .exit)) (now (responsibilities .exit)) (now («group_weights» .exit))
         (now (directions .exit)) (now (concentrations .exit)) (now (logw .exit))) ⌝ }
