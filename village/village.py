@@ -14,7 +14,7 @@ quarters. The random numbers are SplitMix64's from seed 7, so the table is the s
 
 `equal`: ten shops that sell mostly bread and ten that sell mostly wine, each the mirror of another, and a new shop of
 one basket that sells as much of both: it is equally like two groups, to the last bit. `nearer`: the same village, and
-the new shop's wine one bit more.
+the new shop's bread one bit more.
 """
 
 import sys
@@ -59,13 +59,13 @@ def table():
         yield ", ".join([str(baskets)] + ["%.4f" % x for x in shares])
 
 
-def mirrored(wine):
+def mirrored(bread):
     yield "# baskets, bread, wine"
     for i in range(10):
         less = [0.0, 0.125, 0.25][i % 3]
         yield "1000, 1.0, %s" % less
         yield "1000, %s, 1.0" % less
-    yield "1, 0.7, %s" % wine
+    yield "1, %s, 0.7" % bread
 
 
 TABLES = {"shops": table, "equal": lambda: mirrored("0.7"), "nearer": lambda: mirrored("0.7000000000000001")}

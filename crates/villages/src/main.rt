@@ -1,5 +1,5 @@
-// Lists the leaf files that its arguments name, one after the other, each behind its name. The gate runs it on two
-// villages that differ in one bit: in the first a shop is equally like two groups, in the second nearer to the higher.
+// Lists the two leaf files that its arguments name, each behind its name. The gate runs it on two villages that differ
+// in one bit: in the first a shop is equally like two groups, in the second it is nearer to one of them.
 
 // The listing of an open file.
 fn list_open(fd: i32) {
@@ -11,13 +11,15 @@ fn list_open(fd: i32) {
     io::write_all(1, &text[..end]);
 }
 
-// The name of a file and its listing.
-fn list_named(path: &[u8]) {
-    io::write_all(1, path);
+// The name of a file, which is argument i, and its listing.
+fn list_named(i: usize) {
+    let mut path = io::buffer();
+    let n = os::arg(i, &mut path);
+    io::write_all(1, &path[..n]);
     io::write_all(1, b":\n");
-    let fd = os::open_read(path);
+    let fd = os::open_read(&path[..n]);
     if fd < 0 {
-        os::fail(path);
+        os::fail(&path[..n]);
         return;
     }
     list_open(fd);
@@ -25,10 +27,6 @@ fn list_named(path: &[u8]) {
 }
 
 fn main() {
-    let count = os::arg_count();
-    for i in 1..count {
-        let mut path = io::buffer();
-        let n = os::arg(i, &mut path);
-        list_named(&path[..n]);
-    }
+    list_named(1);
+    list_named(2);
 }
