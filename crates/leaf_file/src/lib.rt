@@ -10,6 +10,13 @@ ghost use Rattle.leaf_file.specs.Listing.{decimalIn, numberLine, shopLin
 ghost use Rattle.leaf_file.specs.Listing.{textOf, listing};
 ghost use Rattle.leaf_file.specs.Texts.{Sized, Put, Counted};
 
+// The greatest numbers of leaves of a file, of coordinates of a leaf, and of groups tried.
+const LEAVES: usize = 64;
+
+const COORDINATES: usize = 16;
+
+const GROUPS: usize = 4;
+
 // ---- reading
 
 fn wide(b: u8) -> u64
@@ -56,10 +63,10 @@ fn load(out: &mut [f64], bytes: &[u8], at: usize)
 fn sizes_refusal(n: usize, m: u64, d: u64) -> u32
     ensures { λ r. ⌜ r ≡ refusalBy n m d ⌝ }
 {
-    if m > 64 {
+    if m > LEAVES as u64 {
         return 9;
     }
-    if d > 16 {
+    if d > COORDINATES as u64 {
         return 9;
     }
     let leaves = m as usize;
@@ -90,19 +97,19 @@ fn fit_leaves(weights: &[f64], coords: &[f64], d: usize, labels: &mut [u32]) -> 
     ensures { λ r. ⌜ LeavesKeepBest (record { d = d; weights = now (weights .entry); coords = now (coords .entry) })
         (now (labels .entry)) r ⌝ }
 {
-    let mut responsibilities = [0.0; 256];
-    let mut group_weights = [0.0; 4];
-    let mut directions = [0.0; 64];
-    let mut concentrations = [0.0; 4];
-    let mut logw = [0.0; 4];
-    let mut work = [0.0; 1344];
-    let mut work_u32 = [0u32; 136];
+    let mut responsibilities = [0.0; LEAVES * GROUPS];
+    let mut group_weights = [0.0; GROUPS];
+    let mut directions = [0.0; GROUPS * COORDINATES];
+    let mut concentrations = [0.0; GROUPS];
+    let mut logw = [0.0; GROUPS];
+    let mut work = [0.0; 2 * LEAVES * GROUPS + 4 * GROUPS * COORDINATES + 8 * LEAVES + 16 * GROUPS];
+    let mut work_u32 = [0u32; 2 * LEAVES + 2 * GROUPS];
     auto::movmf_auto(
         weights,
         coords,
         d,
         1,
-        4,
+        GROUPS,
         100,
         7,
         labels,
@@ -149,8 +156,8 @@ pub fn fit_file(bytes: &[u8], labels: &mut [u32]) -> auto::Chosen
     }
     let m = u32_at(bytes, 0) as usize;
     let d = u32_at(bytes, 4) as usize;
-    let mut weights = [0.0; 64];
-    let mut coords = [0.0; 1024];
+    let mut weights = [0.0; LEAVES];
+    let mut coords = [0.0; LEAVES * COORDINATES];
     fit_sized(bytes, m, d, &mut weights, &mut coords, labels)
 }
 
@@ -276,7 +283,7 @@ fn shops(bytes: &[u8]) -> usize
         return 0;
     }
     let m = u32_at(bytes, 0);
-    if m > 64 {
+    if m > LEAVES as u64 {
         return 0;
     }
     m as usize
@@ -288,7 +295,7 @@ pub fn list_file(bytes: &[u8], out: &mut [u8; 4096]) -> usize
         × (now (out .exit) ≡ listing (now (bytes .entry)) ++ drop r (now (out .entry))) ⌝ }
     ensures { λ r. ⌜ Counted r (now (out .exit)) ⌝ }
 {
-    let mut labels = [0u32; 64];
+    let mut labels = [0u32; LEAVES];
     let r = fit_file(bytes, &mut labels);
     let m = shops(bytes);
     put_answer(out, r, &labels[..m])
