@@ -18,7 +18,7 @@ use Rattle.auto.specs.Outcome.{Outcome as ChosenOutcome}
 use Rattle.auto.specs.Answers.{Numbers as ChosenNumbers, numbersOf as chosenNumbersOf}
 use Rattle.auto.specs.declared.Chosen.{Chosen}
 use Rattle.auto.specs.declared.Chosen.the-variants.{Refused as ChosenRefused}
-use Rattle.station.specs.Answers.{kappaOf, kindOk, fittedBy, chosenBy}
+use Rattle.border.specs.Answers.{kappaOf, kindOk, fittedBy, chosenBy}
 
 pub clustered-call : (found n : ClusteredNumbers) (a : Clustered) (ls : List ℕ) (ds : List Float) (o : ClusteredOutcome)
     → _≡_ {A = ClusteredOutcome} (record { answer = a; labels = ls; directions = ds }) o → n ≡ clusteredNumbersOf found a

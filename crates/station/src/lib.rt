@@ -14,101 +14,7 @@ ghost use Rattle.auto.specs.Outcome.{outcome as chosenOutcome};
 ghost use Rattle.auto.specs.Answers.{numbersOf as chosenNumbersOf};
 ghost use Rattle.auto.specs.Best.{KeepsBest};
 ghost use Rattle.mixture_kappa.specs.declared.Kappa.{Kappa};
-ghost use Rattle.station.specs.Answers.{kappaOf, kindOk, fittedBy, chosenBy, clustered, fitted, chosen};
-
-// ---- the answers' cases
-
-// The kinds of Kappa that the border knows: 0 Free, 1 Shared.
-fn kind_ok(kind: u32) -> bool
-    ensures { λ r. ⌜ r ≡ kindOk kind ⌝ }
-{
-    kind <= 1
-}
-
-// Shared or Free.
-fn kappa_of(kind: u32) -> mixture_kappa::Kappa
-    ensures { λ r. ⌜ r ≡ kappaOf kind ⌝ }
-{
-    if kind == 1 {
-        mixture_kappa::Kappa::Shared
-    } else {
-        mixture_kappa::Kappa::Free
-    }
-}
-
-// The number of the refusal; the cohesion and the counts where there is none.
-fn give_clustered(a: spherical::Clustered, cohesion: &mut f64, counts: &mut [u64; 2]) -> u32
-    ensures { λ r. ⌜ clustered r (now (cohesion .exit)) (now (counts .exit))
-        ≡ clusteredNumbersOf (clustered 0 (now (cohesion .entry)) (now (counts .entry))) a ⌝ }
-{
-    match a {
-        spherical::Clustered::Refused(code) => code,
-        spherical::Clustered::Done {
-            cohesion: found,
-            counts: more,
-        } => {
-            *cohesion = found;
-            *counts = [more.made, more.saved];
-            0
-        }
-    }
-}
-
-// The number of the refusal; the number of groups, the log-likelihood and the counts where there is none.
-fn give_fitted(a: movmf::Fitted, groups: &mut usize, loglik: &mut f64, counts: &mut [u64; 2]) -> u32
-    ensures { λ r. ⌜ fitted r (now (groups .exit)) (now (loglik .exit)) (now (counts .exit))
-        ≡ fittedNumbersOf (fitted 0 (now (groups .entry)) (now (loglik .entry)) (now (counts .entry))) a ⌝ }
-{
-    match a {
-        movmf::Fitted::Refused(code) => code,
-        movmf::Fitted::Done {
-            k,
-            loglik: found,
-            counts: more,
-        } => {
-            *groups = k;
-            *loglik = found;
-            *counts = [more.made, more.saved];
-            0
-        }
-    }
-}
-
-// The number of the refusal; the number kept, its log-likelihood and score where there is none; the counts there and
-// with 7.
-fn give_chosen(
-    a: auto::Chosen,
-    groups: &mut usize,
-    loglik: &mut f64,
-    score: &mut f64,
-    counts: &mut [u64; 2],
-) -> u32
-    ensures { λ r. ⌜ chosen r (now (groups .exit)) (now (loglik .exit)) (now (score .exit)) (now (counts .exit))
-        ≡ chosenNumbersOf (chosen 0 (now (groups .entry)) (now (loglik .entry)) (now (score .entry))
-        (now (counts .entry))) a ⌝ }
-{
-    match a {
-        auto::Chosen::Refused(code) => code,
-        auto::Chosen::Unscored { counts: more } => {
-            *counts = [more.made, more.saved];
-            7
-        }
-        auto::Chosen::Done {
-            k,
-            loglik: found,
-            score: kept,
-            counts: more,
-        } => {
-            *groups = k;
-            *loglik = found;
-            *score = kept;
-            *counts = [more.made, more.saved];
-            0
-        }
-    }
-}
-
-// ---- the exported functions
+ghost use Rattle.border.specs.Answers.{kappaOf, kindOk, fittedBy, chosenBy, clustered, fitted, chosen};
 
 // `spherical::spherical_kmeans`.
 #[no_mangle]
@@ -147,7 +53,7 @@ pub extern "C" fn mosterklomp_spherical_kmeans(
         work,
         work_u32,
     );
-    give_clustered(a, cohesion, counts)
+    border::give_clustered(a, cohesion, counts)
 }
 
 // `movmf::movmf_with`.
@@ -186,10 +92,10 @@ pub extern "C" fn mosterklomp_movmf_with(
         (arrays (now (labels .exit)) (now (responsibilities .exit)) (now («group_weights» .exit))
         (now (directions .exit)) (now (concentrations .exit)) (now (logw .exit))) ⌝ }
 {
-    if !kind_ok(kappa) {
+    if !border::kind_ok(kappa) {
         return 13;
     }
-    let kappa = kappa_of(kappa);
+    let kappa = border::kappa_of(kappa);
     let s = mixture_kappa::Settings {
         rounds,
         seed,
@@ -210,7 +116,7 @@ pub extern "C" fn mosterklomp_movmf_with(
         work,
         work_u32,
     );
-    give_fitted(a, groups, loglik, counts)
+    border::give_fitted(a, groups, loglik, counts)
 }
 
 // `auto::movmf_auto_with`.
@@ -259,10 +165,10 @@ pub extern "C" fn mosterklomp_movmf_auto_with(
         (arrays (now (labels .exit)) (now (responsibilities .exit)) (now («group_weights» .exit))
         (now (directions .exit)) (now (concentrations .exit)) (now (logw .exit))) ⌝ }
 {
-    if !kind_ok(kappa) {
+    if !border::kind_ok(kappa) {
         return 13;
     }
-    let kappa = kappa_of(kappa);
+    let kappa = border::kappa_of(kappa);
     let s = mixture_kappa::Settings {
         rounds,
         seed,
@@ -284,5 +190,5 @@ pub extern "C" fn mosterklomp_movmf_auto_with(
         work,
         work_u32,
     );
-    give_chosen(a, groups, loglik, score, counts)
+    border::give_chosen(a, groups, loglik, score, counts)
 }

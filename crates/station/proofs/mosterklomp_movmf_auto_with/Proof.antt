@@ -13,7 +13,7 @@ use Rattle.mixture_kappa.specs.declared.Settings.{Settings}
 use Rattle.auto.specs.Outcome.{Outcome, outcome}
 use Rattle.auto.specs.Answers.{Numbers}
 use Rattle.auto.specs.Best.{KeepsBest}
-use Rattle.station.specs.Answers.{kappaOf, kindOk, chosen}
+use Rattle.border.specs.Answers.{kappaOf, kindOk, chosen}
 use Rattle.station.proofs.Calls.{chosen-call, chosen-none, given}
 use Rattle.station.proofs.mosterklomp_movmf_auto_with.Statement.{statement}
 use Rattle.station.proofs.mosterklomp_movmf_auto_with.Tie as tie

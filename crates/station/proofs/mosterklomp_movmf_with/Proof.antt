@@ -11,7 +11,7 @@ use Rattle.mixture_outputs.specs.Outputs.{Outputs, arrays}
 use Rattle.mixture_outputs.specs.Labels.{LabelsFirst}
 use Rattle.movmf.specs.Outcome.{Outcome, outcome}
 use Rattle.movmf.specs.Answers.{Numbers}
-use Rattle.station.specs.Answers.{kappaOf, kindOk, fitted}
+use Rattle.border.specs.Answers.{kappaOf, kindOk, fitted}
 use Rattle.station.proofs.Calls.{fitted-call, fitted-none, given}
 use Rattle.station.proofs.mosterklomp_movmf_with.Statement.{statement}
 use Rattle.station.proofs.mosterklomp_movmf_with.Tie as tie

@@ -3,7 +3,7 @@
 use lib.ListN.{length}
 use borrow.Author.Needs.{needs}
 use Rattle.spherical.specs.Outcome.{outcome}
-use Rattle.station.specs.Answers.{clustered}
+use Rattle.border.specs.Answers.{clustered}
 use Rattle.station.proofs.Calls.{clustered-call}
 use Rattle.station.proofs.mosterklomp_spherical_kmeans.Statement.{statement}
 use Rattle.station.proofs.mosterklomp_spherical_kmeans.Tie as tie

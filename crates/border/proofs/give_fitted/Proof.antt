@@ -1,7 +1,7 @@
--- `station::give_fitted` meets its contract: a case of `fittedNumbers` for each answer, which the match tells. Assumes nothing.
+-- `border::give_fitted` meets its contract: a case of `fittedNumbers` for each answer, which the match tells. Assumes nothing.
 use borrow.Author.Needs.{needs}
-use Rattle.station.proofs.give_fitted.Statement.{statement}
-use Rattle.station.proofs.give_fitted.Tie as tie
+use Rattle.border.proofs.give_fitted.Statement.{statement}
+use Rattle.border.proofs.give_fitted.Tie as tie
 
 returns : tie.Need-returns
 returns c = rw (c .before .a .given .1)

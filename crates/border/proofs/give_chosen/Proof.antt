@@ -1,7 +1,7 @@
--- `station::give_chosen` meets its contract: a case of `chosenNumbers` for each answer, which the match tells. Assumes nothing.
+-- `border::give_chosen` meets its contract: a case of `chosenNumbers` for each answer, which the match tells. Assumes nothing.
 use borrow.Author.Needs.{needs}
-use Rattle.station.proofs.give_chosen.Statement.{statement}
-use Rattle.station.proofs.give_chosen.Tie as tie
+use Rattle.border.proofs.give_chosen.Statement.{statement}
+use Rattle.border.proofs.give_chosen.Tie as tie
 
 returns : tie.Need-returns
 returns c = rw (c .before .a .given .1)
