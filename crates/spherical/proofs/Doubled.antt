@@ -4,7 +4,7 @@ use lib.ListN.{length}
 use Prim.Native.Nat.{ℕ, max}
 use Rattle.counts.proofs.Sums.{none-over}
 use Rattle.kmeans_lloyd.proofs.Doubled.{never-doubled}
-use Rattle.spherical.specs.Restarts.{generatorBefore}
+use Rattle.kmeans_restarts.specs.Restarts.{generatorBefore}
 use Rattle.spherical.specs.Doubled.{CallsNeverDoubled}
 use Rattle.spherical.proofs.Refusals.{ready}
 

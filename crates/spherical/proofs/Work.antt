@@ -9,7 +9,7 @@ use lib.ListN.{length}
 use lib.Ieee.{Float}
 use Rattle.counts.specs.Counts.{sumOver}
 use Rattle.kmeans_lloyd.proofs.Runs.{run-counts}
-use Rattle.spherical.specs.Restarts.{restartsUpTo, kmeansOf, generatorBefore}
+use Rattle.kmeans_restarts.specs.Restarts.{restartsUpTo, kmeansOf, generatorBefore}
 use Rattle.spherical.specs.Work.{begun, products, CountsEveryRound}
 use Rattle.spherical.specs.Refusals.{refusalOf}
 use Rattle.spherical.specs.Outcome.{Outcome, outcomeBy, outcome}

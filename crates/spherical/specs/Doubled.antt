@@ -7,7 +7,7 @@ use lib.ListN.{length}
 use lib.Ieee.{Float}
 use Rattle.counts.specs.Counts.{sumOver}
 use Rattle.kmeans_lloyd.specs.Doubled.{doubledOf}
-use Rattle.spherical.specs.Restarts.{generatorBefore}
+use Rattle.kmeans_restarts.specs.Restarts.{generatorBefore}
 use Rattle.spherical.specs.Refusals.{refusalOf}
 
 -- doubled, over all restarts; 0 restarts act as 1

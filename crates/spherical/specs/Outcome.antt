@@ -5,7 +5,7 @@ use Prim.Native.Nat.{ℕ, zero, suc, _*_}
 use lib.ListN.{length, drop}
 use lib.Ieee.{Float}
 use Rattle.kmeans_lloyd.specs.Results.{Result}
-use Rattle.spherical.specs.Restarts.{kmeansOf}
+use Rattle.kmeans_restarts.specs.Restarts.{kmeansOf}
 use Rattle.spherical.specs.Refusals.{refusalOf}
 use Rattle.spherical.specs.declared.Clustered.{Clustered}
 use Rattle.spherical.specs.declared.Clustered.the-variants.{Refused, Done}

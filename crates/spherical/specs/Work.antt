@@ -7,7 +7,7 @@ use lib.ListN.{length}
 use lib.Ieee.{Float}
 use Rattle.counts.specs.Counts.{sumOver}
 use Rattle.kmeans_lloyd.specs.Results.{resultOf}
-use Rattle.spherical.specs.Restarts.{generatorBefore}
+use Rattle.kmeans_restarts.specs.Restarts.{generatorBefore}
 use Rattle.spherical.specs.Answers.{Numbers, numbersOf}
 use Rattle.spherical.specs.declared.Clustered.{Clustered}
 

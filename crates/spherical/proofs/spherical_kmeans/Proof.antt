@@ -4,7 +4,8 @@ use mathlib.Core.Path.{sym, _∙_}
 use lib.ListN.{length}
 use borrow.Author.Needs.{needs}
 use Rattle.spherical.proofs.Refusals.{Ready, ready}
-use Rattle.spherical.proofs.Halves.{entry-runnable, entry-fillable, fillable-of, refused, done, number-is}
+use Rattle.kmeans_restarts.proofs.Halves.{fillable-of}
+use Rattle.spherical.proofs.Outcomes.{entry-runnable, entry-fillable, refused, done, number-is}
 use Rattle.spherical.proofs.Work.{work-is}
 use Rattle.spherical.proofs.spherical_kmeans.Statement.{statement}
 use Rattle.spherical.proofs.spherical_kmeans.Tie as tie

@@ -13,7 +13,7 @@ use Rattle.kmeans_layout.specs.Areas.{stateIn}
 use Rattle.kmeans_layout.specs.Halves.{half, heldAt, freeAt, OnlyAt, heldAfter}
 use Rattle.kmeans_lloyd.specs.Results.{Result}
 use Rattle.kmeans_lloyd.specs.declared.RunEnd.{RunEnd}
-use Rattle.spherical.specs.declared.Restarts.{Restarts}
+use Rattle.kmeans_restarts.specs.declared.Restarts.{Restarts}
 
 -- the state in the half that starts at these places
 abbrev pub stateAt : (m k d : ℕ) → List Float → List ℕ → (a b : ℕ) → State

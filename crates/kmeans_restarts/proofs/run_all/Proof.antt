@@ -1,14 +1,14 @@
--- `spherical::run_all` meets its contract. The loop's invariant: after t runs the held half has what the definition holds
+-- `kmeans_restarts::run_all` meets its contract. The loop's invariant: after t runs the held half has what the definition holds
 -- after t − 1 restarts, t from 1 to max restarts 1; the sizes and the lengths stay. Assumes nothing.
 use mathlib.Core.Path.{_≡_, refl, _∙_}
 use Prim.Native.Nat.{_-_, _≤_, max}
 use native.Mathlib.Omega.{arith}
 use lib.ListN.{length}
-use Rattle.spherical.specs.Restarts.{restartsUpTo}
-use Rattle.spherical.specs.Halves.{Runnable, Holds}
-use Rattle.spherical.proofs.Halves.{runnable-of, held-small, first-held, restart-turn, restart-end}
-use Rattle.spherical.proofs.run_all.Statement.{statement}
-use Rattle.spherical.proofs.run_all.Tie as tie
+use Rattle.kmeans_restarts.specs.Restarts.{restartsUpTo}
+use Rattle.kmeans_restarts.specs.Halves.{Runnable, Holds}
+use Rattle.kmeans_restarts.proofs.Halves.{runnable-of, held-small, first-held, restart-turn, restart-end}
+use Rattle.kmeans_restarts.proofs.run_all.Statement.{statement}
+use Rattle.kmeans_restarts.proofs.run_all.Tie as tie
 
 abbrev Inv-loop : tie.InvT-loop
 Inv-loop work₀ work-u32₀ weights coords seed m k d rounds restarts h₀ t₀ work work-u32 h t =

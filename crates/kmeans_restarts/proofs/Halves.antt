@@ -1,10 +1,9 @@
 -- The two halves of the work arrays: a run in the free half leaves the held one, so what is held after it is what the
--- definition keeps; and from what a call was not refused for to the sizes of both halves and the two ends of the entry.
--- By cases on which half is held and on which run is kept, over plain lists. Assumes nothing.
-use mathlib.Core.Path.{_≡_, refl, ap, sym, subst, _∙_}
-use mathlib.Core.List.{List, _++_}
+-- definition keeps. By cases on which half is held and on which run is kept, over plain lists. Assumes nothing.
+use mathlib.Core.Path.{_≡_, ap, sym, _∙_}
+use mathlib.Core.List.{List}
 use mathlib.Core.Bool.{Bool, true, false, not, cond}
-use Prim.Native.Nat.{ℕ, zero, suc, _+_, _*_, _-_, _≤_, max}
+use Prim.Native.Nat.{ℕ, suc, _+_, _*_, _-_, _≤_, max}
 use native.Mathlib.Omega.{arith}
 use lib.ListN.{length, take, drop}
 use lib.Seq.{take-take}
@@ -13,7 +12,6 @@ use Rattle.rows.specs.Rows.{part, putPart}
 use Rattle.rows.proofs.Rows.{length-part}
 use Rattle.counts.specs.Counts.{plusOf, AtMost, ofRuns}
 use Rattle.counts.proofs.Sums.{at-most-more, at-most-plus}
-use Rattle.limits.proofs.Sizes.{sizes-of}
 use Rattle.kmeans_layout.specs.State.{State}
 use Rattle.kmeans_layout.specs.Areas.{stateIn}
 use Rattle.kmeans_layout.specs.Halves.{half, heldAt, freeAt}
@@ -22,15 +20,9 @@ use Rattle.kmeans_layout.proofs.Halves.{put-there, held-left}
 use Rattle.kmeans_lloyd.specs.Results.{Result, resultOf}
 use Rattle.kmeans_lloyd.specs.Runs.{Runnable as RunRunnable, RunDone}
 use Rattle.kmeans_lloyd.specs.declared.RunEnd.{RunEnd}
-use Rattle.spherical.specs.Restarts.{counted, keep, restartsUpTo, kmeansOf}
-use Rattle.spherical.specs.Refusals.{refusalOf}
-use Rattle.spherical.specs.Outcome.{Outcome, outcomeBy, outcome}
-use Rattle.spherical.specs.Answers.{AnswersWith}
-use Rattle.spherical.specs.Halves.{stateAt, TwoHalves, Runnable, Fillable, InHalf, RunAt, RunBeside, Holds, withRun, Restarted}
-use Rattle.spherical.specs.declared.Restarts.{Restarts}
-use Rattle.spherical.specs.declared.Clustered.{Clustered}
-use Rattle.spherical.specs.declared.Clustered.the-variants.{Refused, Done}
-use Rattle.spherical.proofs.Refusals.{Ready}
+use Rattle.kmeans_restarts.specs.Restarts.{counted, keep, restartsUpTo, kmeansOf}
+use Rattle.kmeans_restarts.specs.Halves.{stateAt, Runnable, Fillable, InHalf, RunAt, RunBeside, Holds, withRun, Restarted}
+use Rattle.kmeans_restarts.specs.declared.Restarts.{Restarts}
 
 -- ---- a region of a half, as it is cut out of the array
 module _ (m k d : ℕ) (w : List Float) (u : List ℕ) (a b : ℕ) where
@@ -198,55 +190,7 @@ module _ (weights coords : List Float) (m k d rounds seed : ℕ) where
         small = held-small (restartsUpTo weights coords m k d rounds seed (t - 1)) w u m k d t h g v;
       }
 
--- ---- the entry
-module _ (weights coords : List Float) (d k rounds restarts labels directions work workU32 : ℕ)
-    (r : Ready weights coords d k rounds restarts labels directions work workU32) where
-  halves : TwoHalves work workU32 (length weights) k d
-  halves =
-      record {
-        sizes = r .sizes;
-        work-long = omega (arith, r .work-long);
-        workU32-long = omega (arith, r .workU32-long);
-      }
-
-  pub entry-runnable : Runnable work workU32 (length weights) (length coords) (length weights) k d rounds
-  entry-runnable = record { halves = halves; weights-long = refl; coords-long = r .coords-long; rounds-small = r .rounds-small }
-
-  pub entry-fillable : Fillable labels directions work workU32 (length weights) k d
-  entry-fillable = record { halves = halves; labels-long = r .labels-long; directions-long = r .directions-long }
-
+-- arrays of the same lengths can be filled from as well
 pub fillable-of : (labels directions w w' u u' m k d : ℕ) → w' ≡ w → u' ≡ u → Fillable labels directions w u m k d
     → Fillable labels directions w' u' m k d
 fillable-of labels directions w w' u u' m k d e f v = rw (e, f) v
-
--- its two ends, by the number of the refusal
-module _ (ls : List ℕ) (ds weights coords : List Float) (d k rounds restarts seed work workU32 : ℕ) where
-  pub refused : (code : ℕ) → code ≡ refusalOf weights coords d k rounds restarts (length ls) (length ds) work workU32 → (code ≡ 0 → ⊥)
-      → _≡_ {A = Outcome} (record { answer = Refused code; labels = ls; directions = ds })
-      (outcome ls ds weights coords d k rounds restarts seed work workU32)
-  refused zero e h = absurd (h refl)
-  refused (suc code) e h = rw (← e)
-
-  pub done : (code : ℕ) → code ≡ refusalOf weights coords d k rounds restarts (length ls) (length ds) work workU32 → code ≡ 0
-      → (w : List Float) (u : List ℕ) (h : Restarts) (ls' : List ℕ) (ds' : List Float)
-      → Holds (kmeansOf weights coords (length weights) k d rounds restarts seed) w u (length weights) k d 64 h
-      → let s = stateAt (length weights) k d w u (heldAt (h .held .second) (half (length weights) k d))
-      (heldAt (h .held .second) (length weights + k)) in
-      ls' ≡ s .labels ++ drop (length weights) ls → ds' ≡ s .centers ++ drop (k * d) ds
-      → _≡_ {A = Outcome} (record { answer = Done (h .held .value) (h .held .counts); labels = ls'; directions = ds' })
-      (outcome ls ds weights coords d k rounds restarts seed work workU32)
-  done code e z w u h ls' ds' v el ed =
-      rw (← e, z, el, ed, v .there .labels, v .there .centers, v .cohesion, v .counts)
-
-  -- the number that the answer gives
-  number-by : (code : ℕ) → AnswersWith code (outcomeBy ls ds weights coords d k rounds restarts seed work workU32 code .answer)
-  number-by zero found = refl
-  number-by (suc code) found = refl
-
-  pub number-is : (a : Clustered) (ls' : List ℕ) (ds' : List Float)
-      → _≡_ {A = Outcome} (record { answer = a; labels = ls'; directions = ds' })
-      (outcome ls ds weights coords d k rounds restarts seed work workU32)
-      → AnswersWith (refusalOf weights coords d k rounds restarts (length ls) (length ds) work workU32) a
-  number-is a ls' ds' e =
-      let code = refusalOf weights coords d k rounds restarts (length ls) (length ds) work workU32 in
-      subst (λ (x : Outcome). AnswersWith code (x .answer)) (sym e) (number-by code)

@@ -1,4 +1,4 @@
--- `spherical::fill_outputs` meets its contract: two copies out of the held half, each of as many elements as the region that
+-- `kmeans_restarts::fill_outputs` meets its contract: two copies out of the held half, each of as many elements as the region that
 -- it reads. Assumes nothing.
 use mathlib.Core.Path.{_≡_, ap, sym, _∙_}
 use mathlib.Core.List.{List, _++_}
@@ -10,9 +10,9 @@ use lib.Ieee.{Float}
 use borrow.Author.Needs.{needs}
 use Rattle.kmeans_layout.specs.Halves.{half, heldAt}
 use Rattle.kmeans_layout.proofs.Halves.{held-within, alike}
-use Rattle.spherical.proofs.Halves.{labels-at, centers-at}
-use Rattle.spherical.proofs.fill_outputs.Statement.{statement}
-use Rattle.spherical.proofs.fill_outputs.Tie as tie
+use Rattle.kmeans_restarts.proofs.Halves.{labels-at, centers-at}
+use Rattle.kmeans_restarts.proofs.fill_outputs.Statement.{statement}
+use Rattle.kmeans_restarts.proofs.fill_outputs.Tie as tie
 
 abbrev half-at : tie.After-held-at2 → tie.After-half
 half-at c = c .before .before

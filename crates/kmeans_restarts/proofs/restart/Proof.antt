@@ -1,4 +1,4 @@
--- `spherical::restart` meets its contract: a run in the free half, which lies within the arrays whichever half is held, and
+-- `kmeans_restarts::restart` meets its contract: a run in the free half, which lies within the arrays whichever half is held, and
 -- what is held after it. Assumes nothing.
 use mathlib.Core.Path.{_≡_, ap, _∙_}
 use Prim.Native.Nat.{ℕ, _+_}
@@ -11,10 +11,10 @@ use Rattle.kmeans_layout.specs.Halves.{half, freeAt}
 use Rattle.kmeans_layout.specs.declared.Held.{Held}
 use Rattle.kmeans_layout.proofs.Halves.{free-within}
 use Rattle.kmeans_lloyd.specs.Results.{resultOf}
-use Rattle.spherical.specs.declared.Restarts.{Restarts}
-use Rattle.spherical.proofs.Halves.{run-at-of}
-use Rattle.spherical.proofs.restart.Statement.{statement}
-use Rattle.spherical.proofs.restart.Tie as tie
+use Rattle.kmeans_restarts.specs.declared.Restarts.{Restarts}
+use Rattle.kmeans_restarts.proofs.Halves.{run-at-of}
+use Rattle.kmeans_restarts.proofs.restart.Statement.{statement}
+use Rattle.kmeans_restarts.proofs.restart.Tie as tie
 
 abbrev start : tie.After-half → tie.Start
 start h = h .before .before .before .before .before .before

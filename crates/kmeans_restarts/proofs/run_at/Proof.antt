@@ -1,13 +1,13 @@
--- `spherical::run_at` meets its contract: the run comes back in its half with the rest as it was. Assumes nothing.
+-- `kmeans_restarts::run_at` meets its contract: the run comes back in its half with the rest as it was. Assumes nothing.
 use mathlib.Core.Path.{_≡_, ap, _∙_}
 use Prim.Native.Nat.{ℕ, _+_, _-_}
 use native.Mathlib.Omega.{arith}
 use borrow.Author.Needs.{needs}
 use Rattle.kmeans_layout.specs.Halves.{half}
 use Rattle.kmeans_lloyd.specs.Results.{resultOf}
-use Rattle.spherical.proofs.Halves.{run-done}
-use Rattle.spherical.proofs.run_at.Statement.{statement}
-use Rattle.spherical.proofs.run_at.Tie as tie
+use Rattle.kmeans_restarts.proofs.Halves.{run-done}
+use Rattle.kmeans_restarts.proofs.run_at.Statement.{statement}
+use Rattle.kmeans_restarts.proofs.run_at.Tie as tie
 
 abbrev start : tie.After-half → tie.Start
 start h = h .before .before .before .before .before

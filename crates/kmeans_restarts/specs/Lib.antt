@@ -1,0 +1,2 @@
+pub mod Restarts
+pub mod Halves
