@@ -54,11 +54,11 @@ returns c =
           (c .if1 .taken),
       (
         refused-best (found s) (a .weights .now) (a .coords .now) (a .d) (a .k-min) (a .k-max) (a .s) (length (a .work .now))
-            (length (a .work-u32 .now)) (l .result) (h .highest-number .result) (h .highest-number .ensures) (l .ensures) (r .refusal .result)
-            (r .refusal .ensures) (c .if1 .taken),
+            (length (a .work-u32 .now)) (l .result) (h .highest-number .result) (h .highest-number .ensures) (l .ensures)
+            (r .refusal .result) (r .refusal .ensures) (c .if1 .taken),
         refused-first (found s) (a .weights .now) (a .coords .now) (a .d) (a .k-min) (a .k-max) (a .s) (length (a .work .now))
-            (length (a .work-u32 .now)) (l .result) (h .highest-number .result) (h .highest-number .ensures) (l .ensures) (r .refusal .result)
-            (r .refusal .ensures) (c .if1 .taken),
+            (length (a .work-u32 .now)) (l .result) (h .highest-number .result) (h .highest-number .ensures) (l .ensures)
+            (r .refusal .result) (r .refusal .ensures) (c .if1 .taken),
       ),
     )
 
@@ -99,11 +99,11 @@ returns-2 c =
           (n .result) (c .answer .result) o (n .ensures) (c .answer .ensures) (e .if1 .left),
       (
         done-best (found s) (a .weights .now) (a .coords .now) (a .d) (a .k-min) (a .k-max) (a .s) (length (a .work .now))
-            (length (a .work-u32 .now)) (l .result) (h .highest-number .result) (h .highest-number .ensures) (l .ensures) (r .refusal .result)
-            (r .refusal .ensures) (n .result) (c .answer .result) o (n .ensures) (c .answer .ensures),
+            (length (a .work-u32 .now)) (l .result) (h .highest-number .result) (h .highest-number .ensures) (l .ensures)
+            (r .refusal .result) (r .refusal .ensures) (n .result) (c .answer .result) o (n .ensures) (c .answer .ensures),
         done-first (found s) (a .weights .now) (a .coords .now) (a .d) (a .k-min) (a .k-max) (a .s) (length (a .work .now))
-            (length (a .work-u32 .now)) (l .result) (h .highest-number .result) (h .highest-number .ensures) (l .ensures) (r .refusal .result)
-            (r .refusal .ensures) (n .result) (c .answer .result) o (n .ensures) (c .answer .ensures),
+            (length (a .work-u32 .now)) (l .result) (h .highest-number .result) (h .highest-number .ensures) (l .ensures)
+            (r .refusal .result) (r .refusal .ensures) (n .result) (c .answer .result) o (n .ensures) (c .answer .ensures),
       ),
     )
 

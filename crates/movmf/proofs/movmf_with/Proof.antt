@@ -71,8 +71,10 @@ returns c =
     (r .refusal .result) (refusal-is r) (c .if1 .taken) in (
       e,
       (
-        number-is (found s) (a .weights .now) (a .coords .now) (a .d) (a .k) (a .s) (length (a .work .now)) (length (a .work-u32 .now)) _ _ e,
-        first-is (found s) (a .weights .now) (a .coords .now) (a .d) (a .k) (a .s) (length (a .work .now)) (length (a .work-u32 .now)) _ _ e,
+        number-is (found s) (a .weights .now) (a .coords .now) (a .d) (a .k) (a .s) (length (a .work .now))
+            (length (a .work-u32 .now)) _ _ e,
+        first-is (found s) (a .weights .now) (a .coords .now) (a .d) (a .k) (a .s) (length (a .work .now))
+            (length (a .work-u32 .now)) _ _ e,
       ),
     )
 
@@ -104,8 +106,10 @@ returns-2 c =
     (f .fill-outputs .ensures) in (
       d,
       (
-        number-is (found s) (a .weights .now) (a .coords .now) (a .d) (a .k) (a .s) (length (a .work .now)) (length (a .work-u32 .now)) _ _ d,
-        first-is (found s) (a .weights .now) (a .coords .now) (a .d) (a .k) (a .s) (length (a .work .now)) (length (a .work-u32 .now)) _ _ d,
+        number-is (found s) (a .weights .now) (a .coords .now) (a .d) (a .k) (a .s) (length (a .work .now))
+            (length (a .work-u32 .now)) _ _ d,
+        first-is (found s) (a .weights .now) (a .coords .now) (a .d) (a .k) (a .s) (length (a .work .now))
+            (length (a .work-u32 .now)) _ _ d,
       ),
     )
 
