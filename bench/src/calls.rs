@@ -1,4 +1,5 @@
-// Random calls of the three entries: leaves of every sort, settings, arrays longer than needed, and now and then one or two faults.
+// Random calls of the three entries: leaves of every sort, settings, arrays longer than needed, and now and then one or
+// two faults.
 use crate::port::{Flat, Lent};
 use oracle::leaves::{leaves, SORTS};
 use oracle::rng::SplitMix64;
@@ -11,7 +12,8 @@ pub enum Fit {
     Auto,
 }
 
-// One call. The automatic fit tries k_min to k, the others k; only spherical k-means has restarts, only the mixtures have a Kappa.
+// One call. The automatic fit tries k_min to k, the others k; only spherical k-means has restarts, only the mixtures
+// have a Kappa.
 pub struct Call {
     pub fit: Fit,
     pub sort: usize,
@@ -29,8 +31,21 @@ pub struct Call {
 
 // The sorts of oracle/src/leaves.rs, in its order, and leaves of all of them mixed.
 pub const NAMES: [&str; SORTS + 1] = [
-    "clustered", "uniform", "duplicates", "zero leaves", "subnormal", "within 2, weight 2^40", "near-identical", "antipodal", "axes, zero weights", "tiny squares",
-    "uniform within 2", "first weight zero", "whole weights", "small weights", "mixed",
+    "clustered",
+    "uniform",
+    "duplicates",
+    "zero leaves",
+    "subnormal",
+    "within 2, weight 2^40",
+    "near-identical",
+    "antipodal",
+    "axes, zero weights",
+    "tiny squares",
+    "uniform within 2",
+    "first weight zero",
+    "whole weights",
+    "small weights",
+    "mixed",
 ];
 
 fn below(g: &mut SplitMix64, n: usize) -> usize {
@@ -52,13 +67,20 @@ fn set_of(sort: usize, m: usize, d: usize, seed: u64) -> Vec<Leaf> {
 }
 
 pub fn flat(leaves: &[Leaf]) -> Flat {
-    Flat { weights: leaves.iter().map(|l| l.weight).collect(), coords: leaves.iter().flat_map(|l| l.mean.clone()).collect() }
+    Flat {
+        weights: leaves.iter().map(|l| l.weight).collect(),
+        coords: leaves.iter().flat_map(|l| l.mean.clone()).collect(),
+    }
 }
 
 impl Call {
     // The greatest number of groups.
     pub fn most(&self) -> usize {
-        if self.fit == Fit::Auto { self.k.min(self.flat.weights.len()).max(1) } else { self.k }
+        if self.fit == Fit::Auto {
+            self.k.min(self.flat.weights.len()).max(1)
+        } else {
+            self.k
+        }
     }
 }
 
@@ -75,7 +97,11 @@ pub fn small(fit: Fit, g: &mut SplitMix64) -> Call {
     let restarts = [0, 1, 2, 3, 5][below(g, 5)];
     let k_min = if fit == Fit::Auto { [0, 1, 1, k.saturating_sub(2), k, k + 3][below(g, 6)] } else { k };
     // the automatic fit: a range that may reach past the leaves; with fewer rounds where it is long
-    let k = if fit == Fit::Auto { [k.min(5), k.min(5), k.min(5), k.min(5), k.min(5), k.min(5), k, 0, m + 5][below(g, 9)] } else { k };
+    let k = if fit == Fit::Auto {
+        [k.min(5), k.min(5), k.min(5), k.min(5), k.min(5), k.min(5), k, 0, m + 5][below(g, 9)]
+    } else {
+        k
+    };
     let rounds = if fit == Fit::Auto && k > 5 { rounds.min(7) } else { rounds };
     let sort = below(g, NAMES.len());
     let faults = [0, 0, 0, 1, 1, 2][below(g, 6)];
@@ -88,7 +114,8 @@ pub fn large(fit: Fit, g: &mut SplitMix64) -> Call {
         let (m, d, k) = (4096 - below(g, 4096) * below(g, 2), size(g, 256), size(g, 64));
         let rounds = [1, 2, 5, 10, 50, 100][below(g, 6)];
         let restarts = 1 + below(g, 2);
-        // passes over all products of leaves and groups; the mixture's cost about three times as much, beside four warm starts of some 30 passes
+        // passes over all products of leaves and groups; the mixture's cost about three times as much, beside four warm
+        // starts of some 30 passes
         let passes = match fit {
             Fit::Spherical => rounds * restarts,
             Fit::Mixture => 4 * (30 + 3 * rounds),
@@ -103,7 +130,10 @@ pub fn large(fit: Fit, g: &mut SplitMix64) -> Call {
 }
 
 #[allow(clippy::too_many_arguments)]
-fn call(fit: Fit, sort: usize, m: usize, d: usize, k_min: usize, k: usize, rounds: usize, restarts: usize, faults: usize, g: &mut SplitMix64) -> Call {
+fn call(
+    fit: Fit, sort: usize, m: usize, d: usize, k_min: usize, k: usize, rounds: usize, restarts: usize, faults: usize,
+    g: &mut SplitMix64,
+) -> Call {
     let flat = flat(&set_of(sort, m, d, g.next_u64()));
     let (seed, kappa) = (g.next_u64(), (below(g, 2) == 0) as u32);
     let mut c = Call { fit, sort, flat, d, k_min, k, rounds, restarts, seed, kappa, lent: Lent::new(0, 0, 0) };
@@ -118,7 +148,9 @@ fn call(fit: Fit, sort: usize, m: usize, d: usize, k_min: usize, k: usize, round
 
 // Each array up to five entries longer.
 fn lengthen(l: &mut Lent, g: &mut SplitMix64) {
-    for v in [&mut l.responsibilities, &mut l.weights, &mut l.directions, &mut l.concentrations, &mut l.logw, &mut l.work] {
+    for v in
+        [&mut l.responsibilities, &mut l.weights, &mut l.directions, &mut l.concentrations, &mut l.logw, &mut l.work]
+    {
         v.resize(v.len() + below(g, 6), 0.0);
     }
     for v in [&mut l.labels, &mut l.work_u32] {
@@ -128,7 +160,9 @@ fn lengthen(l: &mut Lent, g: &mut SplitMix64) {
 
 // Every entry a number of its own, which no fit gives.
 fn mark(l: &mut Lent) {
-    for v in [&mut l.responsibilities, &mut l.weights, &mut l.directions, &mut l.concentrations, &mut l.logw, &mut l.work] {
+    for v in
+        [&mut l.responsibilities, &mut l.weights, &mut l.directions, &mut l.concentrations, &mut l.logw, &mut l.work]
+    {
         v.iter_mut().enumerate().for_each(|(i, x)| *x = f64::from_bits(0x6A5A_0000_0000_0000 + i as u64));
     }
     for v in [&mut l.labels, &mut l.work_u32] {
@@ -148,8 +182,16 @@ fn spoil(c: &mut Call, g: &mut SplitMix64) {
         2 if c.fit != Fit::Spherical && any == 6 => c.kappa = [2, 3, 13, 256, u32::MAX][below(g, 5)],
         2 => c.rounds = [10001, 10001, 10002, 20000, far, far, 1 << 16][any],
         3 => shorten(c, g),
-        4 => put(&mut c.flat.weights, [f64::NAN, -1.0, f64::INFINITY, 1099511627776.0002, -5e-324, f64::NEG_INFINITY, -0.0][any], g),
-        _ => put(&mut c.flat.coords, [f64::NAN, 2.0000000000000004, -2.0000000000000004, f64::INFINITY, f64::NEG_INFINITY, 1e300, -2.0][any], g),
+        4 => put(
+            &mut c.flat.weights,
+            [f64::NAN, -1.0, f64::INFINITY, 1099511627776.0002, -5e-324, f64::NEG_INFINITY, -0.0][any],
+            g,
+        ),
+        _ => put(
+            &mut c.flat.coords,
+            [f64::NAN, 2.0000000000000004, -2.0000000000000004, f64::INFINITY, f64::NEG_INFINITY, 1e300, -2.0][any],
+            g,
+        ),
     }
 }
 
@@ -190,7 +232,11 @@ fn shorten(c: &mut Call, g: &mut SplitMix64) {
         v.truncate(cut(v.len(), g));
         return;
     }
-    let v = [&mut l.directions, &mut l.work, &mut l.responsibilities, &mut l.weights, &mut l.concentrations, &mut l.logw].into_iter().nth(any - 2).unwrap();
+    let v =
+        [&mut l.directions, &mut l.work, &mut l.responsibilities, &mut l.weights, &mut l.concentrations, &mut l.logw]
+            .into_iter()
+            .nth(any - 2)
+            .unwrap();
     v.truncate(cut(v.len(), g));
 }
 

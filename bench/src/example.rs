@@ -1,4 +1,5 @@
-// examples/station.c, compiled against include/mosterklomp.h and the library, must print what the original gives for its shops.
+// examples/station.c, compiled against include/mosterklomp.h and the library, must print what the original gives for
+// its shops.
 use oracle::standins::Leaf;
 use oracle::vmf::{self, Kappa};
 use std::path::Path;
@@ -6,11 +7,20 @@ use std::process::Command;
 
 // The shops of examples/station.c.
 const SALES: [[f64; 3]; 9] = [
-    [0.9, 0.1, 0.0], [0.8, 0.2, 0.1], [0.9, 0.0, 0.2], [0.1, 0.9, 0.1], [0.0, 0.8, 0.2], [0.2, 0.9, 0.0], [0.1, 0.0, 0.9], [0.0, 0.1, 0.8], [0.2, 0.1, 0.9],
+    [0.9, 0.1, 0.0],
+    [0.8, 0.2, 0.1],
+    [0.9, 0.0, 0.2],
+    [0.1, 0.9, 0.1],
+    [0.0, 0.8, 0.2],
+    [0.2, 0.9, 0.0],
+    [0.1, 0.0, 0.9],
+    [0.0, 0.1, 0.8],
+    [0.2, 0.1, 0.9],
 ];
 
 fn expected() -> String {
-    let set: Vec<Leaf> = SALES.iter().enumerate().map(|(i, s)| Leaf { mean: s.to_vec(), weight: 100.0 * (1 + i % 3) as f64 }).collect();
+    let set: Vec<Leaf> =
+        SALES.iter().enumerate().map(|(i, s)| Leaf { mean: s.to_vec(), weight: 100.0 * (1 + i % 3) as f64 }).collect();
     let r = vmf::movmf_auto_with::<f64, Leaf>(&set, 1, 4, 100, 7, Kappa::Free);
     let lines = r.labels.iter().enumerate().map(|(i, l)| format!("{i} {l}\n"));
     format!("groups {}\n{}", r.weights.len(), lines.collect::<String>())

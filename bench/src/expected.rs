@@ -23,9 +23,15 @@ pub fn refusal(c: &Call) -> u32 {
         return 3;
     }
     let l = &c.lent;
-    let mut long = l.labels.len() >= m && l.directions.len() >= k * c.d && l.work.len() >= 2 * m * k + 4 * k * c.d + 8 * m + 16 * k && l.work_u32.len() >= 2 * m + 2 * k;
+    let mut long = l.labels.len() >= m
+        && l.directions.len() >= k * c.d
+        && l.work.len() >= 2 * m * k + 4 * k * c.d + 8 * m + 16 * k
+        && l.work_u32.len() >= 2 * m + 2 * k;
     if c.fit != Fit::Spherical {
-        long &= l.responsibilities.len() >= m * k && l.weights.len() >= k && l.concentrations.len() >= k && l.logw.len() >= k;
+        long &= l.responsibilities.len() >= m * k
+            && l.weights.len() >= k
+            && l.concentrations.len() >= k
+            && l.logw.len() >= k;
     }
     if !long {
         return 4;
@@ -45,7 +51,13 @@ pub fn answer(c: &Call, l: &mut Lent) -> u32 {
     if code != 0 {
         return code;
     }
-    let set: Vec<Leaf> = c.flat.weights.iter().zip(c.flat.coords.chunks(c.d)).map(|(&weight, row)| Leaf { mean: row.to_vec(), weight }).collect();
+    let set: Vec<Leaf> = c
+        .flat
+        .weights
+        .iter()
+        .zip(c.flat.coords.chunks(c.d))
+        .map(|(&weight, row)| Leaf { mean: row.to_vec(), weight })
+        .collect();
     let kappa = if c.kappa == 1 { Kappa::Shared } else { Kappa::Free };
     counts::take();
     match c.fit {

@@ -1,6 +1,7 @@
-// Times the port against the original, in one run, the two taking turns: the best time of each, and how many times as fast the port is. `bench` prints the table and how
-// time grows; `bench quick` is the same with fewer turns; `bench only FIT M D K ROUNDS LEAVES SIDE SECONDS` runs one fit again and again, for a profiler: FIT is spherical,
-// movmf or auto, LEAVES clustered or uniform, SIDE port or rust.
+// Times the port against the original, in one run, the two taking turns: the best time of each, and how many times as
+// fast the port is. `bench` prints the table and how time grows; `bench quick` is the same with fewer turns; `bench
+// only FIT M D K ROUNDS LEAVES SIDE SECONDS` runs one fit again and again, for a profiler: FIT is spherical, movmf or
+// auto, LEAVES clustered or uniform, SIDE port or rust.
 use bench::calls::{flat, Fit};
 use bench::clock::seconds;
 use bench::port::{Flat, Lent};
@@ -40,7 +41,8 @@ fn unit(v: Vec<f64>) -> Vec<f64> {
     v.iter().map(|x| x / n).collect()
 }
 
-// m leaves: means of length 0.8 to 1, weights 1 to 4. Clustered: around k directions, within 27 degrees. Uniform: in any direction.
+// m leaves: means of length 0.8 to 1, weights 1 to 4. Clustered: around k directions, within 27 degrees. Uniform: in
+// any direction.
 fn leaves(sort: Leaves, m: usize, d: usize, k: usize) -> Vec<Leaf> {
     let mut g = SplitMix64::new(1000 * m as u64 + 10 * d as u64 + k as u64);
     let centres: Vec<Vec<f64>> = (0..k).map(|_| direction(d, &mut g)).collect();
@@ -70,7 +72,8 @@ fn port(r: &Row, f: &Flat, lent: &mut Lent) -> f64 {
     time
 }
 
-// Seconds of one call of the original, on leaves that are ready; what it returns is freed after the clock has stopped. The log-likelihood, or the cohesion.
+// Seconds of one call of the original, on leaves that are ready; what it returns is freed after the clock has stopped.
+// The log-likelihood, or the cohesion.
 fn original(r: &Row, leaves: &[Leaf]) -> (f64, f64) {
     let start = seconds();
     match r.fit {
@@ -118,21 +121,37 @@ fn print(r: &Row, turns: usize) {
     let (ours, theirs) = measure(r, turns);
     let groups = if r.fit == Fit::Auto { format!("{}..{}", r.k_min, r.k) } else { r.k.to_string() };
     let sort = if r.leaves == Leaves::Clustered { "clustered" } else { "uniform" };
-    println!("{:<23} {sort:<9} {:>5} {:>4} {groups:>6} {:>6} {:>10.3} {:>10.3} {:>6.2}", name(r), r.m, r.d, r.rounds, ours * 1e3, theirs * 1e3, theirs / ours);
+    println!(
+        "{:<23} {sort:<9} {:>5} {:>4} {groups:>6} {:>6} {:>10.3} {:>10.3} {:>6.2}",
+        name(r),
+        r.m,
+        r.d,
+        r.rounds,
+        ours * 1e3,
+        theirs * 1e3,
+        theirs / ours
+    );
 }
 
 fn head() {
-    println!("{:<23} {:<9} {:>5} {:>4} {:>6} {:>6} {:>10} {:>10} {:>6}", "fit", "leaves", "m", "d", "k", "rounds", "port ms", "Rust ms", "ratio");
+    println!(
+        "{:<23} {:<9} {:>5} {:>4} {:>6} {:>6} {:>10} {:>10} {:>6}",
+        "fit", "leaves", "m", "d", "k", "rounds", "port ms", "Rust ms", "ratio"
+    );
 }
 
 // The sizes with their round limits: of spherical_kmeans, and of the mixture.
-const SIZES: [(usize, usize, usize, usize, usize); 4] = [(4096, 16, 8, 100, 25), (4096, 64, 16, 50, 10), (1024, 256, 32, 50, 10), (4096, 3, 8, 100, 25)];
+const SIZES: [(usize, usize, usize, usize, usize); 4] =
+    [(4096, 16, 8, 100, 25), (4096, 64, 16, 50, 10), (1024, 256, 32, 50, 10), (4096, 3, 8, 100, 25)];
 
 fn table(turns: usize) {
     head();
     for leaves in [Leaves::Clustered, Leaves::Uniform] {
         for k in 1..=4 {
-            print(&Row { fit: Fit::Spherical, shared: false, leaves, m: 64, d: 16, k_min: k, k, rounds: 1000 }, 20 * turns);
+            print(
+                &Row { fit: Fit::Spherical, shared: false, leaves, m: 64, d: 16, k_min: k, k, rounds: 1000 },
+                20 * turns,
+            );
         }
         for shared in [false, true] {
             for k in 1..=4 {
@@ -152,7 +171,8 @@ fn table(turns: usize) {
 
 // One of m, d and k grows, the others stay.
 fn growth(turns: usize) {
-    let base = Row { fit: Fit::Spherical, shared: false, leaves: Leaves::Uniform, m: 1024, d: 16, k_min: 8, k: 8, rounds: 10 };
+    let base =
+        Row { fit: Fit::Spherical, shared: false, leaves: Leaves::Uniform, m: 1024, d: 16, k_min: 8, k: 8, rounds: 10 };
     for fit in [Fit::Spherical, Fit::Mixture] {
         println!("\n{}: m grows", name(&Row { fit, ..base }));
         head();
@@ -184,7 +204,11 @@ fn counters() {
         black_box(timed::counted_spherical_kmeans(&set, 8, 50, 1, SEED));
         with = with.min(seconds() - start);
     }
-    println!("\nthe original's spherical_kmeans, m 4096 d 16 k 8, without counters {:.3} ms, with counters {:.3} ms", without * 1e3, with * 1e3);
+    println!(
+        "\nthe original's spherical_kmeans, m 4096 d 16 k 8, without counters {:.3} ms, with counters {:.3} ms",
+        without * 1e3,
+        with * 1e3
+    );
 }
 
 // One fit again and again, on one side.

@@ -1,5 +1,6 @@
-// Compares the port with the original, bit for bit, all NaN as one: `compare KIND COUNT SEED`, KIND being spherical, movmf or auto, with -large behind it for large calls,
-// or all, which is each of the six (a hundredth of COUNT of the large ones). `compare example` compiles and runs examples/station.c.
+// Compares the port with the original, bit for bit, all NaN as one: `compare KIND COUNT SEED`, KIND being spherical,
+// movmf or auto, with -large behind it for large calls, or all, which is each of the six (a hundredth of COUNT of the
+// large ones). `compare example` compiles and runs examples/station.c.
 use bench::calls::{large, small, Call, Fit, NAMES};
 use bench::example;
 use bench::expected::answer;
@@ -49,11 +50,28 @@ fn numbers(code: u32, l: &Lent) -> Vec<(&'static str, Vec<u64>)> {
 fn show(c: &Call) {
     let words = |v: &[f64]| v.iter().map(|x| format!("{:016x}", x.to_bits())).collect::<Vec<_>>().join(" ");
     println!("{:?}, leaves: {}", c.fit, NAMES[c.sort]);
-    println!("m {} d {} k_min {} k {} rounds {} restarts {} seed {} kappa {}", c.flat.weights.len(), c.d, c.k_min, c.k, c.rounds, c.restarts, c.seed, c.kappa);
+    println!(
+        "m {} d {} k_min {} k {} rounds {} restarts {} seed {} kappa {}",
+        c.flat.weights.len(),
+        c.d,
+        c.k_min,
+        c.k,
+        c.rounds,
+        c.restarts,
+        c.seed,
+        c.kappa
+    );
     let l = &c.lent;
     println!(
         "lengths: labels {} responsibilities {} weights {} directions {} concentrations {} logw {} work {} work_u32 {}",
-        l.labels.len(), l.responsibilities.len(), l.weights.len(), l.directions.len(), l.concentrations.len(), l.logw.len(), l.work.len(), l.work_u32.len()
+        l.labels.len(),
+        l.responsibilities.len(),
+        l.weights.len(),
+        l.directions.len(),
+        l.concentrations.len(),
+        l.logw.len(),
+        l.work.len(),
+        l.work_u32.len()
     );
     println!("weights {}\ncoordinates {}", words(&c.flat.weights), words(&c.flat.coords));
 }
@@ -106,7 +124,8 @@ fn example() {
 fn main() {
     std::panic::set_hook(Box::new(|_| {}));
     let args: Vec<String> = std::env::args().skip(1).collect();
-    let usage = "compare KIND COUNT SEED, KIND: spherical, movmf, auto, spherical-large, movmf-large, auto-large, all; or compare example";
+    let usage = "compare KIND COUNT SEED, KIND: spherical, movmf, auto, spherical-large, movmf-large, auto-large, all; \
+                 or compare example";
     if args.len() == 1 && args[0] == "example" {
         return example();
     }
