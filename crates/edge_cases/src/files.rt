@@ -16,7 +16,8 @@ fn listing_is(file: &[u8], line: &[u64]) -> bool {
 // Kind 13: the fit of a file is as words 1 to 3 say.
 fn file_fit_is(file: &[u8], line: &[u64]) -> bool {
     let mut labels = [9u32; 64];
-    super::fits::chosen_is(leaf_file::fit_file(file, &mut labels), line)
+    let r = leaf_file::fit_file(file, &mut labels);
+    super::fits::chosen_is(r, super::fits::labels_untouched(&labels), line)
 }
 
 // Kinds 13 and 14.

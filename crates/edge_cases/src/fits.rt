@@ -40,15 +40,48 @@ fn code(r: spherical::Clustered) -> u32 {
     }
 }
 
+// Whether all labels are 9, as before a call.
+pub(crate) fn labels_untouched(v: &[u32]) -> bool {
+    let mut same = true;
+    let mut i = 0;
+    while i < v.len() {
+        same = same & (v[i] == 9);
+        i += 1;
+    }
+    same
+}
+
+// Whether all numbers are 9, as before a call.
+fn untouched(v: &[f64]) -> bool {
+    let mut same = true;
+    let mut i = 0;
+    while i < v.len() {
+        same = same & (float::bits_of(v[i]) == 0x4022_0000_0000_0000);
+        i += 1;
+    }
+    same
+}
+
+// Whether the answer is word 1, the number of a refusal or 0, and the outputs are untouched where it is a refusal.
+fn answer_is(c: u32, same: bool, line: &[u64]) -> bool {
+    (c as u64 == word(line, 1)) & ((c == 0) | same)
+}
+
 // What spherical k-means answers with arrays of the lengths from word `at` on: labels, directions and the two work
 // arrays.
-fn clustered(weights: &[f64], coords: &[f64], c: Call, line: &[u64], at: usize) -> u32 {
-    let mut labels = [9u32; 4096];
-    let mut directions = [9.0; 256];
+fn clustered(
+    weights: &[f64],
+    coords: &[f64],
+    c: Call,
+    line: &[u64],
+    at: usize,
+    labels: &mut [u32],
+    directions: &mut [f64],
+) -> u32 {
     let mut work = [0.0; 40980];
     let mut work_u32 = [0u32; 8194];
-    let i = room(line, at, 0, 4096);
-    let j = room(line, at, 1, 256);
+    let i = room(line, at, 0, labels.len());
+    let j = room(line, at, 1, directions.len());
     let n = room(line, at, 2, 40980);
     let p = room(line, at, 3, 8194);
     code(spherical::spherical_kmeans(
@@ -64,6 +97,14 @@ fn clustered(weights: &[f64], coords: &[f64], c: Call, line: &[u64], at: usize) 
         &mut work[..n],
         &mut work_u32[..p],
     ))
+}
+
+// Whether it answers as word 1 says.
+fn clustering_holds(weights: &[f64], coords: &[f64], c: Call, line: &[u64], at: usize) -> bool {
+    let mut labels = [9u32; 4096];
+    let mut directions = [9.0; 256];
+    let r = clustered(weights, coords, c, line, at, &mut labels, &mut directions);
+    answer_is(r, labels_untouched(&labels) & untouched(&directions), line)
 }
 
 fn fit_code(r: movmf::Fitted) -> u32 {
@@ -86,21 +127,27 @@ fn settings(rounds: usize) -> mixture_kappa::Settings {
 }
 
 // What the mixture fit answers with arrays of the lengths from word `at` on.
-fn fitted(weights: &[f64], coords: &[f64], c: Call, line: &[u64], at: usize) -> u32 {
-    let mut labels = [9u32; 8];
-    let mut responsibilities = [9.0; 32];
-    let mut group_weights = [9.0; 8];
-    let mut directions = [9.0; 16];
-    let mut concentrations = [9.0; 8];
-    let mut logw = [9.0; 8];
+fn fitted(
+    weights: &[f64],
+    coords: &[f64],
+    c: Call,
+    line: &[u64],
+    at: usize,
+    labels: &mut [u32],
+    responsibilities: &mut [f64],
+    group_weights: &mut [f64],
+    directions: &mut [f64],
+    concentrations: &mut [f64],
+    logw: &mut [f64],
+) -> u32 {
     let mut work = [0.0; 256];
     let mut work_u32 = [0u32; 32];
-    let i1 = room(line, at, 0, 8);
-    let i2 = room(line, at, 1, 32);
-    let i3 = room(line, at, 2, 8);
-    let i4 = room(line, at, 3, 16);
-    let i5 = room(line, at, 4, 8);
-    let i6 = room(line, at, 5, 8);
+    let i1 = room(line, at, 0, labels.len());
+    let i2 = room(line, at, 1, responsibilities.len());
+    let i3 = room(line, at, 2, group_weights.len());
+    let i4 = room(line, at, 3, directions.len());
+    let i5 = room(line, at, 4, concentrations.len());
+    let i6 = room(line, at, 5, logw.len());
     let i7 = room(line, at, 6, 256);
     let i8 = room(line, at, 7, 32);
     fit_code(movmf::movmf_with(
@@ -120,19 +167,44 @@ fn fitted(weights: &[f64], coords: &[f64], c: Call, line: &[u64], at: usize) -> 
     ))
 }
 
-fn refusal(c: u32) -> u64 {
-    c as u64
+// Whether it answers as word 1 says.
+fn fit_answer_holds(weights: &[f64], coords: &[f64], c: Call, line: &[u64], at: usize) -> bool {
+    let mut labels = [9u32; 8];
+    let mut responsibilities = [9.0; 32];
+    let mut group_weights = [9.0; 8];
+    let mut directions = [9.0; 16];
+    let mut concentrations = [9.0; 8];
+    let mut logw = [9.0; 8];
+    let r = fitted(
+        weights,
+        coords,
+        c,
+        line,
+        at,
+        &mut labels,
+        &mut responsibilities,
+        &mut group_weights,
+        &mut directions,
+        &mut concentrations,
+        &mut logw,
+    );
+    let a = labels_untouched(&labels) & untouched(&responsibilities) & untouched(&directions);
+    let b = untouched(&group_weights) & untouched(&concentrations) & untouched(&logw);
+    answer_is(r, a & b, line)
 }
 
 // Whether r is as words 1 to 3 say: refused with word 1; or with 7, and words 2 and 3 groups looked at and skipped; or
-// word 1 is 0, and word 2 is the number kept and word 3 its score, each 0 where any is right.
-pub(crate) fn chosen_is(r: auto::Chosen, line: &[u64]) -> bool {
+// word 1 is 0, and word 2 is the number kept and word 3 its score, each 0 where any is right. The outputs are untouched
+// where it is refused.
+pub(crate) fn chosen_is(r: auto::Chosen, same: bool, line: &[u64]) -> bool {
     let c = word(line, 1);
     let a = word(line, 2);
     let b = word(line, 3);
     match r {
-        auto::Chosen::Refused(n) => refusal(n) == c,
-        auto::Chosen::Unscored { counts } => (c == 7) & (counts.made == a) & (counts.saved == b),
+        auto::Chosen::Refused(n) => answer_is(n, same, line),
+        auto::Chosen::Unscored { counts } => {
+            same & (c == 7) & (counts.made == a) & (counts.saved == b)
+        }
         auto::Chosen::Done {
             k,
             loglik: _,
@@ -168,17 +240,19 @@ fn choice_holds(weights: &[f64], coords: &[f64], c: Call, line: &[u64]) -> bool 
         &mut work,
         &mut work_u32,
     );
-    chosen_is(r, line)
+    let a = labels_untouched(&labels) & untouched(&responsibilities) & untouched(&directions);
+    let b = untouched(&group_weights) & untouched(&concentrations) & untouched(&logw);
+    chosen_is(r, a & b, line)
 }
 
 // Kinds 10 to 12 with these leaves: spherical k-means and the mixture fit, whose arrays' lengths are from word `at` on,
 // and the automatic fit.
 fn fit_holds(kind: u64, weights: &[f64], coords: &[f64], line: &[u64], at: usize) -> bool {
     if kind == 10 {
-        return refusal(clustered(weights, coords, call_of(line), line, at)) == word(line, 1);
+        return clustering_holds(weights, coords, call_of(line), line, at);
     }
     if kind == 11 {
-        return refusal(fitted(weights, coords, call_of(line), line, at)) == word(line, 1);
+        return fit_answer_holds(weights, coords, call_of(line), line, at);
     }
     choice_holds(weights, coords, call_of(line), line)
 }

@@ -1,6 +1,6 @@
 // Examples of arithmetic, of the generator and of the table of ln_gamma.
 ghost use mathlib.Core.Path.{_≡_};
-ghost use Rattle.rng.specs.Drawn.{drawn};
+ghost use Rattle.edge_cases.specs.Five.{fiveOf};
 use words::number;
 use words::word;
 
@@ -17,28 +17,41 @@ pub(crate) fn number_holds(kind: u64, line: &[u64]) -> bool {
     (y < v) & (v < z)
 }
 
-// One number of a generator that is made here and lent, and the state that the loan leaves.
-fn draw_lent(seed: u64) -> rng::Drawn
-    ensures { λ r. ⌜ r ≡ drawn seed ⌝ }
-{
-    let mut g = rng::SplitMix64::new(seed);
-    let out = rng::next_u64(&mut g);
-    rng::Drawn {
-        state: g.state,
-        out,
-    }
+// Five numbers, one after the other.
+struct Five {
+    a: u64,
+    b: u64,
+    c: u64,
+    d: u64,
+    e: u64,
 }
 
-// The first five numbers of a seed.
+// The first five numbers of a seed: one generator is made here and lent for each, and its state moves on in place.
+fn five_lent(seed: u64) -> Five
+    ensures { λ r. ⌜ r ≡ fiveOf seed ⌝ }
+{
+    let mut g = rng::SplitMix64::new(seed);
+    let a = rng::next_u64(&mut g);
+    let b = rng::next_u64(&mut g);
+    let c = rng::next_u64(&mut g);
+    let d = rng::next_u64(&mut g);
+    let e = rng::next_u64(&mut g);
+    Five { a, b, c, d, e }
+}
+
+fn print_number(n: u64) {
+    io::print_decimal(1, n);
+    io::write_all(1, b"\n");
+}
+
+// Prints the first five numbers of a seed.
 pub(crate) fn print_draws(seed: u64) {
-    let mut state = seed;
-    let five: usize = 5;
-    for i in 0..five {
-        let d = draw_lent(state);
-        state = d.state;
-        io::print_decimal(1, d.out);
-        io::write_all(1, b"\n");
-    }
+    let f = five_lent(seed);
+    print_number(f.a);
+    print_number(f.b);
+    print_number(f.c);
+    print_number(f.d);
+    print_number(f.e);
 }
 
 // Whether the table's ln_gamma of d / 2 has these bits.

@@ -1,3 +1,4 @@
 -- Laws that other proofs cite, each file named after what it is about.
 pub mod Turns
 pub mod Parts
+pub mod Loan

@@ -22,4 +22,6 @@ clustered-spec =
     (λ c. search (within, needs))
     (λ c κs. search needs)
     (λ c κs. search needs)
+    (λ c. search needs)
+    (λ c. search needs)
     (λ c. search needs))

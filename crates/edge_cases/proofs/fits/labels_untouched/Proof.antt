@@ -1,0 +1,26 @@
+-- `edge_cases::fits::labels_untouched` is safe and ends: a turn for each element. Assumes nothing.
+use Prim.Native.Nat.{_≤_, _-_}
+use lib.ListN.{length}
+use borrow.Author.Needs.{needs}
+use Rattle.edge_cases.proofs.fits.labels_untouched.Statement.{statement}
+use Rattle.edge_cases.proofs.fits.labels_untouched.Tie as tie
+
+abbrev Inv-loop : tie.InvT-loop
+Inv-loop v same₀ i₀ same i = i ≤ length v
+
+abbrev μ-loop : tie.MeasureT-loop
+μ-loop v same₀ i₀ same i = length v - i
+
+pub labels-untouched-spec : {M : Type 1} → statement M
+labels-untouched-spec =
+    tie.close
+    (tie.spec
+    Inv-loop
+    μ-loop
+    (λ c. search needs)
+    (λ c. search needs)
+    (λ c. search needs)
+    (λ c. search needs)
+    (λ c. search needs)
+    (λ c. search needs)
+    (λ c. search needs))
