@@ -4,7 +4,10 @@
 //
 // Changed by textual substitution, the number of matches asserted: the logarithm and the exponential become document 01's;
 // the crate's own paths become the stand-ins of src/standins.rs. Inner doc comments become plain ones, since the files are
-// included inside modules. Appended to vmf.rs: a public function for each private one that is compared.
+// included inside modules. Appended to vmf.rs: a public function for each private one that is compared, and the fits as
+// src/original.rs has them. Of vmf.rs a copy is made for each slip of slips.rs, by the same substitution.
+mod slips;
+
 use std::path::PathBuf;
 use std::{env, fs};
 
@@ -27,7 +30,23 @@ fn main() {
     fs::write(out.join("plain.rs"), &vmf).unwrap();
     vmf = counted(&vmf);
     vmf.push_str(PROBES);
+    fs::write(out.join("slips.rs"), slipped(&vmf)).unwrap();
     fs::write(out.join("vmf.rs"), vmf).unwrap();
+}
+
+// A module for each slip, and a list of what they are and of their fits.
+fn slipped(vmf: &str) -> String {
+    let (mut modules, mut list) = (String::new(), String::new());
+    for (at, (what, changes)) in slips::SLIPS.iter().enumerate() {
+        let mut text = replaced(vmf, "slipped: false", "slipped: true", 1);
+        for (from, to, times) in *changes {
+            text = replaced(&text, from, to, *times);
+        }
+        let module = format!("mod slip_{at} {{\n    use crate::standins::Document;\n{text}}}\n");
+        modules.push_str(&format!("#[allow(warnings)]\n{module}"));
+        list.push_str(&format!("    ({what:?}, slip_{at}::ORIGINAL),\n"));
+    }
+    format!("{modules}pub const SLIPS: &[(&str, crate::original::Original)] = &[\n{list}];\n")
 }
 
 // The counters of document 01, and of the rounds begun, beside the original's own lines.
@@ -55,6 +74,8 @@ pub fn probe_ln_gamma(x: f64) -> f64 { ln_gamma(x) }
 pub fn probe_log_vmf_norm(dim: usize, kappa: f64) -> f64 { log_vmf_norm(dim, kappa) }
 pub fn probe_estimate_kappa(rbar: f64, dim: usize) -> f64 { estimate_kappa(rbar, dim) }
 pub fn probe_kappa_max(dim: usize) -> f64 { kappa_max(dim) }
+pub fn probe_exp(x: f64) -> f64 { x.document_exp() }
+crate::fits! { slipped: false }
 ";
 
 fn read(folder: &PathBuf, part: &str, name: &str) -> String {

@@ -2,11 +2,16 @@
 // is its kind, the numbers of words in and out of a case, the number of cases, and the cases: the words in, then the answer.
 // Every NaN is written as 7ff8000000000000.
 use crate::document;
+use crate::original::Original;
 use crate::rng::SplitMix64;
+use crate::vmf;
 use std::io::Write;
 
 // The words in, and the answer's.
 pub type Case = (Vec<u64>, Vec<u64>);
+
+// A case with its kind before it.
+pub type Kinded = (u64, Case);
 
 pub struct List<W: Write> {
     out: W,
@@ -29,6 +34,15 @@ impl<W: Write> List<W> {
         for (a, b) in cases {
             assert!(a.len() == ins && b.len() == outs);
             self.line(&[&a[..], &b[..]].concat());
+        }
+    }
+
+    // Cases of any kinds: those that follow one another with the same kind and shape as one block.
+    pub fn cases(&mut self, all: &[Kinded]) {
+        let shape = |c: &Kinded| (c.0, c.1 .0.len(), c.1 .1.len());
+        for block in all.chunk_by(|a, b| shape(a) == shape(b)) {
+            let cases: Vec<Case> = block.iter().map(|c| c.1.clone()).collect();
+            self.block(block[0].0, &cases);
         }
     }
 
@@ -85,21 +99,22 @@ pub fn around(x: f64, width: u64) -> Vec<u64> {
     (0..=2 * width).map(|k| b + k - width).collect()
 }
 
-fn one(name: u64, inputs: &[u64], f: fn(f64) -> f64) -> (u64, Vec<Case>) {
-    (name, inputs.iter().map(|&b| (vec![b], vec![bits(f(f64::from_bits(b)))])).collect())
+fn one(kind: u64, inputs: &[u64], f: fn(f64) -> f64) -> Vec<Kinded> {
+    inputs.iter().map(|&b| (kind, (vec![b], vec![bits(f(f64::from_bits(b)))]))).collect()
+}
+
+// Kind 2.
+pub fn exps(of: &Original) -> Vec<Kinded> {
+    one(2, &exp_patterns(), of.exp)
 }
 
 // Kinds 1 to 6: root, exp, ln, max, clamp, abs.
 pub fn arithmetic<W: Write>(list: &mut List<W>) {
-    let (kind, cases) = one(1, &patterns(1), f64::sqrt);
-    list.block(kind, &cases);
-    let (kind, cases) = one(2, &exp_patterns(), document::exp);
-    list.block(kind, &cases);
-    let (kind, cases) = one(3, &ln_patterns(), document::ln);
-    list.block(kind, &cases);
+    list.cases(&one(1, &patterns(1), f64::sqrt));
+    list.cases(&exps(&vmf::ORIGINAL));
+    list.cases(&one(3, &ln_patterns(), document::ln));
     order(list);
-    let (kind, cases) = one(6, &few_patterns(), f64::abs);
-    list.block(kind, &cases);
+    list.cases(&one(6, &few_patterns(), f64::abs));
 }
 
 fn exp_patterns() -> Vec<u64> {

@@ -4,13 +4,18 @@ const H: u64 = 0x3FE6_2E42_FEE0_0000;
 const T: u64 = 0x3DEA_39EF_3579_3C76;
 
 pub fn exp(x: f64) -> f64 {
+    exp_within(x, -745.0, 709.0)
+}
+
+// With other borders, for a slip: 0 below `low` and +infinity above `high`.
+pub fn exp_within(x: f64, low: f64, high: f64) -> f64 {
     if x.is_nan() {
         return f64::NAN;
     }
-    if x > 709.0 {
+    if x > high {
         return f64::INFINITY;
     }
-    if x < -745.0 {
+    if x < low {
         return 0.0;
     }
     let n = (x * 1.4426950408889634 + 0.5).floor();

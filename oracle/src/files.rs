@@ -1,9 +1,11 @@
-// Kind 25: leaf files and the listings that document 01's program prints of them. In: the number of bytes, and the bytes packed eight to a word, the first byte
-// lowest, the last word filled with zeros. Out: the same of the listing's text. The fit is the original's `movmf_auto`, k 1 to 4, 100 rounds, seed 7; the reading, the
-// refusals and the text are written here from document 01.
-use crate::cases::{Case, List};
+// Kind 25: leaf files and the listings that document 01's program prints of them. In: the number of bytes, and the
+// bytes packed eight to a word, the first byte lowest, the last word filled with zeros. Out: the same of the listing's
+// text. The fit is the original's `movmf_auto`, k 1 to 4, 100 rounds, seed 7; the reading, the refusals and the text are
+// written here from document 01.
+use crate::cases::{Kinded, List};
 use crate::counts;
-use crate::leaves::{leaves, words, SORTS};
+use crate::leaves::{leaves, odd, words, SORTS};
+use crate::original::Original;
 use crate::rng::SplitMix64;
 use crate::standins::Leaf;
 use crate::vmf;
@@ -49,18 +51,14 @@ fn seven(panic: Box<dyn Any + Send>) -> u32 {
     7
 }
 
-fn fitted(bytes: &[u8]) -> Result<String, u32> {
+fn fitted(of: &Original, bytes: &[u8]) -> Result<String, u32> {
     let leaves = leaves_in(bytes)?;
     counts::take();
-    let fit = std::panic::catch_unwind(|| vmf::movmf_auto::<f64, Leaf>(&leaves, 1, 4, 100, 7));
+    let fit = std::panic::catch_unwind(|| (of.movmf_auto)(&leaves, 1, 4, 100, 7));
     let c = counts::take();
     let r = fit.map_err(seven)?;
-    let shops: String = r.labels.iter().enumerate().map(|(i, label)| format!("{i} {label}\n")).collect();
-    Ok(format!("groups {}\nmade {}\nsaved {}\n{shops}", r.weights.len(), c.made, c.saved))
-}
-
-fn listing(bytes: &[u8]) -> String {
-    fitted(bytes).unwrap_or_else(|code| format!("refused {code}\n"))
+    let shops: String = r.outputs[0].iter().enumerate().map(|(i, label)| format!("{i} {label}\n")).collect();
+    Ok(format!("groups {}\nmade {}\nsaved {}\n{shops}", r.k, c.made, c.saved))
 }
 
 // ---- the format
@@ -70,13 +68,20 @@ fn packed(bytes: &[u8]) -> Vec<u64> {
     [vec![bytes.len() as u64], bytes.chunks(8).map(word).collect()].concat()
 }
 
-fn case(bytes: &[u8]) -> Case {
-    (packed(bytes), packed(listing(bytes).as_bytes()))
+fn case(of: &Original, bytes: &[u8]) -> Kinded {
+    let text = fitted(of, bytes).unwrap_or_else(refusal);
+    (25, (packed(bytes), packed(text.as_bytes())))
 }
 
-fn numbered((code, bytes): &Numbered) -> Case {
-    assert_eq!(fitted(bytes).err().unwrap_or(0), *code);
-    case(bytes)
+fn refusal(code: u32) -> String {
+    format!("refused {code}\n")
+}
+
+fn numbered(of: &Original, (code, bytes): &Numbered) -> Kinded {
+    let c = case(of, bytes);
+    let refused = (1..10).find(|&n| c.1 .1 == packed(refusal(n).as_bytes())).unwrap_or(0);
+    assert!(of.slipped || refused == *code);
+    c
 }
 
 // Sizes and numbers, little-endian.
@@ -186,7 +191,7 @@ fn chosen() -> Vec<Numbered> {
     let small = [1e-8, 0.500000001, 0.6, 0.8, 0.5].map(f64::to_bits);
     let skip = [ONE, ONE, small[0], 0, ONE, 0, 0, ONE, small[2], small[3], small[1], small[4]];
     let one = file(1, 1, &[ONE, ONE]);
-    assert_eq!(listing(&one), "groups 1\nmade 4\nsaved 4\n0 0\n");
+    assert_eq!(fitted(&vmf::ORIGINAL, &one), Ok("groups 1\nmade 4\nsaved 4\n0 0\n".to_string()));
     vec![(0, one), (0, file(3, 2, &[0, MINUS, 0, ONE, 0, 0, ONE, 0, ONE | MINUS])), (0, file(4, 2, &skip)), (0, file(64, 16, &[0; 64 * 17]))]
 }
 
@@ -203,13 +208,22 @@ fn right() -> Vec<Vec<u8>> {
     all
 }
 
-pub fn files<W: Write>(list: &mut List<W>) {
-    for f in [chosen(), sizes(), lengths(), numbers()].concat() {
-        list.block(25, &[numbered(&f)]);
-    }
-    for bytes in right() {
-        list.block(25, &[case(&bytes)]);
-    }
+// Seeds of odd files: one tells `served` without its refresh.
+const ODD: [u64; 1] = [1442];
+
+pub fn odd_case(of: &Original, seed: u64) -> Kinded {
+    let mut g = SplitMix64::new(seed);
+    let r = g.next_u64();
+    let (m, d) = (2 + (r % 6) as usize, 1 + (r / 8 % 6) as usize);
+    case(of, &file(m as u32, d as u32, &words(&odd(m, d, &mut g))))
+}
+
+// The stored cases.
+pub fn files(of: &Original) -> Vec<Kinded> {
+    let mut all = ODD.map(|seed| odd_case(of, seed)).to_vec();
+    all.extend([chosen(), sizes(), lengths(), numbers()].concat().iter().map(|f| numbered(of, f)));
+    all.extend(right().iter().map(|bytes| case(of, bytes)));
+    all
 }
 
 // A file with one random change: a bit, the length, a number, a size.
@@ -228,7 +242,8 @@ fn changed(mut bytes: Vec<u8>, g: &mut SplitMix64) -> Vec<u8> {
     bytes
 }
 
-// 1,000 random files: up to 4, 16 or 64 leaves of every sort, of up to 16 coordinates, half of the files with a random change.
+// 1,000 random files: up to 4, 16 or 64 leaves of every sort, of up to 16 coordinates, half of the files with a random
+// change.
 pub fn many<W: Write>(list: &mut List<W>, seed: u64) {
     let mut g = SplitMix64::new(seed);
     for _ in 0..1000 {
@@ -238,6 +253,6 @@ pub fn many<W: Write>(list: &mut List<W>, seed: u64) {
         let sort = (r / 1000000 % SORTS as u64) as usize;
         let bytes = whole(sort, m, d, g.next_u64());
         let bytes = if r / 70000000 % 2 == 0 { bytes } else { changed(bytes, &mut g) };
-        list.block(25, &[case(&bytes)]);
+        list.cases(&[case(&vmf::ORIGINAL, &bytes)]);
     }
 }

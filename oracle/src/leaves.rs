@@ -55,6 +55,27 @@ pub fn leaves(sort: usize, m: usize, d: usize, seed: u64) -> Vec<Leaf> {
         .collect()
 }
 
+// Leaves that repeat or nearly repeat another one, have coordinates and weights that are zeros of both signs or next to
+// nothing, and weights of very different sizes.
+pub fn odd(m: usize, d: usize, g: &mut SplitMix64) -> Vec<Leaf> {
+    const COORDINATES: [f64; 8] = [0.0, -0.0, 1.0, -1.0, 0.5, 2.0, 1e-8, -1e-162];
+    const WEIGHTS: [f64; 8] = [0.0, -0.0, 1.0, 2.0, 1e-8, 100.0, 1e6, 5e-324];
+    let mut all: Vec<Leaf> = Vec::with_capacity(m);
+    for i in 0..m {
+        let r = g.next_u64();
+        let near = if r % 5 == 0 { 1e-9 } else { 0.0 };
+        let mean = if i > 0 && r % 5 < 3 {
+            all[(r / 5) as usize % i].mean.iter().map(|x| (x + near * unit(g)).clamp(-2.0, 2.0)).collect()
+        } else if r % 5 == 3 {
+            (0..d).map(|_| COORDINATES[g.next_u64() as usize % 8]).collect()
+        } else {
+            (0..d).map(|_| unit(g)).collect()
+        };
+        all.push(Leaf { mean, weight: WEIGHTS[(r >> 32) as usize % 8] });
+    }
+    all
+}
+
 // The weights and then the coordinates, row by row.
 pub fn words(leaves: &[Leaf]) -> Vec<u64> {
     let weights = leaves.iter().map(|l| l.weight.to_bits());

@@ -8,6 +8,7 @@ pub mod document;
 pub mod files;
 pub mod leaves;
 pub mod mixture;
+pub mod original;
 pub mod spherical;
 pub mod standins;
 pub mod timed;

@@ -61,6 +61,7 @@ impl Real for f64 {
 pub trait Document: Sized {
     fn document_ln(self) -> Self;
     fn document_exp(self) -> Self;
+    fn document_exp_within(self, low: f64, high: f64) -> Self;
 }
 
 impl<R: Real> Document for R {
@@ -69,6 +70,9 @@ impl<R: Real> Document for R {
     }
     fn document_exp(self) -> Self {
         R::from_f64(document::exp(self.to_f64().unwrap())).unwrap()
+    }
+    fn document_exp_within(self, low: f64, high: f64) -> Self {
+        R::from_f64(document::exp_within(self.to_f64().unwrap(), low, high)).unwrap()
     }
 }
 
@@ -101,7 +105,7 @@ pub struct Mixture {
 }
 
 impl Mixture {
-    pub(crate) fn vmf<R: Real>(weights: &[R], _means: &[Vec<R>], _kappas: &[R], logc: &[f64]) -> Self {
+    pub fn vmf<R: Real>(weights: &[R], _means: &[Vec<R>], _kappas: &[R], logc: &[f64]) -> Self {
         Self { logw: weights.iter().zip(logc).map(|(&w, &lc)| ln_weight(w) + lc).collect() }
     }
 }

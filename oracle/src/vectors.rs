@@ -1,5 +1,6 @@
 // Kinds 11 to 16: dot, norm, unit, argmax, argmin, weighted_pick of the original, on vectors of 1 to 256 elements.
-use crate::cases::{bits, seeds, Case, List};
+use crate::cases::{bits, seeds, Case, Kinded, List};
+use crate::original::Original;
 use crate::rng::SplitMix64;
 use crate::vmf;
 use std::io::Write;
@@ -51,12 +52,15 @@ fn words(v: &[f64]) -> Vec<u64> {
     v.iter().map(|x| x.to_bits()).collect()
 }
 
-// One block for each length, of a function from a vector to an answer.
-fn blocks<W: Write>(list: &mut List<W>, kind: u64, f: fn(&[f64]) -> Vec<u64>) {
-    for n in LENGTHS {
-        let cases: Vec<Case> = vectors(n).iter().map(|v| (words(v), f(v))).collect();
-        list.block(kind, &cases);
-    }
+// Vectors of each length, of a function from a vector to an answer.
+fn answers(kind: u64, f: impl Fn(&[f64]) -> Vec<u64>) -> Vec<Kinded> {
+    LENGTHS.into_iter().flat_map(vectors).map(|v| (kind, (words(&v), f(&v)))).collect()
+}
+
+// Kinds 14 and 15.
+pub fn places(of: &Original) -> Vec<Kinded> {
+    let [most, least] = [(14, of.argmax), (15, of.argmin)].map(|(kind, f)| answers(kind, |v| vec![f(v) as u64]));
+    [most, least].concat()
 }
 
 pub fn vector<W: Write>(list: &mut List<W>) {
@@ -66,10 +70,9 @@ pub fn vector<W: Write>(list: &mut List<W>) {
     for (n, m) in [(1, 2), (3, 7), (16, 2), (64, 1)] {
         dots(list, n, m);
     }
-    blocks(list, 12, |v| vec![bits(vmf::probe_norm(v))]);
-    blocks(list, 13, |v| vmf::probe_unit(v).iter().map(|&x| bits(x)).collect());
-    blocks(list, 14, |v| vec![vmf::probe_argmax(v) as u64]);
-    blocks(list, 15, |v| vec![vmf::probe_argmin(v) as u64]);
+    list.cases(&answers(12, |v| vec![bits(vmf::probe_norm(v))]));
+    list.cases(&answers(13, |v| vmf::probe_unit(v).iter().map(|&x| bits(x)).collect()));
+    list.cases(&places(&vmf::ORIGINAL));
     for n in LENGTHS {
         picks(list, n);
     }
