@@ -1,5 +1,7 @@
 // Cases of arithmetic, of the generator and of the concentrations.
+ghost use mathlib.Core.Path.{_≡_};
 ghost use Rattle.bessel.specs.Concentration.{Dimension};
+ghost use Rattle.rng.specs.Drawn.{drawn, drawnF64};
 use words::is_number;
 use words::number;
 use words::word;
@@ -24,10 +26,27 @@ fn draws_agree(case: &[u64]) -> bool {
     same
 }
 
-// Kind 7: a draw, as a whole number and as an f64.
+// A draw, as a whole number and as an f64.
+struct Draw {
+    number: u64,
+    fraction: f64,
+}
+
+// The first draw of a seed, as each: of two generators that are made here and lent.
+fn draw_lent(seed: u64) -> Draw
+    ensures { λ r. ⌜ (r .number ≡ drawn seed .out) × (r .fraction ≡ drawnF64 seed .out) ⌝ }
+{
+    let mut g = rng::SplitMix64::new(seed);
+    let number = rng::next_u64(&mut g);
+    let mut h = rng::SplitMix64::new(seed);
+    let fraction = rng::next_f64(&mut h);
+    Draw { number, fraction }
+}
+
+// Kind 7: a draw.
 fn draw_agrees(case: &[u64]) -> bool {
-    let a = word(case, 0);
-    (rng::draw_u64(a).out == word(case, 1)) & is_number(rng::draw_f64(a).out, case, 2)
+    let d = draw_lent(word(case, 0));
+    (d.number == word(case, 1)) & is_number(d.fraction, case, 2)
 }
 
 // Kinds 9 and 10: a product modulo 2^64, a restart's seed.
