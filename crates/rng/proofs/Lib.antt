@@ -1,3 +1,4 @@
 -- Laws that other proofs cite.
 pub mod Xor
 pub mod Lent
+pub mod Loan

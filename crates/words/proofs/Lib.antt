@@ -1,4 +1,3 @@
 -- Laws that other proofs cite, each file named after what it is about.
 pub mod Turns
 pub mod Parts
-pub mod Loan

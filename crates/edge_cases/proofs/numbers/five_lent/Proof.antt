@@ -42,7 +42,7 @@ use Rattle.rng.proofs.next_u64.Met as next-thm
 use Rattle.edge_cases.specs.Five.{after, fiveOf}
 use Rattle.edge_cases.proofs.numbers.Five as F
 use Rattle.edge_cases.proofs.numbers.Five.Laws as F′
-use Rattle.words.proofs.Loan.{New, Next, makes, draws, step-fits}
+use Rattle.rng.proofs.Loan.{New, Next, makes, draws, step-fits}
 use Rattle.edge_cases.proofs.numbers.five_lent.Key.{name as #edge-cases·five-lent}
 use Rattle.edge_cases.proofs.numbers.five_lent as five
 use Rattle.edge_cases.proofs.numbers.five_lent.Statement as stated

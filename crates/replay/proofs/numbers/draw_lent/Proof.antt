@@ -45,7 +45,7 @@ use Rattle.rng.proofs.next_u64.Met as next-thm
 use Rattle.rng.proofs.next_f64.Symbol as next-f64-def
 use Rattle.rng.proofs.next_f64.Symbol.{name as #rng·next-f64}
 use Rattle.rng.proofs.next_f64.Met as next-f64-thm
-use Rattle.words.proofs.Loan.{New, Next, NextF64, makes, draws, draws-f64}
+use Rattle.rng.proofs.Loan.{New, Next, NextF64, makes, draws, draws-f64}
 use Rattle.replay.specs.declared.numbers.Draw.{Draw}
 use Rattle.replay.proofs.numbers.Draw as D
 use Rattle.replay.proofs.numbers.Draw.Laws as D′

@@ -1,7 +1,6 @@
--- A generator that lies in a local's cell, as steps of the programs' walks. `makes` calls
--- `SplitMix64::new`. `lends` lends the cell for one call, after which it holds what the callee
--- promises to leave; `draws` and `draws-f64` are that for `next_u64` and `next_f64`. Of the callees
--- only the contracts are used. Assumes nothing.
+-- A generator that lies in a local's cell, as steps of a caller's walk. `makes` calls `SplitMix64::new`. `lends` lends the cell for one
+-- call, after which it holds what the callee promises to leave; `draws` and `draws-f64` are that for `next_u64` and `next_f64`. Of the
+-- callees only the contracts are used. Assumes nothing.
 use mathlib.Core.Path.{_≡_, refl, sym, subst, ap, _∙_}
 use Prim.Native.Nat.{ℕ, _<_, _^_}
 use native.Mathlib.Nat.{mod-lt}
