@@ -1,11 +1,11 @@
-// Brings the original's vmf.rs and rng.rs into the build. ORIGINAL names a folder: a checkout of betula-cluster at commit
-// 6eba1999bc, or a folder that holds the two files under the names src--src--clustering--vmf.rs.txt and
+// Brings the original's vmf.rs and rng.rs into the build. ORIGINAL names a folder: a checkout of betula-cluster at
+// commit 6eba1999bc, or a folder that holds the two files under the names src--src--clustering--vmf.rs.txt and
 // src--src--clustering--rng.rs.txt. Nothing of them is kept in this repository.
 //
-// Changed by textual substitution, the number of matches asserted: the logarithm and the exponential become document 01's;
-// the crate's own paths become the stand-ins of src/standins.rs. Inner doc comments become plain ones, since the files are
-// included inside modules. Appended to vmf.rs: a public function for each private one that is compared, and the fits as
-// src/original.rs has them. Of vmf.rs a copy is made for each slip of slips.rs, by the same substitution.
+// Changed by textual substitution, the number of matches asserted: the logarithm and the exponential become document
+// 01's; the crate's own paths become the stand-ins of src/standins.rs. Inner doc comments become plain ones, since the
+// files are included inside modules. Appended to vmf.rs: a public function for each private one that is compared, and
+// the fits as src/original.rs has them. Of vmf.rs a copy is made for each slip of slips.rs, by the same substitution.
 mod slips;
 
 use std::path::PathBuf;
@@ -51,15 +51,26 @@ fn slipped(vmf: &str) -> String {
 
 // The counters of document 01, and of the rounds begun, beside the original's own lines.
 fn counted(vmf: &str) -> String {
-    let mut vmf = replaced(vmf, "        // Loosen every bound", "        crate::counts::begun();\n        // Loosen every bound", 1);
+    let mut vmf = replaced(
+        vmf,
+        "        // Loosen every bound",
+        "        crate::counts::begun();\n        // Loosen every bound",
+        1,
+    );
     let skip = ">= BOUND_SLACK {\n                continue;";
-    vmf = replaced(&vmf, skip, ">= BOUND_SLACK {\n                crate::counts::saved(k);\n                continue;", 1);
+    vmf = replaced(
+        &vmf,
+        skip,
+        ">= BOUND_SLACK {\n                crate::counts::saved(k);\n                continue;",
+        1,
+    );
     let pass = "            let mut best = 0;\n            let mut best_dot";
     vmf = replaced(&vmf, pass, &format!("            crate::counts::made(k);\n{pass}"), 1);
     let update = "        let previous = centers.clone();\n";
     vmf = replaced(&vmf, update, &format!("{update}        let mut picked: Vec<usize> = Vec::new();\n"), 1);
     let reseed = "                let worst = argmin(&served);\n";
-    let pick = "                crate::counts::doubled(picked.contains(&worst));\n                picked.push(worst);\n";
+    let pick =
+        "                crate::counts::doubled(picked.contains(&worst));\n                picked.push(worst);\n";
     replaced(&vmf, reseed, &format!("{reseed}{pick}"), 1)
 }
 

@@ -63,7 +63,13 @@ pub fn auto(of: &Original) -> Vec<Kinded> {
     all.extend([0.9971832, 0.99723].map(|length| small_shares(of, length)));
     for (m, d) in [(1, 1), (2, 2), (3, 1), (5, 2), (6, 3), (8, 4), (12, 5), (20, 2), (33, 16), (64, 3), (7, 64)] {
         for (at, (k_min, k_max)) in [(1, 4), (3, 2), (2, 0), (9, 12), (2, 6)].into_iter().enumerate() {
-            let sorts = if m * d > 200 { 2 } else if m * d > 30 { 4 } else { SORTS };
+            let sorts = if m * d > 200 {
+                2
+            } else if m * d > 30 {
+                4
+            } else {
+                SORTS
+            };
             for sort in 0..sorts {
                 let seed = (m * 1000 + d * 100 + at * 10 + sort) as u64;
                 let rounds = [100, 1, 2, 10000, 0, 7][(sort + at) % 6];

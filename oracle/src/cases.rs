@@ -1,6 +1,6 @@
-// The format, and the cases of the arithmetic and of the generator. A list is words of 16 hexadecimal digits, each followed by a space or, at the end of a case, a line end. A block
-// is its kind, the numbers of words in and out of a case, the number of cases, and the cases: the words in, then the answer.
-// Every NaN is written as 7ff8000000000000.
+// The format, and the cases of the arithmetic and of the generator. A list is words of 16 hexadecimal digits, each
+// followed by a space or, at the end of a case, a line end. A block is its kind, the numbers of words in and out of a
+// case, the number of cases, and the cases: the words in, then the answer. Every NaN is written as 7ff8000000000000.
 use crate::document;
 use crate::original::Original;
 use crate::rng::SplitMix64;
@@ -54,11 +54,16 @@ impl<W: Write> List<W> {
 
 // The pattern of an f64, all NaN as one.
 pub fn bits(x: f64) -> u64 {
-    if x.is_nan() { 0x7FF8_0000_0000_0000 } else { x.to_bits() }
+    if x.is_nan() {
+        0x7FF8_0000_0000_0000
+    } else {
+        x.to_bits()
+    }
 }
 
-// Patterns that any function of one f64 is tried on: zeros, infinities, NaN of both signs and with payloads, both ends of the
-// subnormals, the ends and the middle of every binade (four in the interior, by the generator), and random patterns.
+// Patterns that any function of one f64 is tried on: zeros, infinities, NaN of both signs and with payloads, both ends
+// of the subnormals, the ends and the middle of every binade (four in the interior, by the generator), and random
+// patterns.
 fn patterns(seed: u64) -> Vec<u64> {
     let mut g = SplitMix64::new(seed);
     let mut all = vec![

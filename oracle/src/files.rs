@@ -1,7 +1,7 @@
 // Kind 25: leaf files and the listings that document 01's program prints of them. In: the number of bytes, and the
 // bytes packed eight to a word, the first byte lowest, the last word filled with zeros. Out: the same of the listing's
-// text. The fit is the original's `movmf_auto`, k 1 to 4, 100 rounds, seed 7; the reading, the refusals and the text are
-// written here from document 01.
+// text. The fit is the original's `movmf_auto`, k 1 to 4, 100 rounds, seed 7; the reading, the refusals and the text
+// are written here from document 01.
 use crate::cases::{Kinded, List};
 use crate::counts;
 use crate::leaves::{leaves, odd, words, SORTS};
@@ -177,7 +177,8 @@ fn numbers() -> Vec<Numbered> {
         all.extend([coord(6, &NANS), coord(6, &both), coord(6, &coords)].concat());
         all.extend(coord(0, &[0, MINUS, 1, 1 | MINUS, TWO - 1, TWO, TWO | MINUS]));
         // a bad weight comes first, wherever the bad coordinate is
-        for (n, x) in [(NANS[1], NANS[2]), (ONE | MINUS, NANS[0]), (LARGEST_WEIGHT + 1, TWO + 1), (INFINITY, INFINITY)] {
+        for (n, x) in [(NANS[1], NANS[2]), (ONE | MINUS, NANS[0]), (LARGEST_WEIGHT + 1, TWO + 1), (INFINITY, INFINITY)]
+        {
             all.push((5, with(&with(&right, i, n), 3, x)));
         }
     }
@@ -192,7 +193,12 @@ fn chosen() -> Vec<Numbered> {
     let skip = [ONE, ONE, small[0], 0, ONE, 0, 0, ONE, small[2], small[3], small[1], small[4]];
     let one = file(1, 1, &[ONE, ONE]);
     assert_eq!(fitted(&vmf::ORIGINAL, &one), Ok("groups 1\nmade 4\nsaved 4\n0 0\n".to_string()));
-    vec![(0, one), (0, file(3, 2, &[0, MINUS, 0, ONE, 0, 0, ONE, 0, ONE | MINUS])), (0, file(4, 2, &skip)), (0, file(64, 16, &[0; 64 * 17]))]
+    vec![
+        (0, one),
+        (0, file(3, 2, &[0, MINUS, 0, ONE, 0, 0, ONE, 0, ONE | MINUS])),
+        (0, file(4, 2, &skip)),
+        (0, file(64, 16, &[0; 64 * 17])),
+    ]
 }
 
 // ---- the lists
@@ -230,7 +236,17 @@ pub fn files(of: &Original) -> Vec<Kinded> {
 fn changed(mut bytes: Vec<u8>, g: &mut SplitMix64) -> Vec<u8> {
     let (sort, r) = (g.next_u64() % 6, g.next_u64());
     let place = (g.next_u64() % bytes.len() as u64) as usize;
-    let special = [NANS[r as usize % 8], INFINITY, MINUS, TWO | MINUS, TWO + 1, LARGEST_WEIGHT, LARGEST_WEIGHT + 1, ONE | MINUS, r >> 2];
+    let special = [
+        NANS[r as usize % 8],
+        INFINITY,
+        MINUS,
+        TWO | MINUS,
+        TWO + 1,
+        LARGEST_WEIGHT,
+        LARGEST_WEIGHT + 1,
+        ONE | MINUS,
+        r >> 2,
+    ];
     match sort {
         0 => bytes[place] ^= 1 << (r % 8),
         1 => bytes.truncate(place),

@@ -17,12 +17,40 @@ fn coordinate(sort: usize, i: usize, j: usize, g: &mut SplitMix64) -> f64 {
         0 | 11 | 12 | 13 => (centre + 0.1 * x).clamp(-2.0, 2.0),
         1 => x,
         2 => (((i % 2) * 3 + j) % 5) as f64 * 0.5 - 1.0,
-        3 => if i % 3 == 0 { if j % 2 == 0 { 0.0 } else { -0.0 } } else { x },
+        3 => {
+            if i % 3 == 0 {
+                if j % 2 == 0 {
+                    0.0
+                } else {
+                    -0.0
+                }
+            } else {
+                x
+            }
+        }
         4 => f64::from_bits((g.next_u64() & 1) << 63 | g.next_u64() >> 12),
-        5 => if x < 0.0 { -2.0 } else { 2.0 },
+        5 => {
+            if x < 0.0 {
+                -2.0
+            } else {
+                2.0
+            }
+        }
         6 => (centre + 1e-9 * x).clamp(-2.0, 2.0),
-        7 => if i % 2 == 0 { centre } else { -centre },
-        8 => if j == i % 3 { 1.0 } else { 0.0 },
+        7 => {
+            if i % 2 == 0 {
+                centre
+            } else {
+                -centre
+            }
+        }
+        8 => {
+            if j == i % 3 {
+                1.0
+            } else {
+                0.0
+            }
+        }
         9 => x * 1e-162,
         _ => 2.0 * x,
     }
@@ -33,11 +61,29 @@ fn weight(sort: usize, i: usize, g: &mut SplitMix64) -> f64 {
     let x = g.next_f64();
     match sort {
         0 | 2 | 6 => 1.0 + (i % 4) as f64,
-        3 => if i % 4 == 1 { 0.0 } else { x },
+        3 => {
+            if i % 4 == 1 {
+                0.0
+            } else {
+                x
+            }
+        }
         4 => f64::from_bits(1 + g.next_u64() % 5),
         5 => 1099511627776.0,
-        8 => if i % 2 == 0 { 0.0 } else { -0.0 },
-        11 => if i == 0 { 0.0 } else { 1.0 },
+        8 => {
+            if i % 2 == 0 {
+                0.0
+            } else {
+                -0.0
+            }
+        }
+        11 => {
+            if i == 0 {
+                0.0
+            } else {
+                1.0
+            }
+        }
         12 => (x * 1024.0).floor(),
         13 => x * 1e-3,
         _ => x * 10.0,

@@ -1,5 +1,6 @@
-// The original's code, brought into the build by build.rs, with document 01's exponential and logarithm in place of the platform's: `vmf` with counters and probes,
-// `plain` with neither. Beside it what the lists of cases are made of; `timed` is the original as it is timed.
+// The original's code, brought into the build by build.rs, with document 01's exponential and logarithm in place of the
+// platform's: `vmf` with counters and probes, `plain` with neither. Beside it what the lists of cases are made of;
+// `timed` is the original as it is timed.
 pub mod auto;
 pub mod bessel;
 pub mod cases;

@@ -53,15 +53,19 @@ fn case(of: &Original, leaves: &[Leaf], s: &Settings) -> Kinded {
 // floor, one leaf, leaves of zero weight.
 fn special(of: &Original) -> Vec<Kinded> {
     let leaf = |mean: &[f64], weight: f64| Leaf { mean: mean.to_vec(), weight };
-    let axis = |j: usize, weight: f64| Leaf { mean: (0..256).map(|i| if i == j { 1.0 } else { 0.0 }).collect(), weight };
+    let axis =
+        |j: usize, weight: f64| Leaf { mean: (0..256).map(|i| if i == j { 1.0 } else { 0.0 }).collect(), weight };
     let cycle = vec![leaf(&[0.5, -2.0, 1.0], 2.0), leaf(&[0.5, -2.0, 1.0], 1.0)];
-    let skip = vec![leaf(&[1.0, 0.0], 1.0), leaf(&[0.0, 1.0], 1.0), leaf(&[0.6, 0.8], 1e-8), leaf(&[0.500000001, 0.5], 0.0)];
+    let skip =
+        vec![leaf(&[1.0, 0.0], 1.0), leaf(&[0.0, 1.0], 1.0), leaf(&[0.6, 0.8], 1e-8), leaf(&[0.500000001, 0.5], 0.0)];
     let floor = vec![axis(0, 1.0), axis(1, 0.0)];
     let one = vec![leaf(&[1.0], 1.0)];
     let empty = vec![leaf(&[1.0, 0.0], 0.0), leaf(&[0.0, 1.0], -0.0), leaf(&[0.0, -1.0], 0.0)];
     let mut all = Vec::new();
     for shared in [false, true] {
-        for (set, k, seed) in [(&cycle, 2, 27), (&skip, 2, 7), (&floor, 2, 7), (&one, 1, 7), (&empty, 2, 7), (&empty, 3, 5)] {
+        for (set, k, seed) in
+            [(&cycle, 2, 27), (&skip, 2, 7), (&floor, 2, 7), (&one, 1, 7), (&empty, 2, 7), (&empty, 3, 5)]
+        {
             for rounds in [0, 1, 2, 100, 10000] {
                 all.push(case(of, set, &Settings { k, rounds, seed, shared }));
             }
@@ -114,7 +118,22 @@ pub fn mixture(of: &Original) -> Vec<Kinded> {
     let mut all = special(of);
     all.extend(small_shares(of));
     all.extend(ODD.map(|seed| odd_case(of, seed)));
-    for (m, d) in [(1, 1), (1, 3), (2, 2), (3, 1), (5, 2), (6, 3), (8, 4), (12, 5), (20, 2), (33, 16), (64, 3), (100, 8), (7, 64), (3, 256)] {
+    for (m, d) in [
+        (1, 1),
+        (1, 3),
+        (2, 2),
+        (3, 1),
+        (5, 2),
+        (6, 3),
+        (8, 4),
+        (12, 5),
+        (20, 2),
+        (33, 16),
+        (64, 3),
+        (100, 8),
+        (7, 64),
+        (3, 256),
+    ] {
         for k in (1..=m.min(64)).filter(|&k| k <= 3 || k == 5 || k == m.min(64)) {
             all.extend(sorts(of, m, d, k));
         }
@@ -125,7 +144,13 @@ pub fn mixture(of: &Original) -> Vec<Kinded> {
 
 // One case of each sort of leaves, with rounds and Kappa that go round.
 fn sorts(of: &Original, m: usize, d: usize, k: usize) -> Vec<Kinded> {
-    let sorts = if m * d > 200 { 3 } else if m * d > 30 { 7 } else { SORTS };
+    let sorts = if m * d > 200 {
+        3
+    } else if m * d > 30 {
+        7
+    } else {
+        SORTS
+    };
     (0..sorts)
         .map(|sort| {
             let seed = (m * 1000 + d * 100 + k * 10 + sort) as u64;

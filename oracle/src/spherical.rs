@@ -32,7 +32,8 @@ fn case(of: &Original, leaves: &[Leaf], s: &Settings) -> Kinded {
 fn special(of: &Original) -> Vec<Kinded> {
     let leaf = |mean: &[f64], weight: f64| Leaf { mean: mean.to_vec(), weight };
     let cycle = [leaf(&[0.5, -2.0, 1.0], 2.0), leaf(&[0.5, -2.0, 1.0], 1.0)];
-    let skip = [leaf(&[1.0, 0.0], 1.0), leaf(&[0.0, 1.0], 1.0), leaf(&[0.6, 0.8], 1e-8), leaf(&[0.500000001, 0.5], 0.0)];
+    let skip =
+        [leaf(&[1.0, 0.0], 1.0), leaf(&[0.0, 1.0], 1.0), leaf(&[0.6, 0.8], 1e-8), leaf(&[0.500000001, 0.5], 0.0)];
     let zero = [leaf(&[0.0], 1.0)];
     let one = [leaf(&[1.0], 1.0)];
     let tiny = [leaf(&[1e-170, 1e-170], 1.0), leaf(&[1.0, -1.0], 1.0)];
@@ -41,14 +42,8 @@ fn special(of: &Original) -> Vec<Kinded> {
         [0.09047266886577887, 0.15075029897319014],
         [0.8877168267643947, 0.08571275957136404],
     ];
-    let served = [
-        leaf(&far, 0.0),
-        leaf(&near, 1e6),
-        leaf(&near, 1.0),
-        leaf(&near, 2.0),
-        leaf(&wide, 100.0),
-        leaf(&wide, 1e-8),
-    ];
+    let served =
+        [leaf(&far, 0.0), leaf(&near, 1e6), leaf(&near, 1.0), leaf(&near, 2.0), leaf(&wide, 100.0), leaf(&wide, 1e-8)];
     let reseed = [leaf(&[1.0], 1e-8), leaf(&[0.0], 1e-8)];
     let stays = [leaf(&[1.0], -0.0), leaf(&[-1e-162], -0.0)];
     let run = |leaves: &[Leaf], k, rounds, restarts, seed| case(of, leaves, &Settings { k, rounds, restarts, seed });
@@ -83,7 +78,9 @@ pub fn odd_case(of: &Original, seed: u64) -> Kinded {
 // The stored cases.
 pub fn spherical(of: &Original) -> Vec<Kinded> {
     let mut all = special(of);
-    for (m, d) in [(1, 1), (1, 3), (2, 2), (3, 1), (5, 2), (6, 3), (8, 4), (12, 5), (20, 2), (33, 16), (64, 3), (100, 8), (7, 64)] {
+    for (m, d) in
+        [(1, 1), (1, 3), (2, 2), (3, 1), (5, 2), (6, 3), (8, 4), (12, 5), (20, 2), (33, 16), (64, 3), (100, 8), (7, 64)]
+    {
         for k in (1..=m.min(64)).filter(|&k| k <= 3 || k == 5 || k == m) {
             all.extend(sorts(of, m, d, k));
         }
@@ -93,7 +90,13 @@ pub fn spherical(of: &Original) -> Vec<Kinded> {
 
 // One case of each sort of leaves, with rounds and restarts that go round.
 fn sorts(of: &Original, m: usize, d: usize, k: usize) -> Vec<Kinded> {
-    let sorts = if m * d > 200 { 3 } else if m * d > 30 { 7 } else { SORTS };
+    let sorts = if m * d > 200 {
+        3
+    } else if m * d > 30 {
+        7
+    } else {
+        SORTS
+    };
     (0..sorts)
         .map(|sort| {
             let seed = (m * 1000 + d * 100 + k * 10 + sort) as u64;

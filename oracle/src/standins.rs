@@ -1,5 +1,5 @@
-// Stand-ins for the original's files that are not carried: the scalar trait for f64, a feature that is a mean and a weight,
-// and `Mixture::vmf` keeping logw (mixture.rs, with `ln_weight` as it stands there).
+// Stand-ins for the original's files that are not carried: the scalar trait for f64, a feature that is a mean and a
+// weight, and `Mixture::vmf` keeping logw (mixture.rs, with `ln_weight` as it stands there).
 use crate::document;
 
 pub trait Real:

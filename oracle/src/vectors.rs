@@ -9,7 +9,15 @@ const LENGTHS: [usize; 7] = [1, 2, 3, 7, 16, 64, 256];
 
 // Vectors of n elements: all the sorts below where n is small, the first ones where it is large.
 fn vectors(n: usize) -> Vec<Vec<f64>> {
-    let most = if n <= 7 { 24 } else if n <= 16 { 16 } else if n <= 64 { 6 } else { 3 };
+    let most = if n <= 7 {
+        24
+    } else if n <= 16 {
+        16
+    } else if n <= 64 {
+        6
+    } else {
+        3
+    };
     let mut g = SplitMix64::new(100 + n as u64);
     (0..most).map(|sort| (0..n).map(|i| element(sort, i, &mut g)).collect()).collect()
 }
@@ -24,13 +32,31 @@ fn element(sort: usize, i: usize, g: &mut SplitMix64) -> f64 {
         0 => x * 4.0 - 2.0,
         1 => f64::from_bits((r & 1) << 63 | r >> 12),
         2 => (r % 3) as f64 - 1.0,
-        3 => if odd { -2.0 } else { 2.0 },
+        3 => {
+            if odd {
+                -2.0
+            } else {
+                2.0
+            }
+        }
         4 => -0.0,
         5 => x * 2.0 - 1.0,
         6 => 0.0,
         7 => f64::from_bits(r),
-        8 => if odd { -0.0 } else { 0.0 },
-        9 => if odd { 0.0 } else { -0.0 },
+        8 => {
+            if odd {
+                -0.0
+            } else {
+                0.0
+            }
+        }
+        9 => {
+            if odd {
+                0.0
+            } else {
+                -0.0
+            }
+        }
         10 => f64::from_bits(1),
         11 => -f64::from_bits(1),
         12 => 2.0,
@@ -39,12 +65,42 @@ fn element(sort: usize, i: usize, g: &mut SplitMix64) -> f64 {
         15 => sign * (1.0 + x) * 1e160,
         16 => i as f64,
         17 => -(i as f64),
-        18 => if i == 1 { f64::NAN } else { x },
-        19 => if i == 0 { f64::NAN } else { x },
-        20 => if odd { f64::NEG_INFINITY } else { f64::INFINITY },
-        21 => if i == 0 { 1.0 } else { sign * 1e-9 * x },
+        18 => {
+            if i == 1 {
+                f64::NAN
+            } else {
+                x
+            }
+        }
+        19 => {
+            if i == 0 {
+                f64::NAN
+            } else {
+                x
+            }
+        }
+        20 => {
+            if odd {
+                f64::NEG_INFINITY
+            } else {
+                f64::INFINITY
+            }
+        }
+        21 => {
+            if i == 0 {
+                1.0
+            } else {
+                sign * 1e-9 * x
+            }
+        }
         22 => sign * 1099511627776.0,
-        _ => if odd { f64::MIN_POSITIVE } else { -f64::MIN_POSITIVE },
+        _ => {
+            if odd {
+                f64::MIN_POSITIVE
+            } else {
+                -f64::MIN_POSITIVE
+            }
+        }
     }
 }
 
@@ -109,24 +165,56 @@ fn weight(sort: usize, i: usize, g: &mut SplitMix64) -> f64 {
     let x = (r >> 11) as f64 / (1u64 << 53) as f64;
     match sort {
         0 => x,
-        1 => if r % 3 == 0 { 0.0 } else { x * x },
+        1 => {
+            if r % 3 == 0 {
+                0.0
+            } else {
+                x * x
+            }
+        }
         2 => 0.0,
         3 => -0.0,
         4 => f64::from_bits(1 + r % 3),
         5 => f64::from_bits(r >> 12),
         6 => 1.0,
         7 => (1.0 + x) * 1099511627776.0,
-        8 => if i % 2 == 0 { 0.0 } else { -0.0 },
+        8 => {
+            if i % 2 == 0 {
+                0.0
+            } else {
+                -0.0
+            }
+        }
         9 => x * 2.0 - 1.0,
-        10 => if i % 2 == 1 { f64::NAN } else { x },
-        _ => if i == 0 { f64::INFINITY } else { x },
+        10 => {
+            if i % 2 == 1 {
+                f64::NAN
+            } else {
+                x
+            }
+        }
+        _ => {
+            if i == 0 {
+                f64::INFINITY
+            } else {
+                x
+            }
+        }
     }
 }
 
 // Kind 16: the generator's state and the weights; the place, and the state after the draw.
 fn picks<W: Write>(list: &mut List<W>, n: usize) {
     let seeds = seeds();
-    let draws = if n <= 3 { 12 } else if n <= 7 { 8 } else if n <= 16 { 4 } else { 2 };
+    let draws = if n <= 3 {
+        12
+    } else if n <= 7 {
+        8
+    } else if n <= 16 {
+        4
+    } else {
+        2
+    };
     let mut cases: Vec<Case> = Vec::new();
     for (sort, w) in weights(n).iter().enumerate() {
         for k in 0..draws {
