@@ -21,7 +21,7 @@ use Rattle.kmeans_lloyd.specs.Results.{Result, resultOf}
 use Rattle.kmeans_lloyd.specs.Runs.{Runnable as RunRunnable, RunDone}
 use Rattle.kmeans_lloyd.specs.declared.RunEnd.{RunEnd}
 use Rattle.kmeans_restarts.specs.Restarts.{counted, keep, restartsUpTo, kmeansOf}
-use Rattle.kmeans_restarts.specs.Halves.{stateAt, Runnable, Fillable, InHalf, RunAt, RunBeside, Holds, withRun, Restarted}
+use Rattle.kmeans_restarts.specs.Halves.{stateAt, Runnable, Fillable, InHalf, RunAt, RunBeside, Holds, Restarted}
 use Rattle.kmeans_restarts.specs.declared.Restarts.{Restarts}
 
 -- ---- a region of a half, as it is cut out of the array

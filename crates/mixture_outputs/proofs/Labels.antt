@@ -1,14 +1,11 @@
 -- The labels that a fit writes are the first of the greatest responsibilities that it writes: a label is the place of the greatest of a
 -- leaf's row, and the row stands in front of what was found. Assumes nothing.
-use mathlib.Core.Path.{_≡_, sym, subst, ap, _∙_}
+use mathlib.Core.Path.{_≡_, sym, subst, _∙_}
 use mathlib.Core.List.{List, _++_}
-use mathlib.Core.Bool.{Bool, not}
-use mathlib.Core.Logic.{_⊎_, ⊎-elim, inl, inr}
-use Prim.Native.Nat.{ℕ, _+_, _*_, _<_, _≤_}
+use Prim.Native.Nat.{ℕ, _+_, _*_, _<_}
 use native.Mathlib.Omega.{arith}
-use lib.Dec.{T}
 use lib.ListN.{length, getD, drop, List·getD-append}
-use lib.Ieee.{Float, nan, lt, isNan}
+use lib.Ieee.{Float, nan}
 use Rattle.rows.specs.Rows.{rowOf}
 use Rattle.rows.specs.Tabulate.{tabulate}
 use Rattle.rows.proofs.Rows.{row-within, length-part, row-get}

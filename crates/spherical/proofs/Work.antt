@@ -1,6 +1,6 @@
 -- What the restarts count: the products made and those saved are together k · m for each round begun, over all runs. By
 -- recursion on the restarts, from the same of each run. Assumes nothing.
-use mathlib.Core.Path.{_≡_, refl, ap, sym, subst, _∙_}
+use mathlib.Core.Path.{_≡_, ap, sym, subst, _∙_}
 use mathlib.Core.List.{List}
 use Prim.Native.Nat.{ℕ, zero, suc, _+_, _*_, _-_, max}
 use native.Mathlib.Nat.{zero-add}

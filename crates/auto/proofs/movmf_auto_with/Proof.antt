@@ -1,7 +1,6 @@
 -- `auto::movmf_auto_with` meets its contract: what is not refused has room for the greatest number of groups; each end is the
 -- outcome at the number of the refusal, and keeps the best number. Assumes nothing.
-use mathlib.Core.Path.{_≡_, ap, sym, _∙_}
-use mathlib.Core.Bool.{true}
+use mathlib.Core.Path.{ap, sym, _∙_}
 use Prim.Native.Nat.{_≤_}
 use lib.ListN.{length}
 use borrow.Author.Needs.{needs}

@@ -5,7 +5,6 @@ use Prim.Native.Nat.{ℕ, _+_}
 use native.Mathlib.Omega.{arith}
 use lib.ListN.{length}
 use borrow.Author.Needs.{needs}
-use Rattle.counts.specs.Counts.{AtMost, ofCall}
 use Rattle.counts.proofs.Sums.{at-most-more}
 use Rattle.kmeans_layout.specs.Halves.{half, freeAt}
 use Rattle.kmeans_layout.specs.declared.Held.{Held}

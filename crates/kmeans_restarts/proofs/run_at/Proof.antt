@@ -1,6 +1,6 @@
 -- `kmeans_restarts::run_at` meets its contract: the run comes back in its half with the rest as it was. Assumes nothing.
-use mathlib.Core.Path.{_≡_, ap, _∙_}
-use Prim.Native.Nat.{ℕ, _+_, _-_}
+use mathlib.Core.Path.{_≡_}
+use Prim.Native.Nat.{_+_, _-_}
 use native.Mathlib.Omega.{arith}
 use borrow.Author.Needs.{needs}
 use Rattle.kmeans_layout.specs.Halves.{half}

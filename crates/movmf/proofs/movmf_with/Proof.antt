@@ -4,7 +4,6 @@ use mathlib.Core.Path.{_≡_, ap, sym, _∙_}
 use mathlib.Core.Bool.{Bool, true}
 use lib.ListN.{length}
 use borrow.Author.Needs.{needs}
-use Rattle.limits.specs.Limits.{groupsOk}
 use Rattle.mixture_outputs.specs.Outputs.{Outputs, arrays, lengthsOf}
 use Rattle.mixture_outputs.specs.Refusals.{fitRefusal}
 use Rattle.mixture_outputs.specs.Fillable.{Fittable}
