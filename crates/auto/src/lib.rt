@@ -1,6 +1,8 @@
 // The mixture fit that chooses the number of groups, the public entries (vmf.rs, movmf_auto_with and movmf_auto;
 // document 01, 'Choosing the number of groups' and 'Refusals by call'): what must be refused is, and the numbers of the
 // clamped range are fitted.
+#![tactic(auto)]
+
 ghost use Rattle.std.specs.Prelude.{◌≡◌, length};
 ghost use Rattle.mixture_kappa.specs.declared.Kappa.TheVariants.{Free};
 ghost use Rattle.mixture_outputs.specs.Outputs.{arrays};
@@ -11,7 +13,7 @@ ghost use Rattle.auto.specs.Tallied.{answer_of};
 
 // What a call answers: the number of the refusal; 7, with the counts; or the number kept, its log-likelihood and score,
 // and the counts.
-#[derive(Drop)]
+#[derive(Clone, Copy)]
 pub enum Chosen {
     Refused(u32),
     Unscored {

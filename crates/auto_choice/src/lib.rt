@@ -1,5 +1,7 @@
 // The range of numbers of groups, a number's score, and the choice (vmf.rs, movmf_auto_with; document 01, 'Choosing the
 // number of groups').
+#![tactic(auto)]
+
 ghost use Rattle.std.specs.Prelude.{◌≡◌, ◌*◌, ◌≤◌};
 ghost use Rattle.std.specs.Float.Ieee.{lt};
 ghost use Rattle.auto_choice.specs.Choice.{highest, lowest, score_by, held_score};
@@ -21,7 +23,7 @@ pub fn lowest_number(k_min: usize, hi: usize) -> usize
 }
 
 // The choice: a number with its score, or none.
-#[derive(Drop)]
+#[derive(Clone, Copy)]
 pub enum Choice {
     Number(usize, f64),
     Nothing,

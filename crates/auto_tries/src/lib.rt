@@ -1,6 +1,8 @@
 // The numbers of groups fitted one after the other (vmf.rs, movmf_auto_with; document 01, 'Choosing the number of
 // groups'): every number of the range is fitted once, in rising order, and the first whose score beats the one held is
 // kept and written into the outputs.
+#![tactic(auto)]
+
 ghost use Rattle.std.specs.Prelude.{◌≡◌, ◌+◌, ◌-◌, ◌≤◌, length};
 ghost use Rattle.logarithm.specs.Logarithm.{ln_of};
 ghost use Rattle.counts.specs.Counts.{AtMost, of_runs};
@@ -10,7 +12,7 @@ ghost use Rattle.auto_choice.specs.Choice.{total_of};
 ghost use Rattle.auto_tries.specs.Tries.{FitOfK, Fitted};
 
 // After some numbers: the choice with its log-likelihood, and the counts of all fits.
-#[derive(Drop)]
+#[derive(Clone, Copy)]
 pub struct Tally {
     pub choice: auto_choice::Choice,
     pub loglik: f64,

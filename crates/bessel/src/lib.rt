@@ -1,5 +1,7 @@
 // The log normalizing constant of vmf.rs and the estimate of a concentration (document 01, 'Concentration and
 // normalizer'). Every f64 is taken, NaN and infinities included; a dimension is 1 to 256.
+#![tactic(auto)]
+
 ghost use Rattle.std.specs.Prelude.{◌≡◌};
 ghost use Rattle.std.specs.Float.{binary64};
 ghost use Rattle.std.specs.Float.Ieee.{add};
@@ -35,7 +37,7 @@ fn log_iv_asymptotic(nu: f64, kappa: f64) -> f64
 }
 
 // What the series hands out: the logarithm of its greatest term, and the sum of all terms over that one.
-#[derive(Drop)]
+#[derive(Clone, Copy)]
 pub struct PeakSum {
     pub peak: f64,
     pub sum: f64,

@@ -1,5 +1,7 @@
 // What crosses the border to C (document 01, 'Refusals by call'): the kind of a Kappa, and the numbers of an answer,
 // which are put into what is lent; the number of the refusal goes back, 0 for none.
+#![tactic(auto)]
+
 ghost use Rattle.std.specs.Prelude.{◌≡◌};
 ghost use Rattle.spherical.specs.Answers.{numbers_of as clusteredNumbersOf};
 ghost use Rattle.movmf.specs.Answers.{numbers_of as fittedNumbersOf};

@@ -1,9 +1,11 @@
 // The counts of a call (document 01, 'Leaves, settings, fit'): the products that the assignment passes made, and those
 // that they saved. Every answer holds one, and it is added up over rounds, restarts and numbers of groups.
+#![tactic(auto)]
+
 ghost use Rattle.std.specs.Prelude.{◌≡◌};
 ghost use Rattle.counts.specs.Counts.{no_counts, plus_of, AtMost, of_call};
 
-#[derive(Drop)]
+#[derive(Clone, Copy)]
 pub struct Counts {
     pub made: u64,
     pub saved: u64,

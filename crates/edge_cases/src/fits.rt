@@ -4,7 +4,7 @@ ghost use Rattle.std.specs.Prelude.{◌≤◌};
 use words::{plus, word};
 
 // The numbers of a call: words 4 to 8.
-#[derive(Drop)]
+#[derive(Clone, Copy)]
 struct Call {
     d: usize,
     k_min: usize,

@@ -4,6 +4,8 @@
 // standard input. A line has its words, hexadecimal numbers with a space after each, of which word 0 is the kind, and
 // behind a bar the example's name. An f64 is its pattern. A list in a line is its length, how many of its elements are
 // written, and these; the last of them stands for the rest.
+#![tactic(auto)]
+
 mod files;
 mod fits;
 mod lists;

@@ -18,7 +18,7 @@ pub(crate) fn number_holds(kind: u64, line: &[u64]) -> bool {
 }
 
 // Five numbers, one after the other.
-#[derive(Drop)]
+#[derive(Clone, Copy)]
 struct Five {
     a: u64,
     b: u64,

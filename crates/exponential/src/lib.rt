@@ -1,5 +1,7 @@
 // The exponential of an f64, operation by operation (document 01, 'Arithmetic under the Rust', and document 02, #106),
 // singly, four and eight at once. It takes any f64.
+#![tactic(auto)]
+
 ghost use Rattle.std.specs.Prelude.{◌≡◌, T};
 ghost use Rattle.exponential.specs.Exponential.{exp_of, exp_by, floor_of, turns_of};
 ghost use Rattle.exponential.specs.Fours.{exponentials, eight_of};
@@ -42,7 +44,7 @@ fn lifted(y: f64) -> f64
 }
 
 // A whole number n as a float, and 2^n.
-#[derive(Drop)]
+#[derive(Clone, Copy)]
 struct Exponent {
     n: f64,
     w: f64,
@@ -166,7 +168,7 @@ fn times4(p: float::Four, w: float::Four) -> float::Four
 }
 
 // Four whole numbers as floats, and their powers of two.
-#[derive(Drop)]
+#[derive(Clone, Copy)]
 struct Powers {
     n: float::Four,
     w: float::Four,
@@ -238,7 +240,7 @@ fn exp4(x: float::Four) -> float::Four
 }
 
 // Eight floats.
-#[derive(Drop)]
+#[derive(Clone, Copy)]
 pub struct Eight {
     pub first: float::Four,
     pub last: float::Four,

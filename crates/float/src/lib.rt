@@ -1,6 +1,8 @@
 // f64 arithmetic as document 01 has it ('Arithmetic under the Rust'): maximum, clamp, absolute value, bit patterns, and
 // a positive number taken apart and put together. Every function but the last three is total: it takes any f64, NaN,
 // infinities, zeros and subnormals included.
+#![tactic(auto)]
+
 ghost use Rattle.std.specs.Prelude.{◌≡◌, ◌^◌, ◌<◌, ◌≤◌, T};
 ghost use Rattle.std.specs.Float.Ieee.{of_bits, to_bits};
 ghost use Rattle.std.specs.Float.{binary64};
@@ -61,7 +63,7 @@ pub fn bits_of(x: f64) -> u64
 }
 
 // Four floats, for what is computed of four at once.
-#[derive(Drop)]
+#[derive(Clone, Copy)]
 pub struct Four {
     pub x0: f64,
     pub x1: f64,
@@ -78,7 +80,7 @@ pub fn pow2(n: u64) -> f64
 }
 
 // A positive float's 53 leading binary digits, and how far they are moved up.
-#[derive(Drop)]
+#[derive(Clone, Copy)]
 pub struct Digits {
     pub m: u64,
     pub e: u64,

@@ -1,4 +1,6 @@
 // ln_gamma of vmf.rs (document 01, 'Concentration and normalizer'). Every f64 is taken, NaN and infinities included.
+#![tactic(auto)]
+
 ghost use Rattle.std.specs.Prelude.{◌≡◌};
 ghost use Rattle.gamma.specs.Gamma.{lanczos_from, lanczos, lanczos_terms, ln_gamma_of};
 

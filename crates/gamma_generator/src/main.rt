@@ -1,5 +1,7 @@
 // The generator of the table of ln_gamma (document 02, #105): prints ln_gamma(d / 2) for d = 1 to 256, one a line, as
 // the 16 hexadecimal digits of the f64's bits. table.py beside this folder makes the table's source of what it prints.
+#![tactic(auto)]
+
 ghost use Rattle.std.specs.Prelude.{◌≡◌};
 ghost use Rattle.std.specs.Float.{binary64};
 ghost use Rattle.std.specs.Float.Ieee.{to_bits};

@@ -1,4 +1,6 @@
 // The table of ln_gamma at d / 2, from which the series of the normalizer starts (document 02, #105).
+#![tactic(auto)]
+
 ghost use Rattle.std.specs.Prelude.{◌≡◌, ◌≤◌};
 ghost use Rattle.gamma.specs.Gamma.{ln_gamma_half};
 

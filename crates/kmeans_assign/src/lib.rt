@@ -1,5 +1,7 @@
 // The assignment pass of a round of spherical k-means with its bounds, their shift and the skip (vmf.rs; document 01,
 // 'Spherical k-means'), in the work areas of a run: m leaves of d coordinates, k groups.
+#![tactic(auto)]
+
 ghost use Rattle.std.specs.Prelude.{◌≡◌, true, List, ℕ, ◌<◌, ◌≤◌, length, get_or};
 ghost use Rattle.counts.specs.Counts.{AtMost, of_round};
 ghost use Rattle.kmeans_bounds.specs.Shifts.{slowest_of, other_than};
@@ -111,7 +113,7 @@ fn place_leaf(
 }
 
 // What a leaf's turn in a pass answers.
-#[derive(Drop)]
+#[derive(Clone, Copy)]
 pub struct Turn {
     pub skipped: bool,
     pub changed: bool,
@@ -183,7 +185,7 @@ fn turn_leaf(
 }
 
 // What a pass answers: whether a label changed, and the products made and saved.
-#[derive(Drop)]
+#[derive(Clone, Copy)]
 pub struct Passed {
     pub changed: bool,
     pub counts: counts::Counts,

@@ -1,5 +1,7 @@
 // A leaf's bounds (vmf.rs; document 01, 'Spherical k-means'): their shifts after the centres turned, the two smallest
 // drifts, and the skip.
+#![tactic(auto)]
+
 ghost use Rattle.std.specs.Prelude.{◌≡◌, true, false};
 ghost use Rattle.kmeans_bounds.specs.Shifts.{squares_of, sines_of, shift_lower, shift_upper, slower_of, slowest_of};
 ghost use Rattle.kmeans_bounds.specs.Shifts.{shifted_bounds, skips};
@@ -44,7 +46,7 @@ fn shift_upper(u: f64, p: f64) -> f64
 }
 
 // The place of the smallest drift, it, and the next smallest.
-#[derive(Drop)]
+#[derive(Clone, Copy)]
 pub struct Slowest {
     pub at: usize,
     pub least: f64,
@@ -92,7 +94,7 @@ pub fn two_smallest(drift: &[f64]) -> Slowest
 
 // A leaf's bounds: the norm of its mean, a lower bound on the cosine to its own centre, an upper one on that to any
 // other.
-#[derive(Drop)]
+#[derive(Clone, Copy)]
 pub struct Bounds {
     pub scale: f64,
     pub low: f64,

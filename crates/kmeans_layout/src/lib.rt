@@ -2,6 +2,8 @@
 // sums, scale, low, high, served and drift, the u32 area labels and counts, side by side; specs/Areas.antt names the
 // places, and each is worked out here and nowhere else. Two runs stand in the two halves of the lent arrays, of which
 // one is held.
+#![tactic(auto)]
+
 ghost use Rattle.std.specs.Prelude.{◌≡◌, ◌+◌, ◌≤◌, length, replicate};
 ghost use Rattle.rows.specs.Rows.{put_part};
 ghost use Rattle.counts.specs.Counts.{AtMost, of_call};
@@ -82,7 +84,7 @@ pub fn held_at(second: bool, n: usize) -> usize
 
 // What is held: the run in the first or the second half, its value, the greater the better, and the counts of all runs
 // so far.
-#[derive(Drop)]
+#[derive(Clone, Copy)]
 pub struct Held {
     pub second: bool,
     pub value: f64,

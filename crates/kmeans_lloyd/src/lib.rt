@@ -1,5 +1,7 @@
 // One run of spherical k-means in two lent work areas (vmf.rs; document 01, 'Spherical k-means'): seeding, rounds of
 // pass and update, and cohesion. m leaves of d coordinates, k groups.
+#![tactic(auto)]
+
 ghost use Rattle.std.specs.Prelude.{◌≡◌, List, ℕ, ◌+◌, ◌*◌, ◌≤◌, length};
 ghost use Rattle.kmeans_sums.specs.Sums.{norms_up_to};
 ghost use Rattle.kmeans_lloyd.specs.Lloyd.{started_from, fresh_run, rounds_from};
@@ -10,7 +12,7 @@ ghost use Rattle.kmeans_lloyd.specs.Runs.{RoundDone, RunSoFar, put_scale, four_n
 // ---- rounds
 
 // What a round answers: whether it was the last, and its counts.
-#[derive(Drop)]
+#[derive(Clone, Copy)]
 pub struct Round {
     pub ended: bool,
     pub counts: counts::Counts,
@@ -148,7 +150,7 @@ fn start(work: &mut [f64], work_u32: &mut [u32], coords: &[f64], m: usize, k: us
 // ---- a whole run
 
 // What a run ends with: its cohesion and counts, and the generator's word after it.
-#[derive(Drop)]
+#[derive(Clone, Copy)]
 pub struct RunEnd {
     pub cohesion: f64,
     pub counts: counts::Counts,

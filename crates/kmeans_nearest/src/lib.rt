@@ -1,5 +1,7 @@
 // A leaf's best centre (vmf.rs; document 01, 'Spherical k-means'): the first of the greatest dots with the centres, it,
 // and the next best dot.
+#![tactic(auto)]
+
 ghost use Rattle.std.specs.Prelude.{◌≡◌, ◌+◌, ◌*◌, ◌-◌, ◌<◌, ◌≤◌, length};
 ghost use Rattle.rows.specs.Rows.{row_of};
 ghost use Rattle.vector.specs.Vectors.{dot_of};
@@ -7,7 +9,7 @@ ghost use Rattle.kmeans_nearest.specs.Nearest.{better_of, best_to};
 ghost use Rattle.kmeans_nearest.specs.Fours.{row_dots, with_three, Centers};
 
 // A leaf's best centre, its dot, and the next best dot.
-#[derive(Drop)]
+#[derive(Clone, Copy)]
 pub struct Best {
     pub index: usize,
     pub dot: f64,

@@ -1,5 +1,7 @@
 // The restarts of spherical k-means (vmf.rs, spherical_kmeans; document 01, 'Spherical k-means'): they run in the two
 // halves of the lent work arrays, the run of the greatest cohesion is kept, and what it found is copied out.
+#![tactic(auto)]
+
 ghost use Rattle.std.specs.Prelude.{◌≡◌, ◌+◌, ◌*◌, ◌≤◌, ◌++◌, length, drop};
 ghost use Rattle.counts.specs.Counts.{AtMost, of_runs};
 ghost use Rattle.limits.specs.Limits.{most_restarts};
@@ -44,7 +46,7 @@ fn run_at(
 }
 
 // After some runs: what is held of them, and the generator.
-#[derive(Drop)]
+#[derive(Clone, Copy)]
 pub struct Restarts {
     pub held: kmeans_layout::Held,
     pub generator: u64,

@@ -1,5 +1,7 @@
 // The seeding of a run of spherical k-means (vmf.rs, spherical_pp; document 01, 'Spherical k-means'): the distances
 // stand in the place of the lower bounds, the chances in that of the upper ones. m leaves of d coordinates, k groups.
+#![tactic(auto)]
+
 ghost use Rattle.std.specs.Prelude.{◌≡◌, cond, List, ℕ, ◌+◌, ◌*◌, ◌<◌, ◌≤◌, length};
 ghost use Rattle.std.specs.Float.Ieee.{lt};
 ghost use Rattle.rows.specs.Rows.{row_of};

@@ -1,5 +1,7 @@
 // The sums and counts of the groups by the labels, and the cohesion (vmf.rs; document 01, 'Spherical k-means'), in the
 // work areas of a run: m leaves of d coordinates, k groups.
+#![tactic(auto)]
+
 ghost use Rattle.std.specs.Prelude.{◌≡◌, ◌+◌, ◌*◌, ◌<◌, length};
 ghost use Rattle.kmeans_sums.specs.Sums.{norms_up_to, sums_up_to};
 ghost use Rattle.kmeans_sums.specs.Cohesion.{cohesion_of};

@@ -1,5 +1,7 @@
 // The update of a round of spherical k-means: new centres, their drift, and reseeds of empty groups (vmf.rs; document
 // 01, 'Spherical k-means'), in the work areas of a run: m leaves of d coordinates, k groups.
+#![tactic(auto)]
+
 ghost use Rattle.std.specs.Prelude.{◌≡◌, List, ℕ, ◌+◌, ◌*◌, ◌<◌, ◌≤◌, length, get_or};
 ghost use Rattle.rows.specs.Rows.{part, row_of};
 ghost use Rattle.kmeans_bounds.specs.Shifts.{cosine};

@@ -1,5 +1,7 @@
 // Leaf files and their listing (document 01, 'Leaf file and listing program'): a file's leaves are read from its bytes,
 // fitted by the automatic fit, and listed as text.
+#![tactic(auto)]
+
 ghost use Rattle.std.specs.Prelude.{◌≡◌, [], ◌∷◌, ◌++◌, ◌+◌, ◌*◌, ◌≤◌, ◌<◌, length, drop};
 ghost use Rattle.leaf_file.specs.LeafFile.{whole_at, f64_at, f64s_at, refusal_by, file_refusal, leaves_of, leaves_in};
 ghost use Rattle.leaf_file.specs.LeafFile.{LeavesKeepBest, FileFit, file_fit_by, file_fit};

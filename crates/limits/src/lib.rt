@@ -1,4 +1,6 @@
 // The limits that the entries share (document 01, 'Leaves, settings, fit' and 'Refusals by call').
+#![tactic(auto)]
+
 ghost use Rattle.std.specs.Prelude.{◌≡◌, ◌≤◌};
 ghost use Rattle.limits.specs.Limits.{within, weight_ok, coordinate_ok, every, leaves_refusal};
 ghost use Rattle.limits.specs.Limits.{sizes_ok, groups_ok, work_ok};

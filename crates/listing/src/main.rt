@@ -1,5 +1,7 @@
 // The listing program (document 01, 'Leaf file and listing program'): reads a leaf file from standard input and prints
 // which shop is in which group.
+#![tactic(auto)]
+
 fn main() {
     // One byte more than the longest leaf file: what is longer still is refused alike.
     let mut bytes = [0u8; 8713];

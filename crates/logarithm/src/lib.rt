@@ -1,4 +1,6 @@
 // The natural logarithm of an f64, operation by operation (document 01, 'Arithmetic under the Rust'). It takes any f64.
+#![tactic(auto)]
+
 ghost use Rattle.std.specs.Prelude.{◌≡◌, T};
 ghost use Rattle.std.specs.Float.Ieee.Positive.{positive};
 ghost use Rattle.logarithm.specs.Logarithm.{ln_of, ln_by, ln_at, exponent_of, fraction_of};

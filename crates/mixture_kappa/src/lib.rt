@@ -1,6 +1,8 @@
 // The settings of a mixture fit, and the numbers of its groups that no work area is needed for (vmf.rs, Kappa and
 // movmf_once; document 01, 'Leaves, settings, fit', 'Mixture' and 'Choosing the number of groups'): how many parameters
 // k groups have, the log normalizer of a concentration, and the log coefficient of a group.
+#![tactic(auto)]
+
 ghost use Rattle.std.specs.Prelude.{◌≡◌, ◌*◌, ◌≤◌};
 ghost use Rattle.std.specs.Float.{binary64};
 ghost use Rattle.std.specs.Float.Ieee.{add};
@@ -12,14 +14,14 @@ ghost use Rattle.mixture_kappa.specs.Kappas.{parameters_of};
 ghost use Rattle.mixture_kappa.specs.Groups.{weight_floor, log_norm_of};
 
 // How a mixture estimates its concentrations: one for each group, or one for all.
-#[derive(Drop)]
+#[derive(Clone, Copy)]
 pub enum Kappa {
     Free,
     Shared,
 }
 
 // The round limit, the seed and the Kappa of a fit.
-#[derive(Drop)]
+#[derive(Clone, Copy)]
 pub struct Settings {
     pub rounds: usize,
     pub seed: u64,

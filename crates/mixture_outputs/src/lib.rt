@@ -1,5 +1,7 @@
 // What the mixture fits share (vmf.rs, the fields of a fit; mixture.rs, ln_weight; document 01, 'Leaves, settings,
 // fit', 'Mixture' and 'Refusals by call'): what they refuse, and the outputs filled from the part of the kept run.
+#![tactic(auto)]
+
 ghost use Rattle.std.specs.Prelude.{◌≡◌, ◌++◌, true, ◌*◌, ◌≤◌, ◌<◌, length, drop};
 ghost use Rattle.limits.specs.Limits.{most_groups};
 ghost use Rattle.mixture_run.specs.Fits.{labels_of, ln_weight, logw_of};
@@ -12,7 +14,7 @@ ghost use Rattle.mixture_outputs.specs.Fillable.{LeavesFit, GroupsFit, Fillable}
 // ---- what is refused
 
 // The lengths of the output and work arrays.
-#[derive(Drop)]
+#[derive(Clone, Copy)]
 pub struct Lengths {
     pub labels: usize,
     pub responsibilities: usize,

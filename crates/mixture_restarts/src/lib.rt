@@ -1,6 +1,8 @@
 // The four runs of a mixture fit (vmf.rs, movmf_with; document 01, 'Mixture'): they stand in turn in the two halves of
 // the lent work array, so that the held one and the last one are there at the end; the keeper hands back the part of
 // the kept one and makes no copy.
+#![tactic(auto)]
+
 ghost use Rattle.std.specs.Prelude.{◌≡◌, ◌+◌, ◌≤◌, length};
 ghost use Rattle.kmeans_layout.specs.Halves.{half, free_at};
 ghost use Rattle.mixture_restarts.specs.Runs.{run_of, runs_up_to};
@@ -93,7 +95,7 @@ fn first_runs(
 
 // Four runs: the one held of the first three stands in the half that `second` names and has the log-likelihood `held`,
 // the last one in the other and has `last`. The counts are those of all four.
-#[derive(Drop)]
+#[derive(Clone, Copy)]
 pub struct Runs {
     pub second: bool,
     pub held: f64,

@@ -1,6 +1,8 @@
 // One run of the mixture of von Mises-Fisher distributions in a lent work area (vmf.rs, movmf_once; document 01,
 // 'Mixture'): the warm start, then rounds of E-step and M-step. The area holds directions, resultants, five numbers a
 // group and the responsibilities, side by side; specs/Areas.antt names the places. m leaves of d coordinates, k groups.
+#![tactic(auto)]
+
 ghost use Rattle.std.specs.Prelude.{◌≡◌, true, ◌*◌, ◌<◌, ◌≤◌, length};
 ghost use Rattle.std.specs.Float.{inf};
 ghost use Rattle.mixture_run.specs.Mixture.{em_round, stops_at, em_from};
@@ -74,7 +76,7 @@ fn em(
 }
 
 // What a run answers: its log-likelihood, and the counts of its warm start.
-#[derive(Drop)]
+#[derive(Clone, Copy)]
 pub struct RunEnd {
     pub loglik: f64,
     pub counts: counts::Counts,

@@ -1,6 +1,8 @@
 // The mixture of von Mises-Fisher distributions, the public entries (vmf.rs, movmf_with and movmf; document 01,
 // 'Mixture' and 'Refusals by call'): what must be refused is, the four runs are made, and the outputs are filled from
 // the part of the kept one.
+#![tactic(auto)]
+
 ghost use Rattle.std.specs.Prelude.{◌≡◌, length};
 ghost use Rattle.mixture_kappa.specs.declared.Kappa.TheVariants.{Free};
 ghost use Rattle.mixture_outputs.specs.Outputs.{arrays, lengths_of};
@@ -9,7 +11,7 @@ ghost use Rattle.movmf.specs.Outcome.{answered, outcome};
 ghost use Rattle.movmf.specs.Answers.{AnswersWith, AnswerLabelsFirst};
 
 // What a call answers: the number of the refusal, or k, the log-likelihood and the counts.
-#[derive(Drop)]
+#[derive(Clone, Copy)]
 pub enum Fitted {
     Refused(u32),
     Done {

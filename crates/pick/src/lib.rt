@@ -1,5 +1,7 @@
 // The places that vmf.rs picks in a vector, on lent slices of f64: the greatest, the least, and one with a chance in
 // proportion to its weight.
+#![tactic(auto)]
+
 ghost use Rattle.std.specs.Prelude.{◌≡◌, max};
 ghost use Rattle.pick.specs.Places.{argmax_of, argmin_of};
 ghost use Rattle.pick.specs.Pick.{pick_of, pick_from};
@@ -35,7 +37,7 @@ pub fn argmin(v: &[f64]) -> usize
 }
 
 // What a pick answers: the place, and the generator after its draw.
-#[derive(Drop)]
+#[derive(Clone, Copy)]
 pub struct Picked {
     pub index: usize,
     pub generator: u64,

@@ -9,7 +9,7 @@ fn times(a: usize, b: usize) -> usize {
 }
 
 // Words 1 to 6 of a case: the numbers of the call.
-#[derive(Drop)]
+#[derive(Clone, Copy)]
 struct Head {
     w1: u64,
     w2: u64,
@@ -75,7 +75,7 @@ fn settings(rounds: u64, seed: u64, kappa: u64) -> mixture_kappa::Settings {
 }
 
 // The numbers of leaves, groups and coordinates of a fit's outputs.
-#[derive(Drop)]
+#[derive(Clone, Copy)]
 struct Shape {
     m: usize,
     k: usize,

@@ -2,6 +2,8 @@
 // many cases agreed, bit for bit and all NaN as one. A word of the list is 16 hexadecimal digits and one byte after
 // them. A block is its kind, the numbers of words in and out of a case, the number of cases, and the cases; kind 0 ends
 // the list. The list is read case by case: `case` is its words in and then the answer.
+#![tactic(auto)]
+
 mod answers;
 mod files;
 mod fits;
@@ -101,7 +103,7 @@ fn read_words(space: &mut [u8], to: &mut [u64], count: usize) -> usize
 }
 
 // How many cases of a kind agreed so far, and of how many.
-#[derive(Drop)]
+#[derive(Clone, Copy)]
 struct Tally {
     kind: u64,
     agreed: usize,
@@ -133,7 +135,7 @@ fn tally_for(kind: u64, t: Tally) -> Tally {
 }
 
 // A block's kind, the numbers of words in and out of a case, and the number of cases.
-#[derive(Drop)]
+#[derive(Clone, Copy)]
 struct Block {
     kind: u64,
     ins: usize,

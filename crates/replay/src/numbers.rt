@@ -26,7 +26,7 @@ fn draws_agree(case: &[u64]) -> bool {
 }
 
 // A draw, as a whole number and as an f64.
-#[derive(Drop)]
+#[derive(Clone, Copy)]
 struct Draw {
     number: u64,
     fraction: f64,

@@ -2,7 +2,7 @@
 use words::{plus, word};
 
 // The words from word `at` on, or the digest of them at word `at`; and whether all before it agreed.
-#[derive(Drop)]
+#[derive(Clone, Copy)]
 pub(crate) struct Place {
     pub(crate) at: usize,
     pub(crate) digest: bool,
@@ -24,7 +24,7 @@ fn digested(h: u64, w: u64) -> u64 {
 }
 
 // What is seen of an output so far: the digest of its words, and whether it agrees.
-#[derive(Drop)]
+#[derive(Clone, Copy)]
 struct Seen {
     h: u64,
     same: bool,

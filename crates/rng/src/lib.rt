@@ -1,6 +1,8 @@
 // SplitMix64 (rng.rs; document 01, 'SplitMix64'). A draw is made by value: a state goes in, and the moved state comes
 // back with what was drawn. The generator is lent, and its state moves on in place, by thin functions over such a draw.
 // The product modulo 2^64 is made of 32-bit halves, and gives the restarts' seeds too.
+#![tactic(auto)]
+
 ghost use Rattle.std.specs.Prelude.{◌≡◌, ◌*◌, ◌%◌, ◌^◌};
 ghost use Rattle.rng.specs.SplitMix.{step_of, mix_of, unit_of, restart_seed_of};
 ghost use Rattle.rng.specs.Drawn.{drawn, drawn_f64};
@@ -41,7 +43,7 @@ pub fn unit_f64(x: u64) -> f64
 }
 
 // The moved state, and the number drawn.
-#[derive(Drop)]
+#[derive(Clone, Copy)]
 pub struct Drawn {
     pub state: u64,
     pub out: u64,
@@ -58,7 +60,7 @@ pub fn draw_u64(state: u64) -> Drawn
 }
 
 // The moved state, and the fraction drawn.
-#[derive(Drop)]
+#[derive(Clone, Copy)]
 pub struct DrawnF64 {
     pub state: u64,
     pub out: f64,
@@ -75,7 +77,6 @@ pub fn draw_f64(state: u64) -> DrawnF64
 }
 
 // The generator.
-#[derive(Drop)]
 pub struct SplitMix64 {
     pub state: u64,
 }

@@ -1,5 +1,7 @@
 // The square root of an f64 (document 01, 'Arithmetic under the Rust'), by a loop over the 53 binary places of its Y:
 // of one root, of two in step and of four in step. It takes any f64.
+#![tactic(auto)]
+
 ghost use Rattle.std.specs.Prelude.{◌≡◌, ◌^◌, T};
 ghost use Rattle.std.specs.Float.Ieee.Positive.{positive};
 ghost use Rattle.root.specs.Root.{root_of};
@@ -12,7 +14,7 @@ const TOP: u64 = 4503599627370496;
 // A root on its way, of which y is found and n places are open. What is left of the number is `rest`: four times what
 // document 01's x * 2^(-2q) is above y^2, in units of 2^n. The next place needs `step` of it, 4 * y + 2^n. Once all is
 // found the root is y * 2^power, rounded, in units of 2^-1074.
-#[derive(Drop)]
+#[derive(Clone, Copy)]
 struct Square {
     rest: u64,
     step: u64,
@@ -97,7 +99,7 @@ pub fn root(x: f64) -> f64
 }
 
 // Two floats, for what is computed of two at once.
-#[derive(Drop)]
+#[derive(Clone, Copy)]
 pub struct Two {
     pub a: f64,
     pub b: f64,

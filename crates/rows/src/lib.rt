@@ -1,5 +1,7 @@
 // Flat arrays and their rows (document 01, 'From generics and vectors to lent slices'): parts that are filled and
 // copied. Vectors of vectors are flat arrays with a row length; a row is lent as a part.
+#![tactic(auto)]
+
 ghost use Rattle.std.specs.Prelude.{◌≡◌, length, replicate};
 ghost use Rattle.rows.specs.Rows.{Alike, Apart, part, put_part};
 

@@ -1,5 +1,7 @@
 // Spherical k-means, the public entry (vmf.rs; document 01, 'Spherical k-means' and 'Refusals by call'): what must be
 // refused is, the restarts are run, and the outputs are filled from the kept one.
+#![tactic(auto)]
+
 ghost use Rattle.std.specs.Prelude.{◌≡◌, ◌≤◌, length};
 ghost use Rattle.spherical.specs.Refusals.{arrays_ok, refusal_of};
 ghost use Rattle.spherical.specs.Outcome.{Outcome, outcome};
@@ -63,7 +65,7 @@ fn refusal(
 // ---- the entry
 
 // What a call answers: the number of the refusal, or the cohesion and the counts.
-#[derive(Drop)]
+#[derive(Clone, Copy)]
 pub enum Clustered {
     Refused(u32),
     Done {

@@ -1,6 +1,8 @@
 // The three entries for a program in C or Rust (document 01, 'Refusals by call'): numbers and arrays in, the answer
 // through what is lent, the number of the refusal back, 0 for none. A slice crosses the border as a pointer and a
 // length; include/mosterklomp.h declares the functions.
+#![tactic(auto)]
+
 ghost use Rattle.std.specs.Prelude.{◌≡◌, length, true};
 ghost use Rattle.mixture_outputs.specs.Outputs.{arrays};
 ghost use Rattle.mixture_outputs.specs.Labels.{LabelsFirst};

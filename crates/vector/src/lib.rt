@@ -1,5 +1,7 @@
 // The helpers that vmf.rs shares among its methods, on lent slices of f64: dot, norm, unit, sums, and rows that are
 // divided, scaled and added.
+#![tactic(auto)]
+
 ghost use Rattle.std.specs.Prelude.{◌≡◌, min};
 ghost use Rattle.float.specs.Arithmetic.{minus_zero, plus_zero, sum_from};
 ghost use Rattle.rows.specs.Rows.{Alike};

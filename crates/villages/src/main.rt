@@ -1,5 +1,6 @@
 // Lists the two leaf files that its arguments name, each behind its name. The gate runs it on two villages that differ
 // in one bit: in the first a shop is equally like two groups, in the second it is nearer to one of them.
+#![tactic(auto)]
 
 // The listing of an open file.
 fn list_open(fd: i32) {

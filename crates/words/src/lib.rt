@@ -1,6 +1,8 @@
 // What the programs that run lists of examples read. A text's words are hexadecimal numbers, each with one byte after
 // it that is no digit. They are read once, to an array of whole numbers; an example's numbers, vectors and lists are
 // parts of that array.
+#![tactic(auto)]
+
 ghost use Rattle.std.specs.Prelude.{◌≡◌, ◌+◌, ◌≤◌, min, eqb, length, take, drop, get_or};
 ghost use Rattle.std.specs.Float.{binary64};
 ghost use Rattle.std.specs.Float.Ieee.{of_bits, to_bits};
@@ -135,7 +137,7 @@ pub fn load(v: &mut [f64], words: &[u64], from: usize, last: usize, n: usize) ->
 
 // A list of `count` bytes from word `from` on: packed eight to a word, the first lowest, or one to a word, of which
 // elements 0 to `last` are written and the last of them stands for the rest.
-#[derive(Drop)]
+#[derive(Clone, Copy)]
 pub struct Bytes {
     pub count: usize,
     pub from: usize,
