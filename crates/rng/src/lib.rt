@@ -77,6 +77,7 @@ pub fn draw_f64(state: u64) -> DrawnF64
 }
 
 // The generator.
+#[derive(Drop)]
 pub struct SplitMix64 {
     pub state: u64,
 }

@@ -1,0 +1,97 @@
+-- `auto::movmf_auto_with` meets its contract: what is not refused has room for the greatest number of groups; each end is the
+-- outcome at the number of the refusal, and keeps the best number. Assumes nothing.
+use mathlib.Core.Path.{ap, sym, ◌∙◌}
+use Prim.Native.Nat.{◌≤◌}
+use lib.ListN.{length}
+use borrow.Author.Tests.{leb-true}
+use Rattle.logarithm.specs.Logarithm.{ln_of}
+use Rattle.mixture_outputs.specs.Outputs.{Outputs, arrays, lengths_of}
+use Rattle.auto.proofs.Outcomes.{highest_some, lowest_some, lowest_most, admitted, refused, refused_best}
+use Rattle.auto.proofs.Outcomes.{refused_first, done, done_best, done_first}
+use Rattle.auto.proofs.movmf_auto_with.Goals.{After-highest_number-hi, Start}
+use Rattle.auto.proofs.movmf_auto_with.Goals as goal
+
+-- the arrays as found
+abbrev found : Start → Outputs
+found s =
+    let a = s.args in
+    arrays a.labels.now a.responsibilities.now a.group_weights.now a.directions.now a.concentrations.now a.logw.now
+
+some_at : (h : After-highest_number-hi) → 1 ≤ h.highest_number-hi.result
+some_at h = let a = h.args in highest_some a.k_max (length a.weights.now) _ h.highest_number-hi.ensures
+
+pub refusal-code-requires : goal.refusal-code-requires
+refusal-code-requires c = λ e. leb-true _ _ e
+
+pub returns-then-code-ne0 : goal.returns-then-code-ne0
+returns-then-code-ne0 c =
+    let l = c.lowest_number-lo in
+    let a = c.args in record {
+      logw_after = refused (found c.before.before.before.before.before.before.before.before.before.before.before.before.before.before) a.weights.now a.coords.now a.d a.k_min a.k_max a.s (length a.work.now)
+          (length a.work_u32.now)
+          l.result c.highest_number-hi.result c.highest_number-hi.ensures l.ensures c.refusal-code.result c.refusal-code.ensures
+          c.if-code-ne0.true;
+      answer_keeps_best = refused_best (found c.before.before.before.before.before.before.before.before.before.before.before.before.before.before) a.weights.now a.coords.now a.d a.k_min a.k_max a.s (length a.work.now)
+            (length a.work_u32.now) l.result c.highest_number-hi.result c.highest_number-hi.ensures l.ensures
+            c.refusal-code.result c.refusal-code.ensures c.if-code-ne0.true;
+      answer_labels_first = (refused_first (found c.before.before.before.before.before.before.before.before.before.before.before.before.before.before) a.weights.now a.coords.now a.d a.k_min a.k_max a.s (length a.work.now)
+            (length a.work_u32.now) l.result c.highest_number-hi.result c.highest_number-hi.ensures l.ensures
+            c.refusal-code.result c.refusal-code.ensures c.if-code-ne0.true, );
+    }
+
+pub fit_range-t-requires : goal.fit_range-t-requires
+fit_range-t-requires c =
+    let l = c.lowest_number-lo in
+    let a = c.args in record {
+      fittable = (admitted a.weights.now a.coords.now a.d c.highest_number-hi.result a.s
+          (lengths_of (found c.before.before.before.before.before.before.before.before.before.before.before.before.before.before.before.before.before.before.before.before.before.before.before.before) (length a.work.now) (length a.work_u32.now)) (some_at c.before.before.before.before.before.before.before.before.before.before.before.before.before)
+          (sym c.refusal-code.ensures ∙ c.if-code-ne0.false)).fittable;
+      le_lo = (
+        lowest_some a.k_min c.highest_number-hi.result l.result l.ensures (some_at c.before.before.before.before.before.before.before.before.before.before.before.before.before),
+        lowest_most a.k_min c.highest_number-hi.result l.result l.ensures,
+        c.ln-ln_total.ensures ∙ ap ln_of c.sum.ensures,
+      );
+    }
+
+pub returns : goal.returns
+returns c =
+    let l = c.lowest_number-lo in
+    let a = c.args in
+    let n = c.fit_range-t in
+    let x = n.last.1.1.1.1.1.1.1 in
+    let o = arrays x.0 x.1.0 x.1.1.0 x.1.1.1.0 x.1.1.1.1.0 x.1.1.1.1.1.0 in record {
+      logw_after = done (found c.before.before.before.before.before.before.before.before.before.before.before.before.before.before.before.before.before.before.before.before.before.before.before.before.before.before.before.before.before.before.before.before.before.before.before.before.before.before.before.before.before.before) a.weights.now a.coords.now a.d a.k_min a.k_max a.s (length a.work.now)
+          (length a.work_u32.now)
+          l.result c.highest_number-hi.result c.highest_number-hi.ensures l.ensures c.refusal-code.result c.refusal-code.ensures
+          n.result c.answer.result o n.ensures c.answer.ensures c.if-code-ne0.false;
+      answer_keeps_best = done_best (found c.before.before.before.before.before.before.before.before.before.before.before.before.before.before.before.before.before.before.before.before.before.before.before.before.before.before.before.before.before.before.before.before.before.before.before.before.before.before.before.before.before.before) a.weights.now a.coords.now a.d a.k_min a.k_max a.s (length a.work.now)
+            (length a.work_u32.now) l.result c.highest_number-hi.result c.highest_number-hi.ensures l.ensures
+            c.refusal-code.result c.refusal-code.ensures n.result c.answer.result o n.ensures c.answer.ensures;
+      answer_labels_first = (done_first (found c.before.before.before.before.before.before.before.before.before.before.before.before.before.before.before.before.before.before.before.before.before.before.before.before.before.before.before.before.before.before.before.before.before.before.before.before.before.before.before.before.before.before) a.weights.now a.coords.now a.d a.k_min a.k_max a.s (length a.work.now)
+            (length a.work_u32.now) l.result c.highest_number-hi.result c.highest_number-hi.ensures l.ensures
+            c.refusal-code.result c.refusal-code.ensures n.result c.answer.result o n.ensures c.answer.ensures, );
+    }
+
+pub shape_of-labels : goal.shape_of-labels
+shape_of-labels c = c.fit_range-t.auto.labels
+
+pub shape_of-responsibilities : goal.shape_of-responsibilities
+shape_of-responsibilities c = c.fit_range-t.auto.responsibilities
+
+pub shape_of-group_weights : goal.shape_of-group_weights
+shape_of-group_weights c = c.fit_range-t.auto.group_weights
+
+pub shape_of-directions : goal.shape_of-directions
+shape_of-directions c = c.fit_range-t.auto.directions
+
+pub shape_of-concentrations : goal.shape_of-concentrations
+shape_of-concentrations c = c.fit_range-t.auto.concentrations
+
+pub shape_of-logw : goal.shape_of-logw
+shape_of-logw c = c.fit_range-t.auto.logw
+
+pub shape_of-work : goal.shape_of-work
+shape_of-work c = c.fit_range-t.auto.work
+
+pub shape_of-work_u32 : goal.shape_of-work_u32
+shape_of-work_u32 c = c.fit_range-t.auto.work_u32

@@ -1,0 +1,123 @@
+-- `auto_tries::fit_range` meets its contract.
+use mathlib.Core.Path.{◌≡◌, refl, ap, ◌∙◌}
+use mathlib.Core.Bool.{true}
+use Prim.Native.Nat.{◌*◌, ◌-◌}
+use native.Mathlib.Omega.{arith}
+use lib.ListN.{length}
+use lib.Ieee.{inf, of_bits, div, neg}
+use Rattle.counts.specs.Counts.{of_runs}
+use Rattle.counts.specs.declared.Counts.{Counts}
+use Rattle.counts.proofs.Sums.{at_most_none, at_most_more}
+use Rattle.mixture_outputs.specs.Outputs.{Outputs, lengths_of, arrays}
+use Rattle.mixture_outputs.specs.declared.Lengths.{Lengths}
+use Rattle.auto_choice.specs.declared.Choice.TheVariants.{Nothing}
+use Rattle.auto_tries.specs.declared.Tally.{Tally}
+use Rattle.auto_tries.proofs.Room.{fittable_below, fittable_of, lengths_of_law}
+use Rattle.auto_tries.proofs.Tails.{tails_start}
+use Rattle.auto_tries.proofs.Numbers.{fitted_start, fitted_turn, fitted_end, tails_turn, small_turn}
+use Rattle.auto_tries.proofs.fit_range.Goals.{After-loop-k, Start}
+use Rattle.auto_tries.proofs.fit_range.Goals as goal
+
+-- the arrays as found
+abbrev found : Start → Outputs
+found s =
+    let a = s.args in
+    arrays a.labels.now a.responsibilities.now a.group_weights.now a.directions.now a.concentrations.now a.logw.now
+
+abbrev begun : Counts → Tally
+begun counts = record { choice = Nothing; loglik = inf true; counts = counts }
+
+pub loop-k-init : goal.loop-k-init
+unfolding div neg of_bits
+loop-k-init c =
+    let a = c.args in (
+      omega arith,
+      omega (arith, c.requires.le_lo.1),
+      refl,
+      fitted_start (found c.before.before.before.before.before.before.before.before.before.before.before) a.weights.now a.coords.now a.d a.s a.lo _ (ap begun c.none.ensures),
+      tails_start (length a.weights.now) a.lo a.d (found c.before.before.before.before.before.before.before.before.before.before.before),
+      rw c.none.ensures (at_most_none (of_runs (4 * (a.lo - a.lo)))),
+    )
+
+pub fit_of_k-t-requires : goal.fit_of_k-t-requires
+fit_of_k-t-requires c =
+    let a = c.args in
+    let l = c.loop-k in
+    let most = c.loop-k-test.true in
+    let m = length a.weights.now in
+    let n = length a.coords.now in
+    let v = fittable_below m n m a.hi l.k a.d a.s.rounds
+    (lengths_of (found c.before.before.before.before.before.before.before.before.before.before.before.before.before.before.before.before.before.before.before.before.before) (length a.work.now) (length a.work_u32.now)) (omega (arith, l.inv.0, c.requires.le_lo.0)) most c.requires.fittable in record {
+      fittable = fittable_of m n m l.k a.d a.s.rounds _ _ l.inv.2 v;
+      at_most = (
+        at_most_more (omega (arith, most, c.requires.le_lo.0, c.requires.fittable.runnable.halves.sizes.k_small)) l.inv.5,
+        c.requires.le_lo.2,
+      );
+    }
+
+pub overflow_add-k : goal.overflow_add-k
+overflow_add-k c =
+    omega (arith, c.loop-k-test.true, c.requires.fittable.runnable.halves.sizes.k_small)
+
+pub loop-k-smaller : goal.loop-k-smaller
+loop-k-smaller c = omega (arith, c.loop-k-test.true)
+
+pub loop-k-preserved : goal.loop-k-preserved
+loop-k-preserved c =
+    let a = c.args in
+    let l = c.loop-k in
+    let n = c.fit_of_k-t in
+    let most = c.loop-k-test.true in
+    let w = a.weights.now in
+    let x = a.coords.now in
+    let o = arrays l.labels l.responsibilities l.group_weights l.directions l.concentrations l.logw in
+    let e = n.kept.1.1.1.1.1.1.1 in
+    let z = n.last.1.1.1.1.1.1.1 in
+    let o' = arrays z.0 z.1.0 z.1.1.0 z.1.1.1.0 z.1.1.1.1.0 z.1.1.1.1.1.0 in (
+      omega (arith, l.inv.0),
+      omega (arith, most),
+      lengths_of_law o o' (length l.work) _ (length l.work_u32) _ e.0 e.1.0 e.1.1.0 e.1.1.1.0 e.1.1.1.1.0
+          e.1.1.1.1.1.0 e.1.1.1.1.1.1.0 e.1.1.1.1.1.1.1.0 ∙ l.inv.2,
+      fitted_turn (found c.before.before.before.before.before.before.before.before.before.before.before.before.before.before.before.before.before.before.before.before.before.before.before.before.before.before.before.before.before.before.before.before.before.before.before.before.before.before) w x a.d a.s a.lo l.k (l.k - a.lo) l.t n.result o o' n.ensures l.inv.4 l.inv.0
+          refl l.inv.3,
+      tails_turn (found c.before.before.before.before.before.before.before.before.before.before.before.before.before.before.before.before.before.before.before.before.before.before.before.before.before.before.before.before.before.before.before.before.before.before.before.before.before.before) w x a.d a.s a.lo l.k (l.k - a.lo) l.t n.result o o' n.ensures l.inv.4,
+      small_turn (found c.before.before.before.before.before.before.before.before.before.before.before.before.before.before.before.before.before.before.before.before.before.before.before.before.before.before.before.before.before.before.before.before.before.before.before.before.before.before) w x a.d a.s a.lo l.k (l.k - a.lo) l.t n.result o o' n.ensures l.inv.4 l.inv.0
+          l.inv.5,
+    )
+
+-- an array is as long as found
+kept : (c : After-loop-k) → let l = c.loop-k in let a = c.args in
+    lengths_of (arrays l.labels l.responsibilities l.group_weights l.directions l.concentrations l.logw) (length l.work)
+    (length l.work_u32) ≡ lengths_of (found c.before.before.before.before.before.before.before.before.before.before.before.before.before) (length a.work.now) (length a.work_u32.now)
+kept c = c.loop-k.invariant.2
+
+pub returns : goal.returns
+returns c =
+    let a = c.args in
+    let l = c.loop-k in
+    fitted_end (found c.before.before.before.before.before.before.before.before.before.before.before.before.before) a.weights.now a.coords.now a.d a.s a.lo a.hi l.k l.t _
+    (omega (arith, l.invariant.1, c.loop-k-test.false)) l.invariant.3
+
+pub shape_of-labels : goal.shape_of-labels
+shape_of-labels c = ap (λ (l : Lengths). l.labels) (kept c)
+
+pub shape_of-responsibilities : goal.shape_of-responsibilities
+shape_of-responsibilities c = ap (λ (l : Lengths). l.responsibilities) (kept c)
+
+pub shape_of-group_weights : goal.shape_of-group_weights
+shape_of-group_weights c = ap (λ (l : Lengths). l.weights) (kept c)
+
+pub shape_of-directions : goal.shape_of-directions
+shape_of-directions c = ap (λ (l : Lengths). l.directions) (kept c)
+
+pub shape_of-concentrations : goal.shape_of-concentrations
+shape_of-concentrations c = ap (λ (l : Lengths). l.concentrations) (kept c)
+
+pub shape_of-logw : goal.shape_of-logw
+shape_of-logw c = ap (λ (l : Lengths). l.logw) (kept c)
+
+pub shape_of-work : goal.shape_of-work
+shape_of-work c = ap (λ (l : Lengths). l.work) (kept c)
+
+pub shape_of-work_u32 : goal.shape_of-work_u32
+shape_of-work_u32 c = ap (λ (l : Lengths). l.work_u32) (kept c)

@@ -1,0 +1,11 @@
+-- `border::give_chosen` meets its contract: a case of `chosenNumbers` for each answer, which the match tells. Assumes nothing.
+use Rattle.border.proofs.give_chosen.Goals as goal
+
+pub returns-in-Refused : goal.returns-in-Refused
+returns-in-Refused c = rw c.a-1.given.1
+
+pub returns-in-Unscored : goal.returns-in-Unscored
+returns-in-Unscored c = rw c.a-in-Unscored-1.given.1
+
+pub returns-in-Done : goal.returns-in-Done
+returns-in-Done c = rw c.a-in-Done-1.given.1

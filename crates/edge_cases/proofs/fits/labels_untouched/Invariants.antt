@@ -1,0 +1,10 @@
+-- `edge_cases::fits::labels_untouched` is safe and ends: a turn for each element. Assumes nothing.
+use Prim.Native.Nat.{◌≤◌, ◌-◌}
+use lib.ListN.{length}
+use Rattle.edge_cases.proofs.fits.labels_untouched.Given as goal
+
+abbrev pub invariant-loop-i : goal.invariant-loop-i
+invariant-loop-i l = l.i ≤ length l.v
+
+abbrev pub decreases-loop-i : goal.decreases-loop-i
+decreases-loop-i l = length l.v - l.i

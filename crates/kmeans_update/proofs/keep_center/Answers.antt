@@ -1,0 +1,15 @@
+-- `kmeans_update::keep_center` meets its contract, by what `turned` ensures: each promise is a law over plain lists. Assumes nothing.
+use lib.Ieee.{of_bits, of_int}
+use Rattle.kmeans_update.proofs.Updates.{keep_done, drift_sums}
+use Rattle.kmeans_update.proofs.keep_center.Goals as goal
+
+pub returns : goal.returns
+unfolding of_bits of_int
+returns c =
+    let p = c.drift_at-drift in
+    let a = c.args in
+    let v = c.turned-v.result in record {
+      by_index = keep_done a.m a.k a.d a.work.now a.c v c.requires.group_of c.requires.area.work_long p.result p.ensures
+          c.turned-v.ensures;
+      work_unchanged = drift_sums a.m a.k a.d a.work.now a.c v c.requires.group_of c.requires.area.work_long p.result p.ensures;
+    }

@@ -1,0 +1,77 @@
+-- `kmeans_update::update` meets its contract: where the two ways meet, served is refreshed if a group is empty and the sums are those of
+-- accumulate; update_groups goes on from there. Assumes nothing.
+use mathlib.Core.Path.{◌≡◌, ap, ◌∙◌}
+use mathlib.Core.List.{List}
+use mathlib.Core.Logic.{⊎_elim}
+use lib.ListN.{length}
+use lib.Ieee.{Float}
+use Rattle.kmeans_layout.specs.State.{State}
+use Rattle.kmeans_update.specs.Update.{refreshed}
+use Rattle.kmeans_layout.specs.Areas.{state_in, sums_in, counts_in}
+use Rattle.kmeans_layout.proofs.Sizes.{sized_of, labelled_of}
+use Rattle.kmeans_update.proofs.Whole.{refresh_made, refresh_left, update_done}
+use Rattle.kmeans_update.proofs.update.Goals.{After-accumulate, Joined-has_empty}
+use Rattle.kmeans_update.proofs.update.Goals as goal
+
+-- where the two ways meet
+refreshed_at : (j : Joined-has_empty) → let a = j.args in
+    let w₁ = j.accumulate.new.work in
+    let u₁ = j.accumulate.new.work_u32 in
+    let s = state_in a.m a.k a.d w₁ u₁ in
+    let counts = counts_in a.m a.k u₁ in
+    (length j.if-has_empty.work ≡ length w₁)
+    × (state_in a.m a.k a.d j.if-has_empty.work u₁ ≡ refreshed a.coords.now a.m a.k a.d counts s)
+    × (sums_in a.k a.d j.if-has_empty.work ≡ sums_in a.k a.d w₁)
+refreshed_at j =
+    let a = j.args in
+    let w₁ = j.accumulate.new.work in
+    let u₁ = j.accumulate.new.work_u32 in
+    let s = state_in a.m a.k a.d w₁ u₁ in
+    let counts = counts_in a.m a.k u₁ in
+    let h = j.has_empty in
+    ⊎_elim
+    (λ w. (
+      ap length w.6 ∙ w.3.kept.0,
+      ap (λ (l : List Float). state_in a.m a.k a.d l u₁) w.6
+          ∙ refresh_made a.coords.now a.m a.k a.d counts s _ h.result h.ensures w.0.taken w.3.ensures.0,
+      ap (λ (l : List Float). sums_in a.k a.d l) w.6 ∙ w.3.ensures.1,
+    ))
+    (λ w. (
+      ap length w.1,
+      ap (λ (l : List Float). state_in a.m a.k a.d l u₁) w.1
+          ∙ refresh_left a.coords.now a.m a.k a.d counts s s h.result h.ensures w.0.left,
+      ap (λ (l : List Float). sums_in a.k a.d l) w.1,
+    ))
+    j.if-has_empty.branch
+
+-- places, each from a later one
+abbrev accumulate_at : tie.After-refresh-arg2 → After-accumulate
+accumulate_at p = let q = p.before.before.before.before.before in q.before.before.before.before
+
+pub refresh-requires : goal.refresh-requires
+refresh-requires c =
+    let g = accumulate_at c in
+    let s = start g in
+    let a = s.args in record {
+      sized = sized_of _ _ _ _ (length a.coords.now) a.m a.k a.d g.accumulate.kept.0 g.accumulate.kept.1.0 s.pre.0;
+      labelled = labelled_of a.m a.k (state_in a.m a.k a.d a.work.now a.work_u32.now)
+          (state_in a.m a.k a.d g.accumulate.last.0 g.accumulate.last.1.0)
+          (ap (λ (x : State). x.labels) g.accumulate.ensures.state) s.pre.1.1;
+    }
+
+pub update_groups-requires : goal.update_groups-requires
+update_groups-requires c =
+    let a = c.args in
+    sized_of _ _ _ _ (length a.coords.now) a.m a.k a.d ((refreshed_at c.before).0 ∙ c.accumulate.auto.work) c.accumulate.auto.work_u32
+    c.requires.sized
+
+pub shape_of-work : goal.shape_of-work
+shape_of-work c =
+    c.update_groups.auto.work ∙ (refreshed_at c.before.before.before.before).0 ∙ c.accumulate.auto.work
+
+pub returns : goal.returns
+returns c =
+    let a = c.args in
+    update_done a.weights.now a.coords.now a.m a.k a.d a.work.now c.accumulate.new.work c.if-has_empty.work
+    a.work_u32.now c.accumulate.new.work_u32 _
+    c.accumulate.ensures (refreshed_at c.before.before.before.before).1 (refreshed_at c.before.before.before.before).2 c.update_groups.ensures

@@ -1,0 +1,11 @@
+-- `leaf_file::fit_leaves` meets its contract: it is the automatic fit in arrays of its own. Assumes nothing.
+use mathlib.Core.Path.{refl}
+use Rattle.leaf_file.proofs.Fits.{fit_by}
+use Rattle.leaf_file.proofs.fit_leaves.Goals as goal
+
+pub returns : goal.returns
+unfolding lib.Ieee.of_bits
+returns c = let both =
+    let a = c.args in
+    let e = c.movmf_auto.ensures in
+    fit_by a.weights.now a.coords.now a.d a.labels.now _ _ _ _ _ _ _ refl refl refl refl refl refl refl _ e.0 e.1.0 in record { fact = both.0; leaves_keep_best = both.1 }

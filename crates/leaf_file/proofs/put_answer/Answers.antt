@@ -1,0 +1,11 @@
+-- `leaf_file::put_answer` meets its contract: a case of the text for each answer, which the match tells. Assumes nothing.
+use Rattle.leaf_file.proofs.put_answer.Goals as goal
+
+pub returns-in-Refused : goal.returns-in-Refused
+returns-in-Refused c = rw c.r-1.given.1 c.put_refused.ensures
+
+pub returns-in-Unscored : goal.returns-in-Unscored
+returns-in-Unscored c = rw c.enum_told-1.given.1 c.put_refused-in-Unscored.ensures
+
+pub returns-in-Done : goal.returns-in-Done
+returns-in-Done c = rw c.r-in-Done-1.given.1 c.put_groups.ensures

@@ -1,0 +1,61 @@
+-- `mixture_run::maximization::redirect` meets its contract.
+use mathlib.Core.Path.{◌≡◌, refl, ap, ◌∙◌}
+use mathlib.Core.Logic.{⊎_elim}
+use Prim.Native.Nat.{ℕ, ◌+◌, ◌*◌, ◌≤◌}
+use native.Mathlib.Omega.{arith}
+use lib.ListN.{length}
+use lib.Ieee.{of_bits}
+use Rattle.rows.proofs.Rows.{row_within}
+use Rattle.mixture_run.specs.Areas.{parts_in, norms_at, total}
+use Rattle.mixture_run.proofs.Directions.{directions_done, directions_start, directed, direction_kept}
+use borrow.Author.Rules.{rules}
+use Rattle.mixture_run.proofs.maximization.redirect.Goals.{In-loop-c}
+use Rattle.mixture_run.proofs.maximization.redirect.Goals as goal
+
+-- the row of a turn
+row_of_law : (c : In-loop-c) → let a = c.args in c.loop-c.c * a.d + a.d ≤ a.k * a.d
+row_of_law c = let a = c.args in row_within c.loop-c.c a.k a.d c.loop-c-test.true
+
+pub loop-c-init : goal.loop-c-init
+loop-c-init c =
+    let a = c.args in
+    (omega arith, refl, directions_start a.d (parts_in a.m a.k a.d a.work.now))
+
+pub overflow_mul-to : goal.overflow_mul-to
+overflow_mul-to c = search (row_of_law c.before.before, rules)
+
+pub overflow_add-sums : goal.overflow_add-sums
+overflow_add-sums c = search (row_of_law c.before.before.before, rules)
+
+pub divide_within-requires : goal.divide_within-requires
+divide_within-requires c =
+    let l = c.loop-c in
+    let r = row_of_law c.before.before.before in
+    record { order = omega (arith, r); within = omega (arith, r, l.invariant.1, c.requires.area.work_long) }
+
+pub loop-c-preserved : goal.loop-c-preserved
+unfolding of_bits
+loop-c-preserved c =
+    let l = c.loop-c in
+    let a = c.args in
+    let h = c.loop-c-test.true in
+    let p = parts_in a.m a.k a.d a.work.now in
+    let at = c.norms_at-norms.result + l.c in
+    let place : at ≡ norms_at a.k a.d + l.c = omega (arith, c.norms_at-norms.ensures) in
+    let long : total a.m a.k a.d ≤ length l.work = omega (arith, l.invariant.1, c.requires.area.work_long) in (
+      omega (arith, h),
+      ⊎_elim (λ w. ap length w.5 ∙ w.2.kept.0 ∙ l.invariant.1) (λ w. ap length w.1 ∙ l.invariant.1) c.if-n.branch,
+      ⊎_elim
+          (λ w. directed a.m a.k a.d p l.work l.c h long c.requires.work_value l.invariant.2 at place c.if-n.work w.0.taken
+          (w.5 ∙ w.2.ensures))
+          (λ w. direction_kept a.m a.k a.d p l.work l.c h long c.requires.work_value l.invariant.2 at place c.if-n.work w.0.left
+          w.1)
+          c.if-n.branch,
+    )
+
+pub returns : goal.returns
+returns c =
+    let l = c.loop-c in
+    let a = c.args in
+    let e : l.c ≡ a.k = omega (arith, c.loop-c-test.false) in
+    l.invariant.2 ∙ ap (λ (n : ℕ). directions_done a.d (parts_in a.m a.k a.d a.work.now) n) e

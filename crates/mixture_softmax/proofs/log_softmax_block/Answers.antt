@@ -1,0 +1,45 @@
+-- `mixture_softmax::log_softmax_block` meets its contract, by what its five calls ensure. Assumes nothing.
+use mathlib.Core.Path.{◌≡◌, sym, ◌∙◌}
+use native.Mathlib.Omega.{arith}
+use lib.ListN.{length, take}
+use lib.Seq.{length-take-le}
+use Rattle.mixture_softmax.proofs.Blocks.{logs_done, shares_done}
+use Rattle.mixture_softmax.proofs.log_softmax_block.Goals.{After-e-9-1}
+use Rattle.mixture_softmax.proofs.log_softmax_block.Goals as goal
+
+-- what is copied is as long as the rows
+front_long : (c : After-e-9-1) → let n =
+    length c.args.rows.now in length
+    (take n c.exp_front-2.new.e) ≡ n
+front_long c =
+    length-take-le _ c.exp_front-2.new.e
+    (omega (
+      arith,
+      c.exp_front-2.auto.e,
+      c.less_log_sums-s.auto.e,
+      c.exp_front.auto.e,
+      c.less_greatests.auto.e,
+      c.requires.rows_small,
+    ))
+
+pub slice_bounds-copy-end : goal.slice_bounds-copy-end
+slice_bounds-copy-end c = sym (front_long c)
+
+pub copy-requires : goal.copy-requires
+copy-requires c = record { same = sym (front_long c) }
+
+pub returns : goal.returns
+returns c =
+    let a = c.args in
+    let p = c.requires in
+    let m = length a.weights.now in
+    let g = c.less_greatests in
+    let x = c.exp_front in
+    let s = c.less_log_sums-s in
+    let y = c.exp_front-2 in (
+      s.ensures.0 ∙ logs_done a.k a.rows.now m p.rows_long _ g.last.0 x.last.0 g.ensures x.ensures
+          a.weights.now a.l,
+      c.copy.ensures
+          ∙ shares_done a.k a.rows.now m p.rows_long _ g.last.0 x.last.0 g.ensures x.ensures s.last.0
+          y.new.0 s.ensures.1 y.ensures,
+    )

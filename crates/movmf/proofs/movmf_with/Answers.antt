@@ -1,0 +1,104 @@
+-- `movmf::movmf_with` meets its contract: what is not refused is within the limits, so both halves have room and the outputs can be
+-- filled; each end is the outcome at the number of the refusal. Assumes nothing.
+use mathlib.Core.Path.{◌≡◌, ap, sym, ◌∙◌}
+use mathlib.Core.Bool.{Bool, true}
+use lib.ListN.{length}
+use Rattle.mixture_outputs.specs.Outputs.{Outputs, arrays, lengths_of}
+use Rattle.mixture_outputs.specs.Refusals.{fit_refusal}
+use Rattle.mixture_outputs.specs.Fillable.{Fittable}
+use Rattle.mixture_outputs.proofs.Refusals.{fillable}
+use Rattle.movmf.specs.Refusals.{refusal_of}
+use Rattle.movmf.proofs.Outcomes.{few, admitted, refused, done, number_is, first_is}
+use Rattle.movmf.proofs.movmf_with.Goals.{After-refusal-code, Else-code-ne0, Start}
+use Rattle.movmf.proofs.movmf_with.Goals as goal
+
+-- the arrays as found
+abbrev found : Start → Outputs
+found s =
+    let a = s.args in
+    arrays a.labels.now a.responsibilities.now a.group_weights.now a.directions.now a.concentrations.now a.logw.now
+
+-- the refusal is the definition's
+refusal_is : (r : After-refusal-code) → let a = r.args in
+    r.refusal-code.result ≡ refusal_of a.weights.now a.coords.now a.d a.k a.s
+    (lengths_of (found r.before.before.before.before.before.before.before.before.before.before.before.before) (length a.work.now) (length a.work_u32.now))
+refusal_is r =
+    let a = r.args in
+    r.refusal-code.ensures
+    ∙ ap (λ (b : Bool). fit_refusal b a.weights.now a.coords.now a.d a.k a.s
+    (lengths_of (found r.before.before.before.before.before.before.before.before.before.before.before.before) (length a.work.now) (length a.work_u32.now))) r.groups_ok-groups.ensures
+
+-- past the refusals all is in range
+fittable_at : (c : Else-code-ne0) → let a = c.args in
+    Fittable (length a.weights.now) (length a.coords.now) (length a.weights.now) a.k a.d a.s.rounds
+    (lengths_of (found c.before.before.before.before.before.before.before.before.before.before.before.before.before) (length a.work.now) (length a.work_u32.now))
+fittable_at c =
+    let a = c.args in
+    (admitted a.weights.now a.coords.now a.d a.k a.s
+    (lengths_of (found c.before.before.before.before.before.before.before.before.before.before.before.before.before) (length a.work.now) (length a.work_u32.now)) (sym (refusal_is c.before) ∙ c.if-code-ne0.false)).fittable
+
+pub refusal-code-requires : goal.refusal-code-requires
+refusal-code-requires c =
+    let a = c.args in
+    λ (e : c.groups_ok-groups.result ≡ true). (few a.k (length a.weights.now) (sym c.groups_ok-groups.ensures ∙ e)).1
+
+pub returns-then-code-ne0 : goal.returns-then-code-ne0
+returns-then-code-ne0 c =
+    let a = c.args in
+    let e = refused (found c.before.before.before.before.before.before.before.before.before.before.before.before.before) a.weights.now a.coords.now a.d a.k a.s (length a.work.now) (length a.work_u32.now)
+    c.refusal-code.result (refusal_is c.before) c.if-code-ne0.true in record {
+      logw_after = e;
+      answers_with = number_is (found c.before.before.before.before.before.before.before.before.before.before.before.before.before) a.weights.now a.coords.now a.d a.k a.s (length a.work.now)
+            (length a.work_u32.now) _ _ e;
+      answer_labels_first = (first_is (found c.before.before.before.before.before.before.before.before.before.before.before.before.before) a.weights.now a.coords.now a.d a.k a.s (length a.work.now)
+            (length a.work_u32.now) _ _ e, );
+    }
+
+pub four_runs-r-requires : goal.four_runs-r-requires
+four_runs-r-requires c = (fittable_at c.before.before).runnable
+
+pub fill_outputs-requires : goal.fill_outputs-requires
+fill_outputs-requires c =
+    let a = c.args in
+    fillable _ (length a.weights.now) (length a.coords.now) (length a.weights.now) a.k a.d a.s.rounds
+    (lengths_of (found c.before.before.before.before.before.before.before.before.before.before.before.before.before.before.before.before.before.before.before.before.before.before.before.before.before.before) (length a.work.now) (length a.work_u32.now)) c.four_runs-r.auto.work (fittable_at c.before.before.before.before.before.before.before.before.before.before.before.before.before)
+
+pub returns : goal.returns
+returns c =
+    let a = c.args in
+    let l = c.kept_loglik-loglik in
+    let x = c.fill_outputs.new in
+    let d = done (found c.before.before.before.before.before.before.before.before.before.before.before.before.before.before.before.before.before.before.before.before.before.before.before.before.before.before.before.before.before.before.before.before.before.before.before.before.before.before.before.before.before) a.weights.now a.coords.now a.d a.k a.s (length a.work.now) (length a.work_u32.now)
+    c.refusal-code.result (refusal_is c.before.before.before.before.before.before.before.before.before.before.before.before.before.before.before.before.before.before.before.before.before.before.before.before.before.before.before.before.before) c.if-code-ne0.false c.four_runs-r.new.work c.four_runs-r.result l.result
+    (arrays x.0 x.1.0 x.1.1.0 x.1.1.1.0 x.1.1.1.1.0 x.1.1.1.1.1.0) c.four_runs-r.ensures l.ensures
+    c.fill_outputs.ensures in record {
+      logw_after = d;
+      answers_with = number_is (found c.before.before.before.before.before.before.before.before.before.before.before.before.before.before.before.before.before.before.before.before.before.before.before.before.before.before.before.before.before.before.before.before.before.before.before.before.before.before.before.before.before) a.weights.now a.coords.now a.d a.k a.s (length a.work.now)
+            (length a.work_u32.now) _ _ d;
+      answer_labels_first = (first_is (found c.before.before.before.before.before.before.before.before.before.before.before.before.before.before.before.before.before.before.before.before.before.before.before.before.before.before.before.before.before.before.before.before.before.before.before.before.before.before.before.before.before) a.weights.now a.coords.now a.d a.k a.s (length a.work.now)
+            (length a.work_u32.now) _ _ d, );
+    }
+
+pub shape_of-labels : goal.shape_of-labels
+shape_of-labels c = c.fill_outputs.auto.labels
+
+pub shape_of-responsibilities : goal.shape_of-responsibilities
+shape_of-responsibilities c = c.fill_outputs.auto.responsibilities
+
+pub shape_of-group_weights : goal.shape_of-group_weights
+shape_of-group_weights c = c.fill_outputs.auto.group_weights
+
+pub shape_of-directions : goal.shape_of-directions
+shape_of-directions c = c.fill_outputs.auto.directions
+
+pub shape_of-concentrations : goal.shape_of-concentrations
+shape_of-concentrations c = c.fill_outputs.auto.concentrations
+
+pub shape_of-logw : goal.shape_of-logw
+shape_of-logw c = c.fill_outputs.auto.logw
+
+pub shape_of-work : goal.shape_of-work
+shape_of-work c = c.four_runs-r.auto.work
+
+pub shape_of-work_u32 : goal.shape_of-work_u32
+shape_of-work_u32 c = c.four_runs-r.auto.work_u32

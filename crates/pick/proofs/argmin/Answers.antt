@@ -1,0 +1,24 @@
+-- `pick::argmin` meets its contract.
+use mathlib.Core.Path.{sym, ◌∙◌}
+use mathlib.Core.Bool.{true, false}
+use mathlib.Core.Logic.{⊎_elim}
+use native.Mathlib.Omega.{arith}
+use Rattle.pick.proofs.Places.{argmin_one, argmin_turn, argmin_end}
+use Rattle.pick.proofs.argmin.Goals as goal
+
+pub loop-i-init : goal.loop-i-init
+loop-i-init c = (omega arith, omega arith, sym (argmin_one c.args.v.now))
+
+pub loop-i-preserved : goal.loop-i-preserved
+loop-i-preserved c =
+    let v = c.args.v.now in (
+      omega arith,
+      ⊎_elim (λ w. omega arith) (λ w. omega arith) c.if-v-i.branch,
+      ⊎_elim (λ w. argmin_turn v c.loop-i.best c.if-v-i.best c.loop-i.i true c.loop-i.invariant.2 w.0.taken w.1)
+          (λ w. argmin_turn v c.loop-i.best c.if-v-i.best c.loop-i.i false c.loop-i.invariant.2 w.0.left w.1)
+          c.if-v-i.branch,
+    )
+
+pub returns : goal.returns
+returns c =
+    c.loop-i.invariant.2 ∙ argmin_end c.args.v.now c.loop-i.i (omega arith)

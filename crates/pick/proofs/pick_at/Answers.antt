@@ -1,0 +1,26 @@
+-- `pick::pick_at` meets its contract.
+use mathlib.Core.Path.{◌≡◌, ◌∙◌}
+use Prim.Native.Nat.{◌-◌}
+use native.Mathlib.Omega.{arith}
+use lib.Ieee.{of_bits}
+use Rattle.pick.proofs.Places.{pick_found, pick_turn, pick_end}
+use Rattle.pick.proofs.pick_at.Goals as goal
+
+pub returns-then-t : goal.returns-then-t
+unfolding of_bits
+returns-then-t c =
+    pick_found c.loop-i.t c.args.w.now c.loop-i.i (omega arith) c.if-t.true ∙ c.loop-i.invariant.1
+
+pub loop-i-preserved : goal.loop-i-preserved
+unfolding of_bits
+loop-i-preserved c =
+    (omega arith, pick_turn c.loop-i.t c.args.w.now c.loop-i.i (omega arith) c.if-t.false ∙ c.loop-i.invariant.1)
+
+pub returns-then-i-eq0 : goal.returns-then-i-eq0
+returns-then-i-eq0 c =
+    let e : 0 ≡ c.loop-i.i - 1 = omega arith in
+    e ∙ pick_end c.loop-i.t c.args.w.now c.loop-i.i (omega arith) ∙ c.loop-i.invariant.1
+
+pub returns-else-i-eq0 : goal.returns-else-i-eq0
+returns-else-i-eq0 c =
+    pick_end c.loop-i.t c.args.w.now c.loop-i.i (omega arith) ∙ c.loop-i.invariant.1

@@ -1,0 +1,68 @@
+-- `spherical::refusal` meets its contract: each return by what the tests before it answered; the limits that the arrays'
+-- test asks for are those passed before. Assumes nothing.
+use mathlib.Core.Path.{◌≡◌, sym, ◌∙◌}
+use mathlib.Core.Bool.{true}
+use lib.ListN.{length}
+use borrow.Author.Tests.{le-leb, lt-leb, not-true, not-false}
+use Rattle.limits.specs.Limits.{sizes_ok, groups_ok, rounds_ok, most_rounds, most_restarts}
+use Rattle.limits.proofs.Limits.{sizes_met, groups_met}
+use Rattle.spherical.specs.Refusals.{restarts_ok, refusal_of}
+use Rattle.spherical.proofs.refusal.Goals.{Else-not-groups_ok, Else-not-sizes_ok, Else-restarts-gt-MOST_RESTARTS, Else-rounds-gt-MOST_ROUNDS}
+use Rattle.spherical.proofs.refusal.Goals as goal
+
+sizes_passed : (c : Else-not-sizes_ok) → let a = c.args in sizes_ok (length a.weights.now) a.d (length a.coords.now) ≡ true
+sizes_passed c = sym c.sizes_ok.ensures ∙ not-false _ c.if-not-sizes_ok.false
+
+groups_passed : (c : Else-not-groups_ok) → let a = c.args in groups_ok a.k (length a.weights.now) ≡ true
+groups_passed c = sym c.groups_ok.ensures ∙ not-false _ c.if-not-groups_ok.false
+
+rounds_passed : (c : Else-rounds-gt-MOST_ROUNDS) → rounds_ok c.args.rounds ≡ true
+rounds_passed c = le-leb _ most_rounds c.if-rounds-gt-MOST_ROUNDS.false
+
+restarts_passed : (c : Else-restarts-gt-MOST_RESTARTS) → restarts_ok c.args.restarts ≡ true
+restarts_passed c = le-leb _ most_restarts c.if-restarts-gt-MOST_RESTARTS.false
+
+pub returns-then-not-sizes_ok : goal.returns-then-not-sizes_ok
+unfolding refusal_of
+returns-then-not-sizes_ok c = rw (sym c.sizes_ok.ensures ∙ not-true _ c.if-not-sizes_ok.true)
+
+pub returns-then-not-groups_ok : goal.returns-then-not-groups_ok
+unfolding refusal_of
+returns-then-not-groups_ok c = rw (sizes_passed c.before.before, sym c.groups_ok.ensures ∙ not-true _ c.if-not-groups_ok.true)
+
+pub returns-then-rounds-gt-MOST_ROUNDS : goal.returns-then-rounds-gt-MOST_ROUNDS
+unfolding refusal_of
+returns-then-rounds-gt-MOST_ROUNDS c = rw (sizes_passed c.before.before.before, groups_passed c.before, lt-leb _ most_rounds c.if-rounds-gt-MOST_ROUNDS.true)
+
+pub returns-then-restarts-gt-MOST_RESTARTS : goal.returns-then-restarts-gt-MOST_RESTARTS
+unfolding refusal_of
+returns-then-restarts-gt-MOST_RESTARTS c =
+    rw (sizes_passed c.before.before.before.before, groups_passed c.before.before, rounds_passed c.before, lt-leb _ most_restarts c.if-restarts-gt-MOST_RESTARTS.true)
+
+pub arrays_ok-requires : goal.arrays_ok-requires
+arrays_ok-requires c =
+    let a = c.args in
+    let s = sizes_met (length a.weights.now) a.d (length a.coords.now) (sizes_passed c.before.before.before.before) in
+    (s.1, (groups_met a.k (length a.weights.now) (groups_passed c.before.before)).1, s.3)
+
+pub returns-then-not-arrays_ok : goal.returns-then-not-arrays_ok
+unfolding refusal_of
+returns-then-not-arrays_ok c =
+    rw (
+      sizes_passed c.before.before.before.before.before.before,
+      groups_passed c.before.before.before.before,
+      rounds_passed c.before.before.before,
+      restarts_passed c.before.before,
+      sym c.arrays_ok.ensures ∙ not-true _ c.if-not-arrays_ok.true,
+    )
+
+pub returns : goal.returns
+unfolding refusal_of
+returns c =
+    rw (
+      sizes_passed c.before.before.before.before.before.before.before,
+      groups_passed c.before.before.before.before.before,
+      rounds_passed c.before.before.before.before,
+      restarts_passed c.before.before.before,
+      sym c.arrays_ok.ensures ∙ not-false _ c.if-not-arrays_ok.false,
+    ) c.leaves_refusal.ensures

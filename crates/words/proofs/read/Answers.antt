@@ -1,0 +1,38 @@
+-- `words::read` meets its contract.
+use mathlib.Core.Path.{refl, ◌∙◌}
+use mathlib.Core.Logic.{⊎_elim}
+use native.Mathlib.Omega.{arith}
+use lib.ListN.{length}
+use Rattle.words.proofs.Parts.{within}
+use Rattle.words.proofs.Turns.{digit_turn, word_turn, words_end, full, ended}
+use Rattle.words.proofs.read.Goals as goal
+
+pub loop-i-init : goal.loop-i-init
+loop-i-init c = (refl, omega arith, omega arith, refl)
+
+pub returns-then-n-to : goal.returns-then-n-to
+returns-then-n-to c =
+    let l = c.loop-i in record {
+      counted = (l.invariant.1, within l.n l.to l.invariant.1);
+      to_after = full _ l.to _ l.n _ l.invariant.3 (c.if-n-to.true ∙ l.invariant.0) l.invariant.1;
+    }
+
+pub loop-i-preserved : goal.loop-i-preserved
+loop-i-preserved c =
+    let l = c.loop-i in
+    let a = c.args in
+    let e = c.digit-d.ensures in
+    ⊎_elim
+    (λ w. digit_turn a.text.now _ l.to l.n l.x l.i _ _ _ _ l.invariant (omega arith) e w.0.taken w.1 w.2 w.3)
+    (λ w. word_turn a.text.now _ l.to l.n l.x l.i _ _ _ _ l.invariant (omega arith)
+    (omega (arith, c.if-n-to.false)) e w.0.left w.1 w.2 w.3)
+    c.if-d-lt16.branch
+
+pub returns : goal.returns
+returns c =
+    let l = c.loop-i in
+    let a = c.args in record {
+      counted = (l.invariant.1, within l.n l.to l.invariant.1);
+      to_after = ended _ l.to _ l.n (length a.to.now) l.invariant.3
+          (words_end a.text.now l.x l.i (omega arith)) (omega (arith, l.invariant.0)) l.invariant.1;
+    }
