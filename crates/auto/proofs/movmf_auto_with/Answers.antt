@@ -32,11 +32,11 @@ returns-then-code-ne0 c =
           l.result c.highest_number-hi.result c.highest_number-hi.ensures l.ensures c.refusal-code.result c.refusal-code.ensures
           c.if-code-ne0.true;
       answer_keeps_best = refused_best (found c.before.before.before.before.before.before.before.before.before.before.before.before.before.before) a.weights.now a.coords.now a.d a.k_min a.k_max a.s (length a.work.now)
-            (length a.work_u32.now) l.result c.highest_number-hi.result c.highest_number-hi.ensures l.ensures
-            c.refusal-code.result c.refusal-code.ensures c.if-code-ne0.true;
-      answer_labels_first = (refused_first (found c.before.before.before.before.before.before.before.before.before.before.before.before.before.before) a.weights.now a.coords.now a.d a.k_min a.k_max a.s (length a.work.now)
-            (length a.work_u32.now) l.result c.highest_number-hi.result c.highest_number-hi.ensures l.ensures
-            c.refusal-code.result c.refusal-code.ensures c.if-code-ne0.true, );
+          (length a.work_u32.now) l.result c.highest_number-hi.result c.highest_number-hi.ensures l.ensures
+          c.refusal-code.result c.refusal-code.ensures c.if-code-ne0.true;
+      answer_labels_first = refused_first (found c.before.before.before.before.before.before.before.before.before.before.before.before.before.before) a.weights.now a.coords.now a.d a.k_min a.k_max a.s (length a.work.now)
+          (length a.work_u32.now) l.result c.highest_number-hi.result c.highest_number-hi.ensures l.ensures
+          c.refusal-code.result c.refusal-code.ensures c.if-code-ne0.true;
     }
 
 pub fit_range-t-requires : goal.fit_range-t-requires
@@ -58,18 +58,17 @@ returns c =
     let l = c.lowest_number-lo in
     let a = c.args in
     let n = c.fit_range-t in
-    let x = n.last.1.1.1.1.1.1.1 in
-    let o = arrays x.0 x.1.0 x.1.1.0 x.1.1.1.0 x.1.1.1.1.0 x.1.1.1.1.1.0 in record {
+    let o = arrays c.fit_range-t.new.labels c.fit_range-t.new.responsibilities c.fit_range-t.new.group_weights c.fit_range-t.new.directions c.fit_range-t.new.concentrations c.fit_range-t.new.logw in record {
       logw_after = done (found c.before.before.before.before.before.before.before.before.before.before.before.before.before.before.before.before.before.before.before.before.before.before.before.before.before.before.before.before.before.before.before.before.before.before.before.before.before.before.before.before.before.before) a.weights.now a.coords.now a.d a.k_min a.k_max a.s (length a.work.now)
           (length a.work_u32.now)
           l.result c.highest_number-hi.result c.highest_number-hi.ensures l.ensures c.refusal-code.result c.refusal-code.ensures
           n.result c.answer.result o n.ensures c.answer.ensures c.if-code-ne0.false;
       answer_keeps_best = done_best (found c.before.before.before.before.before.before.before.before.before.before.before.before.before.before.before.before.before.before.before.before.before.before.before.before.before.before.before.before.before.before.before.before.before.before.before.before.before.before.before.before.before.before) a.weights.now a.coords.now a.d a.k_min a.k_max a.s (length a.work.now)
-            (length a.work_u32.now) l.result c.highest_number-hi.result c.highest_number-hi.ensures l.ensures
-            c.refusal-code.result c.refusal-code.ensures n.result c.answer.result o n.ensures c.answer.ensures;
-      answer_labels_first = (done_first (found c.before.before.before.before.before.before.before.before.before.before.before.before.before.before.before.before.before.before.before.before.before.before.before.before.before.before.before.before.before.before.before.before.before.before.before.before.before.before.before.before.before.before) a.weights.now a.coords.now a.d a.k_min a.k_max a.s (length a.work.now)
-            (length a.work_u32.now) l.result c.highest_number-hi.result c.highest_number-hi.ensures l.ensures
-            c.refusal-code.result c.refusal-code.ensures n.result c.answer.result o n.ensures c.answer.ensures, );
+          (length a.work_u32.now) l.result c.highest_number-hi.result c.highest_number-hi.ensures l.ensures
+          c.refusal-code.result c.refusal-code.ensures n.result c.answer.result o n.ensures c.answer.ensures;
+      answer_labels_first = done_first (found c.before.before.before.before.before.before.before.before.before.before.before.before.before.before.before.before.before.before.before.before.before.before.before.before.before.before.before.before.before.before.before.before.before.before.before.before.before.before.before.before.before.before) a.weights.now a.coords.now a.d a.k_min a.k_max a.s (length a.work.now)
+          (length a.work_u32.now) l.result c.highest_number-hi.result c.highest_number-hi.ensures l.ensures
+          c.refusal-code.result c.refusal-code.ensures n.result c.answer.result o n.ensures c.answer.ensures;
     }
 
 pub shape_of-labels : goal.shape_of-labels

@@ -71,13 +71,11 @@ loop-k-preserved c =
     let w = a.weights.now in
     let x = a.coords.now in
     let o = arrays l.labels l.responsibilities l.group_weights l.directions l.concentrations l.logw in
-    let e = n.kept.1.1.1.1.1.1.1 in
-    let z = n.last.1.1.1.1.1.1.1 in
-    let o' = arrays z.0 z.1.0 z.1.1.0 z.1.1.1.0 z.1.1.1.1.0 z.1.1.1.1.1.0 in (
+    let o' = arrays c.fit_of_k-t.new.labels c.fit_of_k-t.new.responsibilities c.fit_of_k-t.new.group_weights c.fit_of_k-t.new.directions c.fit_of_k-t.new.concentrations c.fit_of_k-t.new.logw in (
       omega (arith, l.inv.0),
       omega (arith, most),
-      lengths_of_law o o' (length l.work) _ (length l.work_u32) _ e.0 e.1.0 e.1.1.0 e.1.1.1.0 e.1.1.1.1.0
-          e.1.1.1.1.1.0 e.1.1.1.1.1.1.0 e.1.1.1.1.1.1.1.0 ∙ l.inv.2,
+      lengths_of_law o o' (length l.work) _ (length l.work_u32) _ c.fit_of_k-t.auto.labels c.fit_of_k-t.auto.responsibilities c.fit_of_k-t.auto.group_weights c.fit_of_k-t.auto.directions c.fit_of_k-t.auto.concentrations
+          c.fit_of_k-t.auto.logw c.fit_of_k-t.auto.work c.fit_of_k-t.auto.work_u32 ∙ l.inv.2,
       fitted_turn (found c.before.before.before.before.before.before.before.before.before.before.before.before.before.before.before.before.before.before.before.before.before.before.before.before.before.before.before.before.before.before.before.before.before.before.before.before.before.before) w x a.d a.s a.lo l.k (l.k - a.lo) l.t n.result o o' n.ensures l.inv.4 l.inv.0
           refl l.inv.3,
       tails_turn (found c.before.before.before.before.before.before.before.before.before.before.before.before.before.before.before.before.before.before.before.before.before.before.before.before.before.before.before.before.before.before.before.before.before.before.before.before.before.before) w x a.d a.s a.lo l.k (l.k - a.lo) l.t n.result o o' n.ensures l.inv.4,

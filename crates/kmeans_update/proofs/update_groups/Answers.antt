@@ -23,11 +23,11 @@ loop-c-preserved c =
     let a = c.args in
     let g = c.update_group in (
       omega arith,
-      sized_of _ _ _ _ (length a.coords.now) a.m a.k a.d g.auto.0 refl c.loop-c.invariant.1,
-      g.auto.0 ∙ c.loop-c.invariant.2,
+      sized_of _ _ _ _ (length a.coords.now) a.m a.k a.d g.auto.work refl c.loop-c.invariant.1,
+      g.auto.work ∙ c.loop-c.invariant.2,
       groups_turn a.coords.now a.m a.k a.d a.work.now c.loop-c.work a.work_u32.now c.loop-c.c c.loop-c.invariant.3
-          g.new.0 (omega arith)
-          g.ensures.0 g.ensures.1,
+          g.new.work (omega arith)
+          g.ensures.work_u32_after g.ensures.later_rows,
     )
 
 pub returns : goal.returns

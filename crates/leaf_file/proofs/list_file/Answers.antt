@@ -28,4 +28,4 @@ returns c = let both =
     let a = c.args in
     let f = c.fit_file-r in
     let m = c.shops-m in
-    list_end a.bytes.now a.out.now _ _ m.result c.put_answer.result f.ensures.0 m.ensures.1 c.put_answer.ensures in record { value = both.0; counted = both.1 }
+    list_end a.bytes.now a.out.now _ _ m.result c.put_answer.result f.ensures.fact m.ensures.1 c.put_answer.ensures in record { value = both.0; counted = both.1 }

@@ -8,6 +8,6 @@ returns c =
     let y = c.put_number-b in
     let z = c.put_number-c in
     let w = c.put_shops in
-    put_both _ _ _ _ _ 0 x.result w.result x.ensures.0
-    (put_both _ _ _ _ _ x.result y.result w.result y.ensures.0
-    (put_both _ _ _ _ _ y.result z.result w.result z.ensures.0 w.ensures))
+    put_both _ _ _ _ _ 0 x.result w.result x.ensures.put
+    (put_both _ _ _ _ _ x.result y.result w.result y.ensures.put
+    (put_both _ _ _ _ _ y.result z.result w.result z.ensures.put w.ensures))

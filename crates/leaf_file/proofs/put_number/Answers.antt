@@ -12,6 +12,6 @@ returns c =
     let n = c.put_decimal-b in
     let e = c.put_byte in record {
       put = put_both a.word.now _ a.out.now _ _ a.at w.result e.result w.ensures
-          (put_both (decimal a.n) (10 ∷ []) _ _ _ w.result n.result e.result n.ensures.0 e.ensures);
-      upper_bound = omega (arith, w.ensures.ends, n.ensures.1, e.ensures.ends);
+          (put_both (decimal a.n) (10 ∷ []) _ _ _ w.result n.result e.result n.ensures.put e.ensures);
+      upper_bound = omega (arith, w.ensures.ends, n.ensures.upper_bound, e.ensures.ends);
     }

@@ -12,8 +12,8 @@ returns c =
     let s = c.put_byte-b in
     let n = c.put_decimal-c in
     let e = c.put_byte in record {
-      put = put_both (decimal a.i) _ a.out.now _ _ a.at i.result e.result i.ensures.0
+      put = put_both (decimal a.i) _ a.out.now _ _ a.at i.result e.result i.ensures.put
           (put_both (32 ∷ []) _ _ _ _ i.result s.result e.result s.ensures
-          (put_both (decimal a.label) (10 ∷ []) _ _ _ s.result n.result e.result n.ensures.0 e.ensures));
-      upper_bound = omega (arith, i.ensures.1, s.ensures.ends, n.ensures.1, e.ensures.ends);
+          (put_both (decimal a.label) (10 ∷ []) _ _ _ s.result n.result e.result n.ensures.put e.ensures));
+      upper_bound = omega (arith, i.ensures.upper_bound, s.ensures.ends, n.ensures.upper_bound, e.ensures.ends);
     }

@@ -28,9 +28,9 @@ loop-i-preserved c =
     let v = c.put_shop-end in (
       omega arith,
       search rules,
-      omega (arith, v.ensures.1, l.invariant.2),
+      omega (arith, v.ensures.upper_bound, l.invariant.2),
       more a.labels.now a.out.now l.out _ a.at l.i
-          l.end _ l.invariant.3 v.ensures.0,
+          l.end _ l.invariant.3 v.ensures.put,
     )
 
 pub returns : goal.returns

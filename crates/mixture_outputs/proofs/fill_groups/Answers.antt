@@ -61,11 +61,11 @@ returns c =
     let a = c.args in
     let n = a.k * a.d in
     let w = a.area.now in (
-      ap (λ (c.before.before : List Float). c.before.before ++ drop a.k a.weights.now)
+      ap (λ (l : List Float). l ++ drop a.k a.weights.now)
           (c.copy.ensures ∙ region_cut weights_r a.m a.k a.d w _ a.k (omega (arith, c.weights_at-at.ensures)) refl),
-      ap (λ (c.before.before : List Float). c.before.before ++ drop n a.directions.now)
+      ap (λ (l : List Float). l ++ drop n a.directions.now)
           (c.copy-2.ensures ∙ whole_in directions_r a.m a.k a.d w 0 n refl refl),
-      ap (λ (c.before.before : List Float). c.before.before ++ drop a.k a.concentrations.now)
+      ap (λ (l : List Float). l ++ drop a.k a.concentrations.now)
           (c.copy-3.ensures ∙ region_cut kappas_r a.m a.k a.d w _ a.k (omega (arith, c.kappas_at-kappas.ensures)) refl),
-      ap (λ (c.before.before : List Float). c.before.before ++ drop a.k a.logw.now) c.put_logw.ensures,
+      ap (λ (l : List Float). l ++ drop a.k a.logw.now) c.put_logw.ensures,
     )

@@ -48,12 +48,12 @@ loop-t-preserved c =
     let r = c.run_beside-r in (
       omega arith,
       omega (arith, c.loop-t-test.true),
-      runnable_of _ _ _ _ (length a.weights.now) (length a.coords.now) a.m a.k a.d a.s.rounds r.kept.0
-          r.kept.1.0 l.inv.2,
-      runs_turn a.s a.weights.now a.coords.now a.m a.k a.d l.t l.work r.last.0 l.h c.keep-h.result
+      runnable_of _ _ _ _ (length a.weights.now) (length a.coords.now) a.m a.k a.d a.s.rounds r.auto.work
+          r.auto.work_u32 l.inv.2,
+      runs_turn a.s a.weights.now a.coords.now a.m a.k a.d l.t l.work r.new.work l.h c.keep-h.result
           r.result l.inv.0 l.inv.3 r.ensures c.keep-h.ensures,
-      r.kept.0 ∙ l.inv.4,
-      r.kept.1.0 ∙ l.inv.5,
+      r.auto.work ∙ l.inv.4,
+      r.auto.work_u32 ∙ l.inv.5,
     )
 
 pub shape_of-work : goal.shape_of-work

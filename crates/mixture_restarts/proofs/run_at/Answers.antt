@@ -18,6 +18,6 @@ returns c =
     let run = run_of a.s a.weights.now a.coords.now a.m a.k a.d a.t in
     let seeded : settings_of a.s a.t ≡ record { rounds = a.s.rounds; seed = seed.result; kappa = a.s.kappa } =
     ap (λ (x : ℕ). record { rounds = a.s.rounds; seed = x; kappa = a.s.kappa }) (sym seed.ensures) in
-    let done : RunDone run (parts_in a.m a.k a.d o.new.0) o.result = rw seeded o.ensures in
+    let done : RunDone run (parts_in a.m a.k a.d o.new.work) o.result = rw seeded o.ensures in
     let q : a.a + n - a.a ≡ half a.m a.k a.d = omega (arith, c.half-n.ensures) in
-    run_done a.m a.k a.d a.a (a.a + n - a.a) a.work.now o.new.0 run o.result q o.auto.0 c.requires.d_in_bounds done
+    run_done a.m a.k a.d a.a (a.a + n - a.a) a.work.now o.new.work run o.result q o.auto.work c.requires.d_in_bounds done

@@ -35,9 +35,9 @@ loop-it-preserved c =
     let r = c.em_round-new in
     let more = c.loop-it-test.true in
     let p = em_of (parts_in a.m a.k a.d l.work) l.loglik in
-    let q = em_of (parts_in a.m a.k a.d r.new.0) r.result in (
+    let q = em_of (parts_in a.m a.k a.d r.new.work) r.result in (
       omega (arith, more),
-      r.auto.0 ∙ l.invariant.1,
+      r.auto.work ∙ l.invariant.1,
       em_turn a.kappa a.weights.now a.coords.now a.m a.k a.d (a.rounds - l.it) (a.rounds - (l.it + 1)) l.it p q
           (omega (arith, more)) r.ensures
           (sym c.stops_at-stops.ensures ∙ c.if-stops.false) ∙ l.invariant.2,
@@ -64,7 +64,7 @@ returns-then-stops c =
     let a = c.args in
     let r = c.em_round-new in
     let p = em_of (parts_in a.m a.k a.d l.work) l.loglik in
-    let q = em_of (parts_in a.m a.k a.d r.new.0) r.result in
+    let q = em_of (parts_in a.m a.k a.d r.new.work) r.result in
     em_stop a.kappa a.weights.now a.coords.now a.m a.k a.d (a.rounds - l.it) (a.rounds - (l.it + 1)) l.it p q
     (omega (arith, c.loop-it-test.true)) r.ensures
     (sym c.stops_at-stops.ensures ∙ c.if-stops.true) ∙ l.invariant.2

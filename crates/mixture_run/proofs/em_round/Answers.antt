@@ -28,6 +28,6 @@ returns c =
     let e = c.expect-loglik in
     let x = c.maximize_model in
     round_done a.kappa a.weights.now a.coords.now a.m a.k a.d (parts_in a.m a.k a.d a.work.now)
-    (parts_in a.m a.k a.d b.last.0) (parts_in a.m a.k a.d e.new.0) (parts_in a.m a.k a.d x.new.0)
+    (parts_in a.m a.k a.d b.new.work) (parts_in a.m a.k a.d e.new.work) (parts_in a.m a.k a.d x.new.work)
     e.result b.ensures e.ensures.0
     e.ensures.1 x.ensures.0 x.ensures.1

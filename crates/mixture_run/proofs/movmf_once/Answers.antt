@@ -18,11 +18,11 @@ init_kappas-requires c =
     let a = c.args in
     let r = c.run-warm in record {
       area = (
-        area_of _ _ a.m a.k a.d r.auto.0 c.requires.area,
+        area_of _ _ a.m a.k a.d r.auto.work c.requires.area,
         c.requires.leaves.weights_long,
-        omega (arith, r.auto.1.0, c.requires.work_u32_long),
+        omega (arith, r.auto.work_u32, c.requires.work_u32_long),
       );
-      labels = labels_warm a.weights.now a.coords.now a.m a.k a.d _ _ r.ensures.1;
+      labels = labels_warm a.weights.now a.coords.now a.m a.k a.d _ _ r.ensures.run_left;
     }
 
 pub clear-requires : goal.clear-requires

@@ -51,7 +51,7 @@ pub returns : goal.returns
 returns c =
     let a = c.args in
     let g = c.less_log_sum in
-    leaf_done a.e.now a.rows.now g.new.0 (a.i * a.k) a.k g.result g.ensures.0 g.ensures.1
+    leaf_done a.e.now a.rows.now g.new.e (a.i * a.k) a.k g.result g.ensures.0 g.ensures.1
 
 -- UNPLACED part_less_log_sum_start
 -- UNPLACED part_less_log_sum_end

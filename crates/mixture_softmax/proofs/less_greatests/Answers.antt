@@ -70,7 +70,7 @@ loop-i-preserved c =
     let g = c.less_greatest in (
       omega (arith, c.loop-i-test.true),
       search rules,
-      greatests_turn a.k a.rows.now a.m c.requires.rows_long a.e.now l.e g.new.0 l.i
+      greatests_turn a.k a.rows.now a.m c.requires.rows_long a.e.now l.e g.new.e l.i
           (l.i * a.k + a.k - l.i * a.k) c.loop-i-test.true (omega arith) l.invariant.2
           g.ensures,
     )

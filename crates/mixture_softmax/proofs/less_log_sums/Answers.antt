@@ -37,7 +37,7 @@ loop-left-preserved c =
       search rules,
       weighed_turn (log_over_at a.k a.rows.now a.e.now) a.weights.now a.l l.s g.result i l.invariant.2 is
           ∙ ap (logs_over a.k a.rows.now a.e.now a.weights.now a.l) f,
-      logs_turn a.k a.rows.now m c.requires.rows_long a.e.now l.e i h l.invariant.3 g.result g.ensures.0 g.new.0
+      logs_turn a.k a.rows.now m c.requires.rows_long a.e.now l.e i h l.invariant.3 g.result g.ensures.0 g.new.e
           g.ensures.1
           ∙ ap (λ (n : ℕ). from_logs a.k a.rows.now a.e.now n ++ drop (n * a.k) a.e.now) f,
     )

@@ -37,9 +37,9 @@ returns c =
     let x = c.exp_front in
     let s = c.less_log_sums-s in
     let y = c.exp_front-2 in (
-      s.ensures.0 ∙ logs_done a.k a.rows.now m p.rows_long _ g.last.0 x.last.0 g.ensures x.ensures
+      s.ensures.0 ∙ logs_done a.k a.rows.now m p.rows_long _ g.new.e x.new.e g.ensures x.ensures
           a.weights.now a.l,
       c.copy.ensures
-          ∙ shares_done a.k a.rows.now m p.rows_long _ g.last.0 x.last.0 g.ensures x.ensures s.last.0
-          y.new.0 s.ensures.1 y.ensures,
+          ∙ shares_done a.k a.rows.now m p.rows_long _ g.new.e x.new.e g.ensures x.ensures s.new.e
+          y.new.e s.ensures.1 y.ensures,
     )

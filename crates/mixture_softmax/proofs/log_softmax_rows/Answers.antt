@@ -91,7 +91,7 @@ loop-i-preserved c =
       logs_more a.k a.rows.now a.weights.now m c.requires.rows_long l.i (r.result - l.i) r.result e r.ensures.1 refl
           l.rows l.invariant.3 plus_zero l.l l.invariant.2 x.result x.ensures.0,
       shares_more a.k a.rows.now a.weights.now m c.requires.rows_long l.i (r.result - l.i) r.result e r.ensures.1 refl
-          l.rows l.invariant.3 x.new.0 x.ensures.1,
+          l.rows l.invariant.3 x.new.rows x.ensures.1,
     )
 
 pub shape_of-rows : goal.shape_of-rows

@@ -40,7 +40,7 @@ fittable_at c =
 pub refusal-code-requires : goal.refusal-code-requires
 refusal-code-requires c =
     let a = c.args in
-    λ (e : c.groups_ok-groups.result ≡ true). (few a.k (length a.weights.now) (sym c.groups_ok-groups.ensures ∙ e)).1
+    λ (e : c.groups_ok_law.result ≡ true). (few a.k (length a.weights.now) (sym c.groups_ok_law.ensures ∙ e)).1
 
 pub returns-then-code-ne0 : goal.returns-then-code-ne0
 returns-then-code-ne0 c =
@@ -49,9 +49,9 @@ returns-then-code-ne0 c =
     c.refusal-code.result (refusal_is c.before) c.if-code-ne0.true in record {
       logw_after = e;
       answers_with = number_is (found c.before.before.before.before.before.before.before.before.before.before.before.before.before) a.weights.now a.coords.now a.d a.k a.s (length a.work.now)
-            (length a.work_u32.now) _ _ e;
-      answer_labels_first = (first_is (found c.before.before.before.before.before.before.before.before.before.before.before.before.before) a.weights.now a.coords.now a.d a.k a.s (length a.work.now)
-            (length a.work_u32.now) _ _ e, );
+          (length a.work_u32.now) _ _ e;
+      answer_labels_first = first_is (found c.before.before.before.before.before.before.before.before.before.before.before.before.before) a.weights.now a.coords.now a.d a.k a.s (length a.work.now)
+          (length a.work_u32.now) _ _ e;
     }
 
 pub four_runs-r-requires : goal.four_runs-r-requires
@@ -74,9 +74,9 @@ returns c =
     c.fill_outputs.ensures in record {
       logw_after = d;
       answers_with = number_is (found c.before.before.before.before.before.before.before.before.before.before.before.before.before.before.before.before.before.before.before.before.before.before.before.before.before.before.before.before.before.before.before.before.before.before.before.before.before.before.before.before.before) a.weights.now a.coords.now a.d a.k a.s (length a.work.now)
-            (length a.work_u32.now) _ _ d;
-      answer_labels_first = (first_is (found c.before.before.before.before.before.before.before.before.before.before.before.before.before.before.before.before.before.before.before.before.before.before.before.before.before.before.before.before.before.before.before.before.before.before.before.before.before.before.before.before.before) a.weights.now a.coords.now a.d a.k a.s (length a.work.now)
-            (length a.work_u32.now) _ _ d, );
+          (length a.work_u32.now) _ _ d;
+      answer_labels_first = first_is (found c.before.before.before.before.before.before.before.before.before.before.before.before.before.before.before.before.before.before.before.before.before.before.before.before.before.before.before.before.before.before.before.before.before.before.before.before.before.before.before.before.before) a.weights.now a.coords.now a.d a.k a.s (length a.work.now)
+          (length a.work_u32.now) _ _ d;
     }
 
 pub shape_of-labels : goal.shape_of-labels

@@ -25,9 +25,9 @@ returns-then-code-ne0 c =
     a.seed (length a.work.now) (length a.work_u32.now) c.refusal-code.result c.refusal-code.ensures c.if-code-ne0.true in record {
       fact = e;
       answers_with = number_is a.labels.now a.directions.now a.weights.now a.coords.now a.d a.k a.rounds a.restarts a.seed
-            (length a.work.now) (length a.work_u32.now) _ _ _ e;
-      counts_every_round = (work_is a.weights.now a.coords.now a.d a.k a.rounds a.seed a.restarts a.labels.now a.directions.now
-            (length a.work.now) (length a.work_u32.now) _ _ _ e, );
+          (length a.work.now) (length a.work_u32.now) _ _ _ e;
+      counts_every_round = work_is a.weights.now a.coords.now a.d a.k a.rounds a.seed a.restarts a.labels.now a.directions.now
+          (length a.work.now) (length a.work_u32.now) _ _ _ e;
     }
 
 pub run_all-h-requires : goal.run_all-h-requires
@@ -56,7 +56,7 @@ returns c =
     c.fill_outputs.ensures.directions_after in record {
       fact = q;
       answers_with = number_is a.labels.now a.directions.now a.weights.now a.coords.now a.d a.k a.rounds a.restarts a.seed
-            (length a.work.now) (length a.work_u32.now) _ _ _ q;
-      counts_every_round = (work_is a.weights.now a.coords.now a.d a.k a.rounds a.seed a.restarts a.labels.now a.directions.now
-            (length a.work.now) (length a.work_u32.now) _ _ _ q, );
+          (length a.work.now) (length a.work_u32.now) _ _ _ q;
+      counts_every_round = work_is a.weights.now a.coords.now a.d a.k a.rounds a.seed a.restarts a.labels.now a.directions.now
+          (length a.work.now) (length a.work_u32.now) _ _ _ q;
     }

@@ -47,17 +47,16 @@ pub returns : goal.returns
 returns c =
     let a = c.args in
     let f = c.movmf_auto_with-a in
-    let x = f.last.1.1.1.1.1.1 in
-    let o = arrays x.0 x.1.0 x.1.1.0 x.1.1.1.0 x.1.1.1.1.0 x.1.1.1.1.1.0 in
+    let o = arrays c.movmf_auto_with-a.new.labels c.movmf_auto_with-a.new.responsibilities c.movmf_auto_with-a.new.group_weights c.movmf_auto_with-a.new.directions c.movmf_auto_with-a.new.concentrations c.movmf_auto_with-a.new.logw in
     let known : kind_ok a.kappa ≡ true = sym c.kind_ok.ensures ∙ not-false _ c.if-not-kind_ok.false in record {
       fact = chosen_call (lent c.before.before.before.before.before.before.before.before.before.before.before.before.before.before.before.before.before.before.before.before.before.before.before.before.before.before.before.before.before.before.before.before.before.before.before.before.before.before.before.before.before.before.before) _ (found c.before.before.before.before.before.before.before.before.before.before.before.before.before.before.before.before.before.before.before.before.before.before.before.before.before.before.before.before.before.before.before.before.before.before.before.before.before.before.before.before.before.before.before) (call c.before.before.before.before.before.before.before.before.before.before.before.before.before.before.before.before.before.before.before.before.before.before.before.before.before.before.before.before.before.before.before.before.before.before.before.before.before.before.before.before.before.before.before) a.kappa f.result o c.kappa_of-kappa.result known c.kappa_of-kappa.ensures
-          f.ensures.0 c.give_chosen.ensures;
+          f.ensures.logw_after c.give_chosen.ensures;
       keeps_best = λ _. given
-            (λ (z : Kappa) (n : Numbers). KeepsBest (found c.before.before.before.before.before.before.before.before.before.before.before.before.before.before.before.before.before.before.before.before.before.before.before.before.before.before.before.before.before.before.before.before.before.before.before.before.before.before.before.before.before.before.before) a.weights.now a.coords.now a.d (settings c.before.before.before.before.before.before.before.before.before.before.before.before.before.before.before.before.before.before.before.before.before.before.before.before.before.before.before.before.before.before.before.before.before.before.before.before.before.before.before.before.before.before.before z) a.k_min a.k_max
-            (length a.work.now) (length a.work_u32.now) n o) _ _ c.kappa_of-kappa.result (kappa_of a.kappa) c.kappa_of-kappa.ensures
-            c.give_chosen.ensures (f.ensures.1.0 (lent c.before.before.before.before.before.before.before.before.before.before.before.before.before.before.before.before.before.before.before.before.before.before.before.before.before.before.before.before.before.before.before.before.before.before.before.before.before.before.before.before.before.before.before));
-      labels_first = (given (λ (z : Kappa) (n : Numbers). LabelsFirst (length a.weights.now) n.refusal n.groups o) _ _
-            c.kappa_of-kappa.result (kappa_of a.kappa) c.kappa_of-kappa.ensures c.give_chosen.ensures (f.ensures.1.1 (lent c.before.before.before.before.before.before.before.before.before.before.before.before.before.before.before.before.before.before.before.before.before.before.before.before.before.before.before.before.before.before.before.before.before.before.before.before.before.before.before.before.before.before.before)), );
+          (λ (z : Kappa) (n : Numbers). KeepsBest (found c.before.before.before.before.before.before.before.before.before.before.before.before.before.before.before.before.before.before.before.before.before.before.before.before.before.before.before.before.before.before.before.before.before.before.before.before.before.before.before.before.before.before.before) a.weights.now a.coords.now a.d (settings c.before.before.before.before.before.before.before.before.before.before.before.before.before.before.before.before.before.before.before.before.before.before.before.before.before.before.before.before.before.before.before.before.before.before.before.before.before.before.before.before.before.before.before z) a.k_min a.k_max
+          (length a.work.now) (length a.work_u32.now) n o) _ _ c.kappa_of-kappa.result (kappa_of a.kappa) c.kappa_of-kappa.ensures
+          c.give_chosen.ensures (f.ensures.answer_keeps_best (lent c.before.before.before.before.before.before.before.before.before.before.before.before.before.before.before.before.before.before.before.before.before.before.before.before.before.before.before.before.before.before.before.before.before.before.before.before.before.before.before.before.before.before.before));
+      labels_first = given (λ (z : Kappa) (n : Numbers). LabelsFirst (length a.weights.now) n.refusal n.groups o) _ _
+          c.kappa_of-kappa.result (kappa_of a.kappa) c.kappa_of-kappa.ensures c.give_chosen.ensures (f.ensures.answer_labels_first (lent c.before.before.before.before.before.before.before.before.before.before.before.before.before.before.before.before.before.before.before.before.before.before.before.before.before.before.before.before.before.before.before.before.before.before.before.before.before.before.before.before.before.before.before));
     }
 
 pub shape_of-labels : goal.shape_of-labels

@@ -39,13 +39,12 @@ returns-then-not-kind_ok c = record {
 pub returns : goal.returns
 returns c =
     let f = c.movmf_with-a in
-    let x = f.last.1.1.1.1.1 in
-    let o = arrays x.0 x.1.0 x.1.1.0 x.1.1.1.0 x.1.1.1.1.0 x.1.1.1.1.1.0 in
+    let o = arrays c.movmf_with-a.new.labels c.movmf_with-a.new.responsibilities c.movmf_with-a.new.group_weights c.movmf_with-a.new.directions c.movmf_with-a.new.concentrations c.movmf_with-a.new.logw in
     let known : kind_ok c.args.kappa ≡ true = sym c.kind_ok.ensures ∙ not-false _ c.if-not-kind_ok.false in record {
       fact = fitted_call (lent c.before.before.before.before.before.before.before.before.before.before.before.before.before.before.before.before.before.before.before.before.before.before.before.before.before.before.before.before.before.before.before.before.before.before.before.before.before.before.before.before.before.before) _ (found c.before.before.before.before.before.before.before.before.before.before.before.before.before.before.before.before.before.before.before.before.before.before.before.before.before.before.before.before.before.before.before.before.before.before.before.before.before.before.before.before.before.before) (call c.before.before.before.before.before.before.before.before.before.before.before.before.before.before.before.before.before.before.before.before.before.before.before.before.before.before.before.before.before.before.before.before.before.before.before.before.before.before.before.before.before.before) c.args.kappa f.result o c.kappa_of-kappa.result known c.kappa_of-kappa.ensures
-          f.ensures.0 c.give_fitted.ensures;
+          f.ensures.logw_after c.give_fitted.ensures;
       labels_first = given (λ (z : Kappa) (n : Numbers). LabelsFirst (length c.args.weights.now) n.refusal n.groups o) _ _
-          c.kappa_of-kappa.result (kappa_of c.args.kappa) c.kappa_of-kappa.ensures c.give_fitted.ensures (f.ensures.1.1 (lent c.before.before.before.before.before.before.before.before.before.before.before.before.before.before.before.before.before.before.before.before.before.before.before.before.before.before.before.before.before.before.before.before.before.before.before.before.before.before.before.before.before.before));
+          c.kappa_of-kappa.result (kappa_of c.args.kappa) c.kappa_of-kappa.ensures c.give_fitted.ensures (f.ensures.answer_labels_first (lent c.before.before.before.before.before.before.before.before.before.before.before.before.before.before.before.before.before.before.before.before.before.before.before.before.before.before.before.before.before.before.before.before.before.before.before.before.before.before.before.before.before.before));
     }
 
 pub shape_of-labels : goal.shape_of-labels

@@ -10,10 +10,9 @@ pub returns : goal.returns
 returns c =
     let a = c.args in
     let k = c.spherical_kmeans-a in
-    let x = k.last.1.1.1.1.1.1.1 in
-    clustered_call (clustered 0 a.cohesion.now a.counts.now) _ k.result x.0 x.1.0
+    clustered_call (clustered 0 a.cohesion.now a.counts.now) _ k.result c.spherical_kmeans-a.new.labels c.spherical_kmeans-a.new.directions
     (outcome a.labels.now a.directions.now a.weights.now a.coords.now a.d a.k a.rounds a.restarts a.seed
-    (length a.work.now) (length a.work_u32.now)) k.ensures.0 c.give_clustered.ensures
+    (length a.work.now) (length a.work_u32.now)) k.ensures.fact c.give_clustered.ensures
 
 pub shape_of-labels : goal.shape_of-labels
 shape_of-labels c = c.spherical_kmeans-a.auto.labels

@@ -27,10 +27,10 @@ returns c =
     let m = c.least-m in
     let l = c.loop-j in
     let a = c.args in
-    let h : m.result ≤ length l.v = rw l.invariant.0 m.ensures.0 in
+    let h : m.result ≤ length l.v = rw l.invariant.0 m.ensures.upper_bound in
     let e : l.j ≡ m.result = omega arith in
     let t = subst (λ (k : ℕ). take k l.v ≡ values_up_to a.words.now a.from a.last k) e l.invariant.2 in record {
       counted = (h, within m.result l.v h);
-      value = m.ensures.1;
+      value = m.ensures.value;
       v_after = t;
     }

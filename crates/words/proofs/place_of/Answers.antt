@@ -14,7 +14,7 @@ returns-then-text-i c =
     let a = c.args in record {
       lower_bound = l.invariant.0;
       counted = (l.invariant.1, within l.i a.text.now l.invariant.1);
-      value = (place_here a.b a.text.now l.i (omega arith) c.if-text-i.true ∙ l.invariant.2, );
+      value = place_here a.b a.text.now l.i (omega arith) c.if-text-i.true ∙ l.invariant.2;
     }
 
 pub loop-i-preserved : goal.loop-i-preserved
@@ -29,5 +29,5 @@ returns c =
     let a = c.args in record {
       lower_bound = l.invariant.0;
       counted = (l.invariant.1, within l.i a.text.now l.invariant.1);
-      value = (place_end a.b a.text.now l.i (omega arith) ∙ l.invariant.2, );
+      value = place_end a.b a.text.now l.i (omega arith) ∙ l.invariant.2;
     }

@@ -23,6 +23,6 @@ returns c =
     let one : c.kappa_by.result ≡ shared_kappa a.d (sum_from plus_zero p.norms) a.whole =
     c.kappa_by.ensures ∙ ap (λ (x : Float). shared_kappa a.d x a.whole) pooled in
     let f = c.fill_at in
-    fill_in kappas_r a.m a.k a.d a.work.now f.new.0 kappas.result a.k c.kappa_by.result
+    fill_in kappas_r a.m a.k a.d a.work.now f.new.work kappas.result a.k c.kappa_by.result
     (omega (arith, kappas.ensures)) refl c.requires.work_long f.ensures
     ∙ ap (λ (x : Float). with_kappas (replicate a.k x) p) one

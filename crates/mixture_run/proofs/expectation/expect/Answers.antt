@@ -26,8 +26,8 @@ loop-i-preserved c =
     let l = c.loop-i in
     let a = c.args in (
       omega (arith, c.loop-i-test.true),
-      p.auto.0 ∙ l.invariant.1,
-      rows_turn a.m a.k a.d a.work.now a.coords.now l.work p.new.0 l.i l.invariant.2 p.ensures,
+      p.auto.work ∙ l.invariant.1,
+      rows_turn a.m a.k a.d a.work.now a.coords.now l.work p.new.work l.i l.invariant.2 p.ensures,
     )
 
 pub log_softmax_rows-requires : goal.log_softmax_rows-requires
@@ -51,5 +51,5 @@ returns c =
       loglik_done a.m a.k a.d a.work.now a.coords.now a.weights.now l.work l.i at n c.requires.leaves.weights_long
           c.requires.area.work_long l.inv.1 all l.inv.2 place size x.result x.ensures.0,
       resp_done a.m a.k a.d a.work.now a.coords.now a.weights.now l.work l.i at n c.requires.leaves.weights_long
-          c.requires.area.work_long l.inv.1 all l.inv.2 place size x.new.0 x.ensures.1,
+          c.requires.area.work_long l.inv.1 all l.inv.2 place size x.new.rows x.ensures.1,
     )
