@@ -4,7 +4,7 @@ use Rattle.std.specs.Prelude.{ℕ, zero, suc, ◌+◌, ◌*◌, ◌/◌, ◌%◌
 use Rattle.std.specs.Float.{binary64}
 use Rattle.std.specs.Float.Ieee.{div, of_int}
 
--- the exclusive or of the k low binary digits of a and b (the kit's `bit_xor` does not compute on words)
+-- the exclusive or of the k low binary digits of a and b, digit by digit
 unfoldable pub xor : ℕ → ℕ → ℕ → ℕ
 xor zero a b = 0
 xor (suc k) a b = xor k (a / 2) (b / 2) * 2 + (a % 2 + b % 2) % 2
