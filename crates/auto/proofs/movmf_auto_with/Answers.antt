@@ -27,14 +27,14 @@ pub returns-then-code-ne0 : goal.returns-then-code-ne0
 returns-then-code-ne0 c =
     let l = c.lowest_number-lo in
     let a = c.args in record {
-      logw_after = refused (found c.before.before.before.before.before.before.before.before.before.before.before.before.before.before) a.weights.now a.coords.now a.d a.k_min a.k_max a.s (length a.work.now)
+      logw_after = refused (found (goal.at.returns-then-code-ne0 c).Start) a.weights.now a.coords.now a.d a.k_min a.k_max a.s (length a.work.now)
           (length a.work_u32.now)
           l.result c.highest_number-hi.result c.highest_number-hi.ensures l.ensures c.refusal-code.result c.refusal-code.ensures
           c.if-code-ne0.true;
-      answer_keeps_best = refused_best (found c.before.before.before.before.before.before.before.before.before.before.before.before.before.before) a.weights.now a.coords.now a.d a.k_min a.k_max a.s (length a.work.now)
+      answer_keeps_best = refused_best (found (goal.at.returns-then-code-ne0 c).Start) a.weights.now a.coords.now a.d a.k_min a.k_max a.s (length a.work.now)
           (length a.work_u32.now) l.result c.highest_number-hi.result c.highest_number-hi.ensures l.ensures
           c.refusal-code.result c.refusal-code.ensures c.if-code-ne0.true;
-      answer_labels_first = refused_first (found c.before.before.before.before.before.before.before.before.before.before.before.before.before.before) a.weights.now a.coords.now a.d a.k_min a.k_max a.s (length a.work.now)
+      answer_labels_first = refused_first (found (goal.at.returns-then-code-ne0 c).Start) a.weights.now a.coords.now a.d a.k_min a.k_max a.s (length a.work.now)
           (length a.work_u32.now) l.result c.highest_number-hi.result c.highest_number-hi.ensures l.ensures
           c.refusal-code.result c.refusal-code.ensures c.if-code-ne0.true;
     }
@@ -44,10 +44,10 @@ fit_range-t-requires c =
     let l = c.lowest_number-lo in
     let a = c.args in record {
       fittable = (admitted a.weights.now a.coords.now a.d c.highest_number-hi.result a.s
-          (lengths_of (found c.before.before.before.before.before.before.before.before.before.before.before.before.before.before.before.before.before.before.before.before.before.before.before.before) (length a.work.now) (length a.work_u32.now)) (some_at c.before.before.before.before.before.before.before.before.before.before.before.before.before)
+          (lengths_of (found (goal.at.fit_range-t-requires c).Start) (length a.work.now) (length a.work_u32.now)) (some_at (goal.at.fit_range-t-requires c).After-highest_number-hi)
           (sym c.refusal-code.ensures ∙ c.if-code-ne0.false)).fittable;
       le_lo = (
-        lowest_some a.k_min c.highest_number-hi.result l.result l.ensures (some_at c.before.before.before.before.before.before.before.before.before.before.before.before.before),
+        lowest_some a.k_min c.highest_number-hi.result l.result l.ensures (some_at (goal.at.fit_range-t-requires c).After-highest_number-hi),
         lowest_most a.k_min c.highest_number-hi.result l.result l.ensures,
         c.ln-ln_total.ensures ∙ ap ln_of c.sum.ensures,
       );
@@ -59,14 +59,14 @@ returns c =
     let a = c.args in
     let n = c.fit_range-t in
     let o = arrays c.fit_range-t.new.labels c.fit_range-t.new.responsibilities c.fit_range-t.new.group_weights c.fit_range-t.new.directions c.fit_range-t.new.concentrations c.fit_range-t.new.logw in record {
-      logw_after = done (found c.before.before.before.before.before.before.before.before.before.before.before.before.before.before.before.before.before.before.before.before.before.before.before.before.before.before.before.before.before.before.before.before.before.before.before.before.before.before.before.before.before.before) a.weights.now a.coords.now a.d a.k_min a.k_max a.s (length a.work.now)
+      logw_after = done (found (goal.at.returns c).Start) a.weights.now a.coords.now a.d a.k_min a.k_max a.s (length a.work.now)
           (length a.work_u32.now)
           l.result c.highest_number-hi.result c.highest_number-hi.ensures l.ensures c.refusal-code.result c.refusal-code.ensures
           n.result c.answer.result o n.ensures c.answer.ensures c.if-code-ne0.false;
-      answer_keeps_best = done_best (found c.before.before.before.before.before.before.before.before.before.before.before.before.before.before.before.before.before.before.before.before.before.before.before.before.before.before.before.before.before.before.before.before.before.before.before.before.before.before.before.before.before.before) a.weights.now a.coords.now a.d a.k_min a.k_max a.s (length a.work.now)
+      answer_keeps_best = done_best (found (goal.at.returns c).Start) a.weights.now a.coords.now a.d a.k_min a.k_max a.s (length a.work.now)
           (length a.work_u32.now) l.result c.highest_number-hi.result c.highest_number-hi.ensures l.ensures
           c.refusal-code.result c.refusal-code.ensures n.result c.answer.result o n.ensures c.answer.ensures;
-      answer_labels_first = done_first (found c.before.before.before.before.before.before.before.before.before.before.before.before.before.before.before.before.before.before.before.before.before.before.before.before.before.before.before.before.before.before.before.before.before.before.before.before.before.before.before.before.before.before) a.weights.now a.coords.now a.d a.k_min a.k_max a.s (length a.work.now)
+      answer_labels_first = done_first (found (goal.at.returns c).Start) a.weights.now a.coords.now a.d a.k_min a.k_max a.s (length a.work.now)
           (length a.work_u32.now) l.result c.highest_number-hi.result c.highest_number-hi.ensures l.ensures
           c.refusal-code.result c.refusal-code.ensures n.result c.answer.result o n.ensures c.answer.ensures;
     }

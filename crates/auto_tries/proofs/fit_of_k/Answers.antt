@@ -26,7 +26,7 @@ halves_at r =
     r.four_runs-r.auto.work r.requires.fittable.runnable
 
 pub score_at-score-requires : goal.score_at-score-requires
-score_at-score-requires c = let z = (halves_at c.before.before.before.before.before).sizes in (z.k_some, z.k_small, z.kd_small)
+score_at-score-requires c = let z = (halves_at (goal.at.score_at-score-requires c).After-four_runs-r).sizes in (z.k_some, z.k_small, z.kd_small)
 
 pub plus-counts-requires : goal.plus-counts-requires
 plus-counts-requires c =
@@ -36,7 +36,7 @@ pub fill_outputs-requires : goal.fill_outputs-requires
 fill_outputs-requires c =
     let a = c.args in
     fillable _ (length a.weights.now) (length a.coords.now) (length a.weights.now) a.k a.d a.s.rounds
-    (lengths_of (found c.before.before.before.before.before.before.before.before.before.before.before.before.before.before.before.before.before.before.before.before.before.before.before.before.before.before.before.before.before.before) (length a.work.now) (length a.work_u32.now)) c.four_runs-r.auto.work c.requires.fittable
+    (lengths_of (found (goal.at.fill_outputs-requires c).Start) (length a.work.now) (length a.work_u32.now)) c.four_runs-r.auto.work c.requires.fittable
 
 pub returns-then-beats : goal.returns-then-beats
 returns-then-beats c =
@@ -46,7 +46,7 @@ returns-then-beats c =
     let x = c.fill_outputs.new in
     fitted_kept a.weights.now a.coords.now a.d a.k a.s c.four_runs-r.new.work c.four_runs-r.result
     c.four_runs-r.ensures a.t l.result a.ln_total c.score_at-score.result c.beats.result n.result l.ensures
-    c.requires.at_most.1 c.score_at-score.ensures c.beats.ensures n.ensures (halves_at c.before.before.before.before.before.before.before.before.before.before.before.before.before.before.before.before.before.before.before.before.before.before.before.before.before.before.before.before.before.before) (found c.before.before.before.before.before.before.before.before.before.before.before.before.before.before.before.before.before.before.before.before.before.before.before.before.before.before.before.before.before.before.before.before.before.before.before.before.before.before.before.before.before.before.before)
+    c.requires.at_most.1 c.score_at-score.ensures c.beats.ensures n.ensures (halves_at (goal.at.returns-then-beats c).After-four_runs-r) (found (goal.at.returns-then-beats c).Start)
     (arrays x.0 x.1.0 x.1.1.0 x.1.1.1.0 x.1.1.1.1.0 x.1.1.1.1.1.0) c.if-beats.true
     c.fill_outputs.ensures
 
@@ -57,4 +57,4 @@ returns c =
     let n = c.plus-counts in
     fitted_left a.weights.now a.coords.now a.d a.k a.s c.four_runs-r.new.work c.four_runs-r.result
     c.four_runs-r.ensures a.t l.result a.ln_total c.score_at-score.result c.beats.result n.result l.ensures
-    c.requires.at_most.1 c.score_at-score.ensures c.beats.ensures n.ensures (halves_at c.before.before.before.before.before.before.before.before.before.before.before) (found c.before.before.before.before.before.before.before.before.before.before.before.before.before.before.before.before.before.before.before.before.before.before.before.before) c.if-beats.false
+    c.requires.at_most.1 c.score_at-score.ensures c.beats.ensures n.ensures (halves_at (goal.at.returns c).After-four_runs-r) (found (goal.at.returns c).Start) c.if-beats.false

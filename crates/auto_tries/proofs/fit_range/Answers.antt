@@ -34,8 +34,8 @@ loop-k-init c =
       omega arith,
       omega (arith, c.requires.le_lo.1),
       refl,
-      fitted_start (found c.before.before.before.before.before.before.before.before.before.before.before) a.weights.now a.coords.now a.d a.s a.lo _ (ap begun c.none.ensures),
-      tails_start (length a.weights.now) a.lo a.d (found c.before.before.before.before.before.before.before.before.before.before.before),
+      fitted_start (found (goal.at.loop-k-init c).Start) a.weights.now a.coords.now a.d a.s a.lo _ (ap begun c.none.ensures),
+      tails_start (length a.weights.now) a.lo a.d (found (goal.at.loop-k-init c).Start),
       rw c.none.ensures (at_most_none (of_runs (4 * (a.lo - a.lo)))),
     )
 
@@ -47,7 +47,7 @@ fit_of_k-t-requires c =
     let m = length a.weights.now in
     let n = length a.coords.now in
     let v = fittable_below m n m a.hi l.k a.d a.s.rounds
-    (lengths_of (found c.before.before.before.before.before.before.before.before.before.before.before.before.before.before.before.before.before.before.before.before.before) (length a.work.now) (length a.work_u32.now)) (omega (arith, l.inv.0, c.requires.le_lo.0)) most c.requires.fittable in record {
+    (lengths_of (found (goal.at.fit_of_k-t-requires c).Start) (length a.work.now) (length a.work_u32.now)) (omega (arith, l.inv.0, c.requires.le_lo.0)) most c.requires.fittable in record {
       fittable = fittable_of m n m l.k a.d a.s.rounds _ _ l.inv.2 v;
       at_most = (
         at_most_more (omega (arith, most, c.requires.le_lo.0, c.requires.fittable.runnable.halves.sizes.k_small)) l.inv.5,
@@ -76,24 +76,24 @@ loop-k-preserved c =
       omega (arith, most),
       lengths_of_law o o' (length l.work) _ (length l.work_u32) _ c.fit_of_k-t.auto.labels c.fit_of_k-t.auto.responsibilities c.fit_of_k-t.auto.group_weights c.fit_of_k-t.auto.directions c.fit_of_k-t.auto.concentrations
           c.fit_of_k-t.auto.logw c.fit_of_k-t.auto.work c.fit_of_k-t.auto.work_u32 ∙ l.inv.2,
-      fitted_turn (found c.before.before.before.before.before.before.before.before.before.before.before.before.before.before.before.before.before.before.before.before.before.before.before.before.before.before.before.before.before.before.before.before.before.before.before.before.before.before) w x a.d a.s a.lo l.k (l.k - a.lo) l.t n.result o o' n.ensures l.inv.4 l.inv.0
+      fitted_turn (found (goal.at.loop-k-preserved c).Start) w x a.d a.s a.lo l.k (l.k - a.lo) l.t n.result o o' n.ensures l.inv.4 l.inv.0
           refl l.inv.3,
-      tails_turn (found c.before.before.before.before.before.before.before.before.before.before.before.before.before.before.before.before.before.before.before.before.before.before.before.before.before.before.before.before.before.before.before.before.before.before.before.before.before.before) w x a.d a.s a.lo l.k (l.k - a.lo) l.t n.result o o' n.ensures l.inv.4,
-      small_turn (found c.before.before.before.before.before.before.before.before.before.before.before.before.before.before.before.before.before.before.before.before.before.before.before.before.before.before.before.before.before.before.before.before.before.before.before.before.before.before) w x a.d a.s a.lo l.k (l.k - a.lo) l.t n.result o o' n.ensures l.inv.4 l.inv.0
+      tails_turn (found (goal.at.loop-k-preserved c).Start) w x a.d a.s a.lo l.k (l.k - a.lo) l.t n.result o o' n.ensures l.inv.4,
+      small_turn (found (goal.at.loop-k-preserved c).Start) w x a.d a.s a.lo l.k (l.k - a.lo) l.t n.result o o' n.ensures l.inv.4 l.inv.0
           l.inv.5,
     )
 
 -- an array is as long as found
 kept : (c : After-loop-k) → let l = c.loop-k in let a = c.args in
     lengths_of (arrays l.labels l.responsibilities l.group_weights l.directions l.concentrations l.logw) (length l.work)
-    (length l.work_u32) ≡ lengths_of (found c.before.before.before.before.before.before.before.before.before.before.before.before.before) (length a.work.now) (length a.work_u32.now)
+    (length l.work_u32) ≡ lengths_of (found_here) (length a.work.now) (length a.work_u32.now)
 kept c = c.loop-k.invariant.2
 
 pub returns : goal.returns
 returns c =
     let a = c.args in
     let l = c.loop-k in
-    fitted_end (found c.before.before.before.before.before.before.before.before.before.before.before.before.before) a.weights.now a.coords.now a.d a.s a.lo a.hi l.k l.t _
+    fitted_end (found (goal.at.returns c).Start) a.weights.now a.coords.now a.d a.s a.lo a.hi l.k l.t _
     (omega (arith, l.invariant.1, c.loop-k-test.false)) l.invariant.3
 
 pub shape_of-labels : goal.shape_of-labels

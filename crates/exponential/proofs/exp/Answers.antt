@@ -24,7 +24,7 @@ low_exp-requires c =
 pub returns-then-x-3 : goal.returns-then-x-3
 returns-then-x-3 c =
     let x = c.args.x in
-    let b = low_inner x (low_exp-requires c.before tt) in
+    let b = low_inner x (low_exp-requires (goal.at.returns-then-x-3 c).Else-x-4) in
     c.low_exp.ensures ∙ by_inner x b.0 b.1
 
 pub inner_exp-requires : goal.inner_exp-requires
@@ -35,5 +35,5 @@ inner_exp-requires c =
 pub returns : goal.returns
 returns c =
     let x = c.args.x in
-    let b = inside_inner x (inner_exp-requires c.before tt) in
+    let b = inside_inner x (inner_exp-requires (goal.at.returns c).Else-x-3) in
     c.inner_exp.ensures ∙ by_inner x b.0 b.1

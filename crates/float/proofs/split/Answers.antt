@@ -29,7 +29,7 @@ float_to_bits-b c = positive_no_nan c.args.x c.requires
 pub loop-m-init : goal.loop-m-init
 loop-m-init c =
     let x = c.args.x in
-    (refl, omega arith, subnormal_pos x (held c.before) c.requires c.if-f-eq0.true, lit≤ tt)
+    (refl, omega arith, subnormal_pos x (held (goal.at.loop-m-init c).Start) c.requires c.if-f-eq0.true, lit≤ tt)
 
 pub overflow_mul-m : goal.overflow_mul-m
 overflow_mul-m c = omega arith
@@ -49,13 +49,13 @@ pub overflow_add-result : goal.overflow_add-result
 overflow_add-result c = omega arith
 
 pub overflow_add-result-else-f-eq0 : goal.overflow_add-result-else-f-eq0
-overflow_add-result-else-f-eq0 c = omega (arith, bits_under c.args.x (held c.before) c.requires)
+overflow_add-result-else-f-eq0 c = omega (arith, bits_under c.args.x (held (goal.at.overflow_add-result-else-f-eq0 c).Start) c.requires)
 
 pub returns-after-loop-m : goal.returns-after-loop-m
 returns-after-loop-m c =
     let x = c.args.x in
     record {
-      value = subnormal_split x (held c.before.before.before) c.requires c.loop-m.m c.loop-m.e c.if-f-eq0.true c.loop-m.invariant.0;
+      value = subnormal_split x (held (goal.at.returns-after-loop-m c).Start) c.requires c.loop-m.m c.loop-m.e c.if-f-eq0.true c.loop-m.invariant.0;
       first = c.loop-m-test.false;
       last = c.loop-m.invariant.1;
       high = omega arith;
@@ -65,8 +65,8 @@ pub returns-else-f-eq0 : goal.returns-else-f-eq0
 returns-else-f-eq0 c =
     let x = c.args.x in
     record {
-      value = normal_split x (held c.before) c.requires (omega arith);
+      value = normal_split x (held (goal.at.returns-else-f-eq0 c).Start) c.requires (omega arith);
       first = omega arith;
       last = omega arith;
-      high = omega (arith, bits_under x (held c.before) c.requires);
+      high = omega (arith, bits_under x (held (goal.at.returns-else-f-eq0 c).Start) c.requires);
     }

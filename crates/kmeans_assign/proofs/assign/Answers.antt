@@ -33,7 +33,7 @@ small_at p =
 
 pub tally-p-requires : goal.tally-p-requires
 tally-p-requires c =
-    (small_at c.before.before.before.before.before.before.before.before, c.loop-i.invariant.1.sizes.k_small)
+    (small_at (goal.at.tally-p-requires c).At-loop-i, c.loop-i.invariant.1.sizes.k_small)
 
 pub loop-i-preserved : goal.loop-i-preserved
 loop-i-preserved c =
@@ -63,5 +63,5 @@ returns c =
     let s₀ = state_in a.m a.k a.d a.work.now a.work_u32.now in
     let e : l.i ≡ a.m = omega (arith, l.invariant.0, c.loop-i-test.false) in record {
       result_after = l.invariant.2 ∙ ap (λ (n : ℕ). pass_up_to a.coords.now a.k a.d a.it s₀ n) e;
-      at_most = small_at c.before;
+      at_most = small_at (goal.at.returns c).At-loop-i;
     }

@@ -7,7 +7,7 @@ use Rattle.kmeans_assign.proofs.is_spent.Goals as goal
 
 pub returns-then-b : goal.returns-then-b
 unfolding of_bits
-returns-then-b c =
+returns-then-b c e =
     record {
       several = lt-ltb 1 _ c.if-k-gt1.true;
       scaled = c.if-b.true;
@@ -15,7 +15,7 @@ returns-then-b c =
     }
 
 pub returns-else-b : goal.returns-else-b
-returns-else-b c = absurd (true≢false (sym e))
+returns-else-b c e = absurd (true≢false (sym e))
 
 pub returns-else-k-gt1 : goal.returns-else-k-gt1
-returns-else-k-gt1 c = absurd (true≢false (sym e))
+returns-else-k-gt1 c e = absurd (true≢false (sym e))

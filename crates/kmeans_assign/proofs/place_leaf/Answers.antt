@@ -44,7 +44,7 @@ overflow_cast-label c =
     let a = c.args in
     let below =
     leaf_below a.m a.k a.d a.work.now a.work_u32.now a.coords.now a.i c.best_of-b.result
-    c.requires.sized.sizes.k_some (best_at c.before.before.before.before.before.before.before.before) in
+    c.requires.sized.sizes.k_some (best_at (goal.at.overflow_cast-label c).After-best_of-b) in
     omega (arith, below, c.requires.sized.sizes.k_small)
 
 pub bounds-work_u32-i : goal.bounds-work_u32-i
@@ -64,7 +64,7 @@ returns c =
     let a = c.args in
     leaf_done a.m a.k a.d a.work.now a.work_u32.now a.coords.now a.i c.best_of-b.result c.put_bounds.new.work
     c.served_at-served.result c.bounds_at-o.result c.bounds_by.result c.requires.leaf_of.below c.served_at-served.ensures
-    (best_at c.before.before.before.before.before.before.before.before.before) (c.bounds_at-o.ensures a.work_u32.now) c.bounds_by.ensures c.put_bounds.ensures
+    (best_at (goal.at.returns c).After-best_of-b) (c.bounds_at-o.ensures a.work_u32.now) c.bounds_by.ensures c.put_bounds.ensures
 
 pub offset_bounds-work_u32-i : goal.offset_bounds-work_u32-i
 offset_bounds-work_u32-i c = omega (arith, c.requires.sized.sizes.m_small, c.requires.leaf_of.below)

@@ -11,7 +11,7 @@ pub shape_of-work : goal.shape_of-work
 shape_of-work c = simp length-set
 
 pub returns : goal.returns
-returns c =
+returns c u =
     let a = c.args in
     put_bounds_done a.m a.k a.d a.work.now u a.i c.requires.leaf_of.below _ _ a.b c.low_at-low.ensures
     c.high_at-high.ensures

@@ -43,7 +43,7 @@ small_at p =
 
 pub tally-p-requires : goal.tally-p-requires
 tally-p-requires c =
-    (small_at c.before.before.before.before.before.before.before.before, c.loop-i.invariant.1.sizes.k_small)
+    (small_at (goal.at.tally-p-requires c).At-loop-i, c.loop-i.invariant.1.sizes.k_small)
 
 pub loop-i-preserved : goal.loop-i-preserved
 loop-i-preserved c =
@@ -77,5 +77,5 @@ returns c =
     c.drift_at-drift.ensures c.two_smallest-t.ensures in record {
       result_after = l.invariant.2 ∙ ap (λ (n : ℕ). pass_up_to a.coords.now a.k a.d a.it (shift_up_to a.k c.two_smallest-t.result s₀ n) n) e
           ∙ ap (λ (x : Slowest). pass_up_to a.coords.now a.k a.d a.it (shift_up_to a.k x s₀ a.m) a.m) t;
-      at_most = small_at c.before;
+      at_most = small_at (goal.at.returns c).At-loop-i;
     }

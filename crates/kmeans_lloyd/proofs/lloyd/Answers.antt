@@ -40,7 +40,7 @@ few_rounds g = omega (arith, g.loop-it-test.true, g.requires.weights_len.1)
 
 pub plus-c-requires : goal.plus-c-requires
 plus-c-requires c =
-    let few = few_rounds c.before.before.before.before.before in
+    let few = few_rounds (goal.at.plus-c-requires c).After-one_round-r in
     (at_most_more (omega (arith, few)) c.loop-it.invariant.5, at_most_more (omega arith) c.one_round-r.ensures.small)
 
 -- the counts of one round more are small
@@ -65,8 +65,8 @@ loop-it-preserved c =
       labelled_of_round a.weights.now a.coords.now a.m a.k a.d l.it s s' c.one_round-r.result c.one_round-r.ensures
           c.if-r.false
           l.inv.1.sizes.k_some l.inv.4,
-      few_at c.before,
-      goes_on a.weights.now a.coords.now a.m a.k a.d (whole c.before.before.before.before.before.before.before.before.before.before.before.before.before.before.before.before.before) (a.rounds - l.it)
+      few_at (goal.at.loop-it-preserved c).After-plus-c,
+      goes_on a.weights.now a.coords.now a.m a.k a.d (whole (goal.at.loop-it-preserved c).Start) (a.rounds - l.it)
           (a.rounds - (l.it + 1)) l.it s s' l.c c.plus-c.result
           c.one_round-r.result (omega (arith, below)) c.one_round-r.ensures c.plus-c.ensures l.inv.6 c.if-r.false,
     )
@@ -75,7 +75,7 @@ pub returns-after-loop-it : goal.returns-after-loop-it
 returns-after-loop-it c =
     let l = c.loop-it in
     let a = c.args in
-    runs_out a.weights.now a.coords.now a.m a.k a.d (whole c.before.before.before.before.before.before.before) (a.rounds - l.it) l.it
+    runs_out a.weights.now a.coords.now a.m a.k a.d (whole (goal.at.returns-after-loop-it c).Start) (a.rounds - l.it) l.it
     (state_in a.m a.k a.d l.work l.work_u32) l.c
     (omega (arith, c.loop-it-test.false)) l.invariant.6 l.invariant.5 (omega (arith, l.invariant.0, c.requires.weights_len.1))
 
@@ -85,12 +85,12 @@ returns-then-r c =
     let a = c.args in
     let s = state_in a.m a.k a.d l.work l.work_u32 in
     let s' = state_in a.m a.k a.d c.one_round-r.new.work c.one_round-r.new.work_u32 in
-    stops a.weights.now a.coords.now a.m a.k a.d (whole c.before.before.before.before.before.before.before.before.before.before.before.before.before.before.before.before.before) (a.rounds - l.it) (a.rounds - (l.it + 1))
+    stops a.weights.now a.coords.now a.m a.k a.d (whole (goal.at.returns-then-r c).Start) (a.rounds - l.it) (a.rounds - (l.it + 1))
     l.it s s' l.c c.plus-c.result c.one_round-r.result (omega (arith, c.loop-it-test.true))
-    c.one_round-r.ensures c.plus-c.ensures l.inv.6 c.if-r.true (few_at c.before) (few_rounds c.before.before.before.before.before.before.before)
+    c.one_round-r.ensures c.plus-c.ensures l.inv.6 c.if-r.true (few_at (goal.at.returns-then-r c).After-plus-c) (few_rounds (goal.at.returns-then-r c).After-one_round-r)
 
 pub overflow_add-it : goal.overflow_add-it
-overflow_add-it c = omega (arith, few_rounds c.before.before.before.before.before.before.before)
+overflow_add-it c = omega (arith, few_rounds (goal.at.overflow_add-it c).After-one_round-r)
 
 pub loop-it-smaller : goal.loop-it-smaller
 loop-it-smaller c = omega (arith, c.loop-it-test.true)

@@ -33,7 +33,7 @@ cohesion_of-cohesion-requires c =
     let a = c.args in record {
       sized = sized_of _ _ _ _ (length a.coords.now) a.m a.k a.d (c.lloyd-c.auto.work ∙ c.start.auto.work ∙ c.seed-next.auto.work)
           (c.lloyd-c.auto.work_u32 ∙ c.start.auto.work_u32) c.requires.sized;
-      weights_len = (c.requires.weights_long, labelled_at c.before.before.before.before.before.before);
+      weights_len = (c.requires.weights_long, labelled_at (goal.at.cohesion_of-cohesion-requires c).After-lloyd-c);
     }
 
 pub returns : goal.returns
@@ -43,6 +43,6 @@ returns c =
           c.lloyd-c.result c.cohesion_of-cohesion.result
           (c.seed-next.ensures a.work_u32.now).0 (c.seed-next.ensures a.work_u32.now).1 c.start.ensures c.lloyd-c.ensures
           c.cohesion_of-cohesion.ensures.0 c.cohesion_of-cohesion.ensures.1;
-      run_left = run_left a.weights.now a.coords.now a.m a.k a.d _ _ _ (labelled_at c.before.before.before.before.before.before.before.before.before.before.before) c.cohesion_of-cohesion.ensures.1
+      run_left = run_left a.weights.now a.coords.now a.m a.k a.d _ _ _ (labelled_at (goal.at.returns c).After-lloyd-c) c.cohesion_of-cohesion.ensures.1
           c.cohesion_of-cohesion.ensures.2;
     }

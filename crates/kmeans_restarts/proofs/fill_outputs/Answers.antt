@@ -40,7 +40,7 @@ pub copy_u32-requires : goal.copy_u32-requires
 copy_u32-requires c =
     let b = c.held_at-b.result in
     alike c.args.labels.now c.args.work_u32.now c.args.m b (b + c.args.m - b) (omega arith) c.requires.labels_long
-    (omega (arith, (work_u32_held c.before.before).0))
+    (omega (arith, (work_u32_held (goal.at.copy_u32-requires c).After-held_at-b).0))
 
 pub slice_bounds-copy-end-2 : goal.slice_bounds-copy-end-2
 slice_bounds-copy-end-2 c =
@@ -55,7 +55,7 @@ pub copy-requires : goal.copy-requires
 copy-requires c =
     let b = c.held_at-a.result in
     alike c.args.directions.now c.args.work.now (c.args.k * c.args.d) b (b + c.args.k * c.args.d - b) (omega arith)
-    c.requires.directions_long (omega (arith, (work_held c.before.before.before.before.before.before.before).0))
+    c.requires.directions_long (omega (arith, (work_held (goal.at.copy-requires c).After-held_at-b).0))
 
 pub returns : goal.returns
 returns c =
@@ -71,23 +71,23 @@ returns c =
           (omega arith));
       directions_after = ap (λ (l : List Float). l ++ drop n s.directions.now)
           (c.copy.ensures
-          ∙ centers_at s.m s.k s.d s.work.now s.work_u32.now a b from (from + n - from) (work_from c.before.before.before.before.before.before.before.before.before.before) (omega arith));
+          ∙ centers_at s.m s.k s.d s.work.now s.work_u32.now a b from (from + n - from) (work_from (goal.at.returns c).After-held_at-b) (omega arith));
     }
 
 pub overflow_add-b : goal.overflow_add-b
-overflow_add-b c = omega (arith, work_u32_near c.before)
+overflow_add-b c = omega (arith, work_u32_near (goal.at.overflow_add-b c).After-held_at-b)
 
 pub offset_bounds-work_u32-b : goal.offset_bounds-work_u32-b
-offset_bounds-work_u32-b c = omega (arith, work_u32_near c.before)
+offset_bounds-work_u32-b c = omega (arith, work_u32_near (goal.at.offset_bounds-work_u32-b c).After-held_at-b)
 
 pub slice_bounds-copy_u32-end-3 : goal.slice_bounds-copy_u32-end-3
-slice_bounds-copy_u32-end-3 c = omega (arith, (work_u32_held c.before).0)
+slice_bounds-copy_u32-end-3 c = omega (arith, (work_u32_held (goal.at.slice_bounds-copy_u32-end-3 c).After-held_at-b).0)
 
 pub overflow_add-a : goal.overflow_add-a
-overflow_add-a c = omega (arith, work_near c.before.before.before.before.before.before)
+overflow_add-a c = omega (arith, work_near (goal.at.overflow_add-a c).After-held_at-b)
 
 pub offset_bounds-work-a : goal.offset_bounds-work-a
-offset_bounds-work-a c = omega (arith, work_near c.before.before.before.before.before.before)
+offset_bounds-work-a c = omega (arith, work_near (goal.at.offset_bounds-work-a c).After-held_at-b)
 
 pub slice_bounds-copy-end-3 : goal.slice_bounds-copy-end-3
-slice_bounds-copy-end-3 c = omega (arith, (work_held c.before.before.before.before.before.before).0)
+slice_bounds-copy-end-3 c = omega (arith, (work_held (goal.at.slice_bounds-copy-end-3 c).After-held_at-b).0)

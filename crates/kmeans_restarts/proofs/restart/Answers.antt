@@ -25,7 +25,7 @@ run_at-r-requires c =
     let v = c.requires.runnable.halves in record {
       runnable = c.requires.runnable;
       d_in_bounds = (
-        free_within a.h.held.second (half a.m a.k a.d) (length a.work.now) _ v.work_long (work_free c.before.before),
+        free_within a.h.held.second (half a.m a.k a.d) (length a.work.now) _ v.work_long (work_free (goal.at.run_at-r-requires c).After-free_at-b),
         free_within a.h.held.second (a.m + a.k) (length a.work_u32.now) _ v.work_u32_long c.free_at-b.ensures,
       );
     }
@@ -47,6 +47,6 @@ returns c =
           run_at_of (result_of a.weights.now a.coords.now a.m a.k a.d a.rounds a.h.generator) a.work.now
           c.run_at-r.new.work a.work_u32.now c.run_at-r.new.work_u32 c.free_at-a.result
           (free_at b (half a.m a.k a.d)) c.free_at-b.result (free_at b (a.m + a.k)) a.m a.k a.d c.run_at-r.result
-          (work_free c.before.before.before.before.before.before.before.before.before) c.free_at-b.ensures c.run_at-r.ensures;
+          (work_free (goal.at.returns c).After-free_at-b) c.free_at-b.ensures c.run_at-r.ensures;
       kept = ap (λ (x : Held). afterwards x c.run_at-r.result.generator) c.keep-kept.ensures;
     }

@@ -27,7 +27,7 @@ loop-i-init c =
     let a = c.args in (
       omega arith,
       sized_of _ _ _ _ (length a.coords.now) a.m a.k a.d (search rules) (search rules) c.requires.sized,
-      gathered_own a.weights.now a.coords.now a.m a.k a.d _ 0 _ _ (cleared_at c.before.before),
+      gathered_own a.weights.now a.coords.now a.m a.k a.d _ 0 _ _ (cleared_at (goal.at.loop-i-init c).After-fill_u32),
       refl,
       refl,
     )
@@ -38,7 +38,7 @@ gain-requires c =
     let a = c.args in record {
       sized = l.invariant.1;
       gains = gains_of a.weights.now a.coords.now a.m a.k a.d _ l.i l.work l.work_u32 l.invariant.2
-          (state_in a.m a.k a.d a.work.now a.work_u32.now) (cleared_at c.before.before.before.before.before.before).state c.requires.weights_len.1
+          (state_in a.m a.k a.d a.work.now a.work_u32.now) (cleared_at (goal.at.gain-requires c).After-fill_u32).state c.requires.weights_len.1
           c.loop-i-test.true c.requires.sized.sizes.m_small c.requires.weights_len.0;
     }
 
@@ -61,5 +61,5 @@ returns c =
     let l = c.loop-i in
     let a = c.args in
     gather_end a.weights.now a.coords.now a.m a.k a.d _ l.i l.work l.work_u32 l.invariant.2 a.work.now
-    a.work_u32.now (cleared_at c.before.before.before.before).state
+    a.work_u32.now (cleared_at (goal.at.returns c).After-fill_u32).state
     (omega (arith, c.loop-i-test.false))

@@ -38,21 +38,21 @@ worst_small p =
 
 pub bounds-work-served : goal.bounds-work-served
 bounds-work-served c =
-    omega (arith, (leaf_at c.before.before.before.before.before).below, c.requires.leafed.area.work_long, kept_at c.before.before, c.served_at-served.ensures)
+    omega (arith, (leaf_at (goal.at.bounds-work-served c).After-argmin-worst).below, c.requires.leafed.area.work_long, kept_at (goal.at.bounds-work-served c).After-unit, c.served_at-served.ensures)
 
 pub move_center-requires : goal.move_center-requires
 move_center-requires c =
     let z = c.requires.leafed.area in record {
       area = record {
         sizes = z.sizes;
-        work_long = simp length-set (omega (arith, z.work_long, kept_at c.before.before.before));
+        work_long = simp length-set (omega (arith, z.work_long, kept_at (goal.at.move_center-requires c).After-unit));
       };
       group_of = c.requires.group_of;
     }
 
 pub shape_of-work : goal.shape_of-work
 shape_of-work c =
-    omega (arith, simp length-set at c.move_center.auto.work, kept_at c.before.before.before.before.before.before)
+    omega (arith, simp length-set at c.move_center.auto.work, kept_at (goal.at.shape_of-work c).After-unit)
 
 pub returns : goal.returns
 unfolding of_bits div
@@ -62,10 +62,10 @@ returns c =
     let r = c.unit.new.to in
     let z = c.requires.leafed in record {
       by_index = reseed_done a.m a.k a.d a.coords.now a.work.now a.c c.argmin-worst.result r c.move_center.new.work c.requires.group_of
-          z.area.sizes.m_some z.area.work_long (full_at c.before.before.before.before.before.before) at.result at.ensures c.argmin-worst.ensures c.unit.ensures
+          z.area.sizes.m_some z.area.work_long (full_at (goal.at.returns c).After-unit) at.result at.ensures c.argmin-worst.ensures c.unit.ensures
           c.move_center.ensures.by_index;
       later_rows = reseed_later a.m a.k a.d a.coords.now a.work.now a.c c.argmin-worst.result r c.move_center.new.work c.requires.group_of
-          z.area.sizes.m_some z.area.work_long (full_at c.before.before.before.before.before.before) at.result at.ensures c.argmin-worst.ensures
+          z.area.sizes.m_some z.area.work_long (full_at (goal.at.returns c).After-unit) at.result at.ensures c.argmin-worst.ensures
           c.move_center.ensures.work_unchanged;
     }
 
@@ -73,16 +73,16 @@ pub overflow_mul-row : goal.overflow_mul-row
 overflow_mul-row c = omega (arith, (leaf_at c).row, c.requires.leafed.area.sizes.md_small)
 
 pub overflow_add-row : goal.overflow_add-row
-overflow_add-row c = omega (arith, (leaf_at c.before).row, c.requires.leafed.area.sizes.md_small)
+overflow_add-row c = omega (arith, (leaf_at (goal.at.overflow_add-row c).After-argmin-worst).row, c.requires.leafed.area.sizes.md_small)
 
 pub offset_bounds-coords-row : goal.offset_bounds-coords-row
-offset_bounds-coords-row c = omega (arith, (leaf_at c.before).row, c.requires.leafed.area.sizes.md_small, c.requires.leafed.coords_long)
+offset_bounds-coords-row c = omega (arith, (leaf_at (goal.at.offset_bounds-coords-row c).After-argmin-worst).row, c.requires.leafed.area.sizes.md_small, c.requires.leafed.coords_long)
 
 pub slice_bounds-unit-end-2 : goal.slice_bounds-unit-end-2
-slice_bounds-unit-end-2 c = omega (arith, (leaf_at c.before).row, c.requires.leafed.coords_long)
+slice_bounds-unit-end-2 c = omega (arith, (leaf_at (goal.at.slice_bounds-unit-end-2 c).After-argmin-worst).row, c.requires.leafed.coords_long)
 
 pub overflow_add-work : goal.overflow_add-work
-overflow_add-work c = omega (arith, worst_small c.before.before.before.before.before)
+overflow_add-work c = omega (arith, worst_small (goal.at.overflow_add-work c).After-argmin-worst)
 
 pub offset_bounds-work-served : goal.offset_bounds-work-served
-offset_bounds-work-served c = omega (arith, worst_small c.before.before.before.before.before)
+offset_bounds-work-served c = omega (arith, worst_small (goal.at.offset_bounds-work-served c).After-argmin-worst)

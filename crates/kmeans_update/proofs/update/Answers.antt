@@ -62,16 +62,16 @@ refresh-requires c =
 pub update_groups-requires : goal.update_groups-requires
 update_groups-requires c =
     let a = c.args in
-    sized_of _ _ _ _ (length a.coords.now) a.m a.k a.d ((refreshed_at c.before).0 ∙ c.accumulate.auto.work) c.accumulate.auto.work_u32
+    sized_of _ _ _ _ (length a.coords.now) a.m a.k a.d ((refreshed_at (goal.at.update_groups-requires c).Joined-has_empty).0 ∙ c.accumulate.auto.work) c.accumulate.auto.work_u32
     c.requires.sized
 
 pub shape_of-work : goal.shape_of-work
 shape_of-work c =
-    c.update_groups.auto.work ∙ (refreshed_at c.before.before.before.before).0 ∙ c.accumulate.auto.work
+    c.update_groups.auto.work ∙ (refreshed_at (goal.at.shape_of-work c).Joined-has_empty).0 ∙ c.accumulate.auto.work
 
 pub returns : goal.returns
 returns c =
     let a = c.args in
     update_done a.weights.now a.coords.now a.m a.k a.d a.work.now c.accumulate.new.work c.if-has_empty.work
     a.work_u32.now c.accumulate.new.work_u32 _
-    c.accumulate.ensures (refreshed_at c.before.before.before.before).1 (refreshed_at c.before.before.before.before).2 c.update_groups.ensures
+    c.accumulate.ensures (refreshed_at (goal.at.returns c).Joined-has_empty).1 (refreshed_at (goal.at.returns c).Joined-has_empty).2 c.update_groups.ensures

@@ -27,15 +27,15 @@ pub u32_at-m-requires : goal.u32_at-m-requires
 u32_at-m-requires c = omega (arith, headed c)
 
 pub u32_at-d-requires : goal.u32_at-d-requires
-u32_at-d-requires c = omega (arith, headed c.before)
+u32_at-d-requires c = omega (arith, headed (goal.at.u32_at-d-requires c).Else-code-ne0)
 
 pub fit_sized-requires : goal.fit_sized-requires
 fit_sized-requires c = (sized c.args.bytes.now _ _
     c.u32_at-m.ensures.0 c.u32_at-d.ensures.0
-    (none c.before.before.before.before.before)).1
+    (none (goal.at.fit_sized-requires c).Else-code-ne0)).1
 
 pub returns : goal.returns
 returns c = let both =
     let a = c.args in
     file_fitted a.bytes.now a.labels.now _ _ _ c.u32_at-m.ensures.0 c.u32_at-d.ensures.0
-    (none c.before.before.before.before.before.before.before.before.before.before) c.fit_sized.ensures in record { fact = both.0; leaves_keep_best = both.1 }
+    (none (goal.at.returns c).Else-code-ne0) c.fit_sized.ensures in record { fact = both.0; leaves_keep_best = both.1 }

@@ -19,7 +19,7 @@ positive_ln-requires c = is_positive c.args.x c.if-x.false c.if-x-2.false c.if-x
 
 pub returns-then-x-3 : goal.returns-then-x-3
 unfolding of_bits div
-returns-then-x-3 c = c.positive_ln.ensures ∙ of_positive c.args.x (positive_ln-requires c.before tt)
+returns-then-x-3 c = c.positive_ln.ensures ∙ of_positive c.args.x (positive_ln-requires (goal.at.returns-then-x-3 c).Then-x-3)
 
 pub returns-else-x-3 : goal.returns-else-x-3
 unfolding of_bits div

@@ -11,10 +11,10 @@ area_at p = let a = p.args in kept_area a.m a.k a.d a.work.now a.r p.requires.ha
     p.kept_part-area.ensures
 
 pub fill_leaves-requires : goal.fill_leaves-requires
-fill_leaves-requires c = (area_at c.before.before, c.requires.leaves)
+fill_leaves-requires c = (area_at (goal.at.fill_leaves-requires c).After-kept_part-area, c.requires.leaves)
 
 pub fill_groups-requires : goal.fill_groups-requires
-fill_groups-requires c = (area_at c.before.before.before.before.before.before.before.before.before.before.before, c.requires.groups)
+fill_groups-requires c = (area_at (goal.at.fill_groups-requires c).After-kept_part-area, c.requires.groups)
 
 pub returns : goal.returns
 returns c =

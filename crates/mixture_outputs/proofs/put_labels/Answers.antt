@@ -39,7 +39,7 @@ overflow_cast-labels c =
     let at = c.loop-i.i * a.k in
     omega (
       arith,
-      label_below a.resp.now at a.k c.argmax.result (omega (arith, row_of_law c.before.before, s.1)) s.3
+      label_below a.resp.now at a.k c.argmax.result (omega (arith, row_of_law (goal.at.overflow_cast-labels c).In-loop-i, s.1)) s.3
           c.argmax.ensures,
       s.4,
     )

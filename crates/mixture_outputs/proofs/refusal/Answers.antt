@@ -3,7 +3,7 @@
 use mathlib.Core.Path.{◌≡◌, sym, ◌∙◌}
 use mathlib.Core.Bool.{true}
 use lib.ListN.{length}
-use borrow.Author.Tests.{le-leb, lt-leb, not-true, not-false}
+use borrow.Author.Tests.{le-leb, lt-leb}
 use Rattle.limits.specs.Limits.{sizes_ok, rounds_ok, most_rounds}
 use Rattle.limits.proofs.Limits.{sizes_met}
 use Rattle.mixture_outputs.specs.Refusals.{fit_refusal}
@@ -11,40 +11,40 @@ use Rattle.mixture_outputs.proofs.refusal.Goals.{Else-not-groups, Else-not-sizes
 use Rattle.mixture_outputs.proofs.refusal.Goals as goal
 
 sizes_passed : (c : Else-not-sizes_ok) → let a = c.args in sizes_ok (length a.weights.now) a.d (length a.coords.now) ≡ true
-sizes_passed c = sym c.sizes_ok.ensures ∙ not-false _ c.if-not-sizes_ok.false
+sizes_passed c = sym c.sizes_ok.ensures ∙ c.if-not-sizes_ok.false
 
 groups_passed : (c : Else-not-groups) → c.args.groups ≡ true
-groups_passed c = not-false _ c.if-not-groups.false
+groups_passed c = c.if-not-groups.false
 
 rounds_passed : (c : Else-s-gt-MOST_ROUNDS) → rounds_ok c.args.s.rounds ≡ true
 rounds_passed c = le-leb _ most_rounds c.if-s-gt-MOST_ROUNDS.false
 
 pub returns-then-not-sizes_ok : goal.returns-then-not-sizes_ok
 unfolding fit_refusal
-returns-then-not-sizes_ok c = rw (sym c.sizes_ok.ensures ∙ not-true _ c.if-not-sizes_ok.true)
+returns-then-not-sizes_ok c = rw (sym c.sizes_ok.ensures ∙ c.if-not-sizes_ok.true)
 
 pub returns-then-not-groups : goal.returns-then-not-groups
 unfolding fit_refusal
-returns-then-not-groups c = rw (sizes_passed c.before, not-true c.args.groups c.if-not-groups.true)
+returns-then-not-groups c = rw (sizes_passed (goal.at.returns-then-not-groups c).Else-not-sizes_ok, c.if-not-groups.true)
 
 pub returns-then-s-gt-MOST_ROUNDS : goal.returns-then-s-gt-MOST_ROUNDS
 unfolding fit_refusal
 returns-then-s-gt-MOST_ROUNDS c =
-    rw (sizes_passed c.before.before.before, groups_passed c.before.before, lt-leb _ most_rounds c.if-s-gt-MOST_ROUNDS.true)
+    rw (sizes_passed (goal.at.returns-then-s-gt-MOST_ROUNDS c).Else-not-sizes_ok, groups_passed (goal.at.returns-then-s-gt-MOST_ROUNDS c).Else-not-groups, lt-leb _ most_rounds c.if-s-gt-MOST_ROUNDS.true)
 
 pub arrays_ok-requires : goal.arrays_ok-requires
 arrays_ok-requires c =
     let a = c.args in
-    let z = sizes_met (length a.weights.now) a.d (length a.coords.now) (sizes_passed c.before.before.before) in
-    (z.1, c.requires (groups_passed c.before.before), z.3)
+    let z = sizes_met (length a.weights.now) a.d (length a.coords.now) (sizes_passed (goal.at.arrays_ok-requires c).Else-not-sizes_ok) in
+    (z.1, c.requires (groups_passed (goal.at.arrays_ok-requires c).Else-not-groups), z.3)
 
 pub returns-then-not-arrays_ok : goal.returns-then-not-arrays_ok
 unfolding fit_refusal
 returns-then-not-arrays_ok c =
-    rw (sizes_passed c.before.before.before.before.before, groups_passed c.before.before.before.before, rounds_passed c.before.before, sym c.arrays_ok.ensures ∙ not-true _ c.if-not-arrays_ok.true)
+    rw (sizes_passed (goal.at.returns-then-not-arrays_ok c).Else-not-sizes_ok, groups_passed (goal.at.returns-then-not-arrays_ok c).Else-not-groups, rounds_passed (goal.at.returns-then-not-arrays_ok c).Else-s-gt-MOST_ROUNDS, sym c.arrays_ok.ensures ∙ c.if-not-arrays_ok.true)
 
 pub returns : goal.returns
 unfolding fit_refusal
 returns c =
-    rw (sizes_passed c.before.before.before.before.before.before, groups_passed c.before.before.before.before.before, rounds_passed c.before.before.before, sym c.arrays_ok.ensures ∙ not-false _ c.if-not-arrays_ok.false)
+    rw (sizes_passed (goal.at.returns c).Else-not-sizes_ok, groups_passed (goal.at.returns c).Else-not-groups, rounds_passed (goal.at.returns c).Else-s-gt-MOST_ROUNDS, sym c.arrays_ok.ensures ∙ c.if-not-arrays_ok.false)
     c.leaves_refusal.ensures

@@ -13,12 +13,14 @@ both_in : (h : After-half-n) → let n = h.half-n.result in n + n ≤ length h.a
 both_in h = omega (arith, h.half-n.ensures, h.requires.work_long)
 
 held_in : (c : After-free_at-b) → c.held_at-a.result + c.half-n.result ≤ length c.args.work.now
-held_in c =
-    (held_within c.args.r.second c.half-n.result _ _ (both_in c.before.before) c.held_at-a.ensures).0
+held_in c = let both_in_here : let n = c.half-n.result in n + n ≤ length c.args.work.now =
+    omega (arith, c.half-n.ensures, c.requires.work_long) in
+    (held_within c.args.r.second c.half-n.result _ _ (both_in_here) c.held_at-a.ensures).0
 
 free_in : (c : After-free_at-b) → c.free_at-b.result + c.half-n.result ≤ length c.args.work.now
-free_in c =
-    free_within c.args.r.second c.half-n.result _ _ (both_in c.before.before) c.free_at-b.ensures
+free_in c = let both_in_here : let n = c.half-n.result in n + n ≤ length c.args.work.now =
+    omega (arith, c.half-n.ensures, c.requires.work_long) in
+    free_within c.args.r.second c.half-n.result _ _ (both_in_here) c.free_at-b.ensures
 
 pub returns : goal.returns
 returns c =
@@ -36,10 +38,10 @@ pub slice_bounds-keeper-end : goal.slice_bounds-keeper-end
 slice_bounds-keeper-end c = omega (arith, held_in c)
 
 pub overflow_add-b : goal.overflow_add-b
-overflow_add-b c = omega (arith, free_in c.before)
+overflow_add-b c = omega (arith, free_in (goal.at.overflow_add-b c).After-free_at-b)
 
 pub offset_bounds-work-b : goal.offset_bounds-work-b
-offset_bounds-work-b c = omega (arith, free_in c.before)
+offset_bounds-work-b c = omega (arith, free_in (goal.at.offset_bounds-work-b c).After-free_at-b)
 
 pub slice_bounds-keeper-end-2 : goal.slice_bounds-keeper-end-2
-slice_bounds-keeper-end-2 c = omega (arith, free_in c.before)
+slice_bounds-keeper-end-2 c = omega (arith, free_in (goal.at.slice_bounds-keeper-end-2 c).After-free_at-b)

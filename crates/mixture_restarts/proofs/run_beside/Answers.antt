@@ -17,12 +17,12 @@ pub run_at-requires : goal.run_at-requires
 run_at-requires c =
     let a = c.args in record {
       runnable = c.requires;
-      d_in_bounds = free_within a.second (half a.m a.k a.d) (length a.work.now) _ c.requires.halves.work_long (free_from c.before.before);
+      d_in_bounds = free_within a.second (half a.m a.k a.d) (length a.work.now) _ c.requires.halves.work_long (free_from (goal.at.run_at-requires c).After-free_at-a);
     }
 
 pub returns : goal.returns
 returns c =
     let a = c.args in
     run_at_of (run_of a.s a.weights.now a.coords.now a.m a.k a.d a.t) a.work.now c.run_at.new.work
-    c.free_at-a.result (free_at a.second (half a.m a.k a.d)) a.m a.k a.d c.run_at.result (free_from c.before.before.before.before.before.before.before)
+    c.free_at-a.result (free_at a.second (half a.m a.k a.d)) a.m a.k a.d c.run_at.result (free_from (goal.at.returns c).After-free_at-a)
     c.run_at.ensures

@@ -15,13 +15,13 @@ row_in c =
     (omega (arith, row_within a.i a.m a.k c.requires.0, p.rows_long), p.e_long, p.rows_small)
 
 pub overflow_mul-at : goal.overflow_mul-at
-overflow_mul-at c = omega (arith, row_in c.before.before)
+overflow_mul-at c = omega (arith, row_in (goal.at.overflow_mul-at c).Start)
 
 pub overflow_add-at : goal.overflow_add-at
-overflow_add-at c = omega (arith, row_in c.before.before)
+overflow_add-at c = omega (arith, row_in (goal.at.overflow_add-at c).Start)
 
 pub offset_bounds-e-at : goal.offset_bounds-e-at
-offset_bounds-e-at c = omega (arith, row_in c.before.before)
+offset_bounds-e-at c = omega (arith, row_in (goal.at.offset_bounds-e-at c).Start)
 
 -- GONE part_less_log_sum_start : tie.Need-slice-bounds-less-log-sum-start
 -- GONE part_less_log_sum_start c = omega (arith, row_in c.before.before)
@@ -30,10 +30,10 @@ offset_bounds-e-at c = omega (arith, row_in c.before.before)
 -- GONE part_less_log_sum_end c = omega (arith, row_in c.before.before)
 
 pub overflow_add-at-2 : goal.overflow_add-at-2
-overflow_add-at-2 c = omega (arith, row_in c.before.before.before)
+overflow_add-at-2 c = omega (arith, row_in (goal.at.overflow_add-at-2 c).Start)
 
 pub offset_bounds-rows-at : goal.offset_bounds-rows-at
-offset_bounds-rows-at c = omega (arith, row_in c.before.before.before)
+offset_bounds-rows-at c = omega (arith, row_in (goal.at.offset_bounds-rows-at c).Start)
 
 -- GONE part_less_log_sum_start_2 : tie.Need-slice-bounds-less-log-sum-start-2
 -- GONE part_less_log_sum_start_2 c = omega (arith, row_in c.before.before.before)
@@ -44,7 +44,7 @@ offset_bounds-rows-at c = omega (arith, row_in c.before.before.before)
 pub less_log_sum-requires : goal.less_log_sum-requires
 less_log_sum-requires c =
     let a = c.args in
-    let r = row_in c.before.before.before.before in
+    let r = row_in (goal.at.less_log_sum-requires c).Start in
     parts_alike a.e.now a.rows.now (a.i * a.k) a.k (omega arith) r.0
 
 pub returns : goal.returns

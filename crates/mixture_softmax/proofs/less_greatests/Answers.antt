@@ -45,10 +45,10 @@ offset_bounds-e-at c = omega (arith, row_in c)
 -- GONE part_less_greatest_end c = omega (arith, row_in c)
 
 pub overflow_add-at-in-loop-i : goal.overflow_add-at-in-loop-i
-overflow_add-at-in-loop-i c = omega (arith, row_in c.before)
+overflow_add-at-in-loop-i c = omega (arith, row_in (goal.at.overflow_add-at-in-loop-i c).In-loop-i)
 
 pub offset_bounds-rows-at : goal.offset_bounds-rows-at
-offset_bounds-rows-at c = omega (arith, row_in c.before)
+offset_bounds-rows-at c = omega (arith, row_in (goal.at.offset_bounds-rows-at c).In-loop-i)
 
 -- GONE part_less_greatest_start_2 : tie.Need-slice-bounds-less-greatest-start-2 invariant-loop decreases-loop
 -- GONE part_less_greatest_start_2 c = omega (arith, row_in c.before)
@@ -60,7 +60,7 @@ pub less_greatest-requires : goal.less_greatest-requires
 less_greatest-requires c =
     let l = c.loop-i in
     let a = c.args in
-    let r = row_in c.before.before in
+    let r = row_in (goal.at.less_greatest-requires c).In-loop-i in
     parts_alike l.e a.rows.now (l.i * a.k) a.k (omega arith) r.0
 
 pub loop-i-preserved : goal.loop-i-preserved

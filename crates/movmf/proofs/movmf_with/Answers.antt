@@ -21,21 +21,30 @@ found s =
 -- the refusal is the definition's
 refusal_is : (r : After-refusal-code) → let a = r.args in
     r.refusal-code.result ≡ refusal_of a.weights.now a.coords.now a.d a.k a.s
-    (lengths_of (found r.before.before.before.before.before.before.before.before.before.before.before.before) (length a.work.now) (length a.work_u32.now))
-refusal_is r =
+    (lengths_of (found_here) (length a.work.now) (length a.work_u32.now))
+refusal_is r = let found_here : Outputs =
+    let a = r.args in
+    arrays a.labels.now a.responsibilities.now a.group_weights.now a.directions.now a.concentrations.now a.logw.now in
     let a = r.args in
     r.refusal-code.ensures
     ∙ ap (λ (b : Bool). fit_refusal b a.weights.now a.coords.now a.d a.k a.s
-    (lengths_of (found r.before.before.before.before.before.before.before.before.before.before.before.before) (length a.work.now) (length a.work_u32.now))) r.groups_ok-groups.ensures
+    (lengths_of (found_here) (length a.work.now) (length a.work_u32.now))) r.groups_ok-groups.ensures
 
 -- past the refusals all is in range
 fittable_at : (c : Else-code-ne0) → let a = c.args in
     Fittable (length a.weights.now) (length a.coords.now) (length a.weights.now) a.k a.d a.s.rounds
-    (lengths_of (found c.before.before.before.before.before.before.before.before.before.before.before.before.before) (length a.work.now) (length a.work_u32.now))
-fittable_at c =
+    (lengths_of (found_here) (length a.work.now) (length a.work_u32.now))
+fittable_at c = let refusal_is_here : let a = c.args in c.refusal-code.result ≡ refusal_of a.weights.now a.coords.now a.d a.k a.s (lengths_of (found_here) (length a.work.now) (length a.work_u32.now)) =
+    let a = c.args in
+    c.refusal-code.ensures
+    ∙ ap (λ (b : Bool). fit_refusal b a.weights.now a.coords.now a.d a.k a.s
+    (lengths_of (found_here) (length a.work.now) (length a.work_u32.now))) c.groups_ok-groups.ensures in
+    let found_here : Outputs =
+    let a = c.args in
+    arrays a.labels.now a.responsibilities.now a.group_weights.now a.directions.now a.concentrations.now a.logw.now in
     let a = c.args in
     (admitted a.weights.now a.coords.now a.d a.k a.s
-    (lengths_of (found c.before.before.before.before.before.before.before.before.before.before.before.before.before) (length a.work.now) (length a.work_u32.now)) (sym (refusal_is c.before) ∙ c.if-code-ne0.false)).fittable
+    (lengths_of (found_here) (length a.work.now) (length a.work_u32.now)) (sym (refusal_is_here) ∙ c.if-code-ne0.false)).fittable
 
 pub refusal-code-requires : goal.refusal-code-requires
 refusal-code-requires c =
@@ -45,37 +54,37 @@ refusal-code-requires c =
 pub returns-then-code-ne0 : goal.returns-then-code-ne0
 returns-then-code-ne0 c =
     let a = c.args in
-    let e = refused (found c.before.before.before.before.before.before.before.before.before.before.before.before.before) a.weights.now a.coords.now a.d a.k a.s (length a.work.now) (length a.work_u32.now)
-    c.refusal-code.result (refusal_is c.before) c.if-code-ne0.true in record {
+    let e = refused (found (goal.at.returns-then-code-ne0 c).Start) a.weights.now a.coords.now a.d a.k a.s (length a.work.now) (length a.work_u32.now)
+    c.refusal-code.result (refusal_is (goal.at.returns-then-code-ne0 c).After-refusal-code) c.if-code-ne0.true in record {
       logw_after = e;
-      answers_with = number_is (found c.before.before.before.before.before.before.before.before.before.before.before.before.before) a.weights.now a.coords.now a.d a.k a.s (length a.work.now)
+      answers_with = number_is (found (goal.at.returns-then-code-ne0 c).Start) a.weights.now a.coords.now a.d a.k a.s (length a.work.now)
           (length a.work_u32.now) _ _ e;
-      answer_labels_first = first_is (found c.before.before.before.before.before.before.before.before.before.before.before.before.before) a.weights.now a.coords.now a.d a.k a.s (length a.work.now)
+      answer_labels_first = first_is (found (goal.at.returns-then-code-ne0 c).Start) a.weights.now a.coords.now a.d a.k a.s (length a.work.now)
           (length a.work_u32.now) _ _ e;
     }
 
 pub four_runs-r-requires : goal.four_runs-r-requires
-four_runs-r-requires c = (fittable_at c.before.before).runnable
+four_runs-r-requires c = (fittable_at (goal.at.four_runs-r-requires c).Else-code-ne0).runnable
 
 pub fill_outputs-requires : goal.fill_outputs-requires
 fill_outputs-requires c =
     let a = c.args in
     fillable _ (length a.weights.now) (length a.coords.now) (length a.weights.now) a.k a.d a.s.rounds
-    (lengths_of (found c.before.before.before.before.before.before.before.before.before.before.before.before.before.before.before.before.before.before.before.before.before.before.before.before.before.before) (length a.work.now) (length a.work_u32.now)) c.four_runs-r.auto.work (fittable_at c.before.before.before.before.before.before.before.before.before.before.before.before.before)
+    (lengths_of (found (goal.at.fill_outputs-requires c).Start) (length a.work.now) (length a.work_u32.now)) c.four_runs-r.auto.work (fittable_at (goal.at.fill_outputs-requires c).Else-code-ne0)
 
 pub returns : goal.returns
 returns c =
     let a = c.args in
     let l = c.kept_loglik-loglik in
     let x = c.fill_outputs.new in
-    let d = done (found c.before.before.before.before.before.before.before.before.before.before.before.before.before.before.before.before.before.before.before.before.before.before.before.before.before.before.before.before.before.before.before.before.before.before.before.before.before.before.before.before.before) a.weights.now a.coords.now a.d a.k a.s (length a.work.now) (length a.work_u32.now)
-    c.refusal-code.result (refusal_is c.before.before.before.before.before.before.before.before.before.before.before.before.before.before.before.before.before.before.before.before.before.before.before.before.before.before.before.before.before) c.if-code-ne0.false c.four_runs-r.new.work c.four_runs-r.result l.result
+    let d = done (found (goal.at.returns c).Start) a.weights.now a.coords.now a.d a.k a.s (length a.work.now) (length a.work_u32.now)
+    c.refusal-code.result (refusal_is (goal.at.returns c).After-refusal-code) c.if-code-ne0.false c.four_runs-r.new.work c.four_runs-r.result l.result
     (arrays x.0 x.1.0 x.1.1.0 x.1.1.1.0 x.1.1.1.1.0 x.1.1.1.1.1.0) c.four_runs-r.ensures l.ensures
     c.fill_outputs.ensures in record {
       logw_after = d;
-      answers_with = number_is (found c.before.before.before.before.before.before.before.before.before.before.before.before.before.before.before.before.before.before.before.before.before.before.before.before.before.before.before.before.before.before.before.before.before.before.before.before.before.before.before.before.before) a.weights.now a.coords.now a.d a.k a.s (length a.work.now)
+      answers_with = number_is (found (goal.at.returns c).Start) a.weights.now a.coords.now a.d a.k a.s (length a.work.now)
           (length a.work_u32.now) _ _ d;
-      answer_labels_first = first_is (found c.before.before.before.before.before.before.before.before.before.before.before.before.before.before.before.before.before.before.before.before.before.before.before.before.before.before.before.before.before.before.before.before.before.before.before.before.before.before.before.before.before) a.weights.now a.coords.now a.d a.k a.s (length a.work.now)
+      answer_labels_first = first_is (found (goal.at.returns c).Start) a.weights.now a.coords.now a.d a.k a.s (length a.work.now)
           (length a.work_u32.now) _ _ d;
     }
 

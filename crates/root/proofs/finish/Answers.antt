@@ -19,7 +19,7 @@ compose-requires-else-y-s c =
     (n.first, n.last, o.scaled.high)
 
 pub returns-then-y-s : goal.returns-then-y-s
-returns-then-y-s c = c.compose.ensures ∙ root_is x o.scaled (ended_up o (omega (arith, c.if-y-s.true)))
+returns-then-y-s c x o = c.compose.ensures ∙ root_is x o.scaled (ended_up o (omega (arith, c.if-y-s.true)))
 
 pub returns-else-y-s : goal.returns-else-y-s
-returns-else-y-s c = c.compose-else-y-s.ensures ∙ root_is x o.scaled (ended_down o (omega (arith, c.if-y-s.false)))
+returns-else-y-s c x o = c.compose-else-y-s.ensures ∙ root_is x o.scaled (ended_down o (omega (arith, c.if-y-s.false)))

@@ -3,7 +3,7 @@
 use mathlib.Core.Path.{◌≡◌, sym, ◌∙◌}
 use mathlib.Core.Bool.{true}
 use lib.ListN.{length}
-use borrow.Author.Tests.{le-leb, lt-leb, not-true, not-false}
+use borrow.Author.Tests.{le-leb, lt-leb}
 use Rattle.limits.specs.Limits.{sizes_ok, groups_ok, rounds_ok, most_rounds, most_restarts}
 use Rattle.limits.proofs.Limits.{sizes_met, groups_met}
 use Rattle.spherical.specs.Refusals.{restarts_ok, refusal_of}
@@ -11,10 +11,10 @@ use Rattle.spherical.proofs.refusal.Goals.{Else-not-groups_ok, Else-not-sizes_ok
 use Rattle.spherical.proofs.refusal.Goals as goal
 
 sizes_passed : (c : Else-not-sizes_ok) → let a = c.args in sizes_ok (length a.weights.now) a.d (length a.coords.now) ≡ true
-sizes_passed c = sym c.sizes_ok.ensures ∙ not-false _ c.if-not-sizes_ok.false
+sizes_passed c = sym c.sizes_ok.ensures ∙ c.if-not-sizes_ok.false
 
 groups_passed : (c : Else-not-groups_ok) → let a = c.args in groups_ok a.k (length a.weights.now) ≡ true
-groups_passed c = sym c.groups_ok.ensures ∙ not-false _ c.if-not-groups_ok.false
+groups_passed c = sym c.groups_ok.ensures ∙ c.if-not-groups_ok.false
 
 rounds_passed : (c : Else-rounds-gt-MOST_ROUNDS) → rounds_ok c.args.rounds ≡ true
 rounds_passed c = le-leb _ most_rounds c.if-rounds-gt-MOST_ROUNDS.false
@@ -24,45 +24,45 @@ restarts_passed c = le-leb _ most_restarts c.if-restarts-gt-MOST_RESTARTS.false
 
 pub returns-then-not-sizes_ok : goal.returns-then-not-sizes_ok
 unfolding refusal_of
-returns-then-not-sizes_ok c = rw (sym c.sizes_ok.ensures ∙ not-true _ c.if-not-sizes_ok.true)
+returns-then-not-sizes_ok c = rw (sym c.sizes_ok.ensures ∙ c.if-not-sizes_ok.true)
 
 pub returns-then-not-groups_ok : goal.returns-then-not-groups_ok
 unfolding refusal_of
-returns-then-not-groups_ok c = rw (sizes_passed c.before.before, sym c.groups_ok.ensures ∙ not-true _ c.if-not-groups_ok.true)
+returns-then-not-groups_ok c = rw (sizes_passed (goal.at.returns-then-not-groups_ok c).Else-not-sizes_ok, sym c.groups_ok.ensures ∙ c.if-not-groups_ok.true)
 
 pub returns-then-rounds-gt-MOST_ROUNDS : goal.returns-then-rounds-gt-MOST_ROUNDS
 unfolding refusal_of
-returns-then-rounds-gt-MOST_ROUNDS c = rw (sizes_passed c.before.before.before, groups_passed c.before, lt-leb _ most_rounds c.if-rounds-gt-MOST_ROUNDS.true)
+returns-then-rounds-gt-MOST_ROUNDS c = rw (sizes_passed (goal.at.returns-then-rounds-gt-MOST_ROUNDS c).Else-not-sizes_ok, groups_passed (goal.at.returns-then-rounds-gt-MOST_ROUNDS c).Else-not-groups_ok, lt-leb _ most_rounds c.if-rounds-gt-MOST_ROUNDS.true)
 
 pub returns-then-restarts-gt-MOST_RESTARTS : goal.returns-then-restarts-gt-MOST_RESTARTS
 unfolding refusal_of
 returns-then-restarts-gt-MOST_RESTARTS c =
-    rw (sizes_passed c.before.before.before.before, groups_passed c.before.before, rounds_passed c.before, lt-leb _ most_restarts c.if-restarts-gt-MOST_RESTARTS.true)
+    rw (sizes_passed (goal.at.returns-then-restarts-gt-MOST_RESTARTS c).Else-not-sizes_ok, groups_passed (goal.at.returns-then-restarts-gt-MOST_RESTARTS c).Else-not-groups_ok, rounds_passed (goal.at.returns-then-restarts-gt-MOST_RESTARTS c).Else-rounds-gt-MOST_ROUNDS, lt-leb _ most_restarts c.if-restarts-gt-MOST_RESTARTS.true)
 
 pub arrays_ok-requires : goal.arrays_ok-requires
 arrays_ok-requires c =
     let a = c.args in
-    let s = sizes_met (length a.weights.now) a.d (length a.coords.now) (sizes_passed c.before.before.before.before) in
-    (s.1, (groups_met a.k (length a.weights.now) (groups_passed c.before.before)).1, s.3)
+    let s = sizes_met (length a.weights.now) a.d (length a.coords.now) (sizes_passed (goal.at.arrays_ok-requires c).Else-not-sizes_ok) in
+    (s.1, (groups_met a.k (length a.weights.now) (groups_passed (goal.at.arrays_ok-requires c).Else-not-groups_ok)).1, s.3)
 
 pub returns-then-not-arrays_ok : goal.returns-then-not-arrays_ok
 unfolding refusal_of
 returns-then-not-arrays_ok c =
     rw (
-      sizes_passed c.before.before.before.before.before.before,
-      groups_passed c.before.before.before.before,
-      rounds_passed c.before.before.before,
-      restarts_passed c.before.before,
-      sym c.arrays_ok.ensures ∙ not-true _ c.if-not-arrays_ok.true,
+      sizes_passed (goal.at.returns-then-not-arrays_ok c).Else-not-sizes_ok,
+      groups_passed (goal.at.returns-then-not-arrays_ok c).Else-not-groups_ok,
+      rounds_passed (goal.at.returns-then-not-arrays_ok c).Else-rounds-gt-MOST_ROUNDS,
+      restarts_passed (goal.at.returns-then-not-arrays_ok c).Else-restarts-gt-MOST_RESTARTS,
+      sym c.arrays_ok.ensures ∙ c.if-not-arrays_ok.true,
     )
 
 pub returns : goal.returns
 unfolding refusal_of
 returns c =
     rw (
-      sizes_passed c.before.before.before.before.before.before.before,
-      groups_passed c.before.before.before.before.before,
-      rounds_passed c.before.before.before.before,
-      restarts_passed c.before.before.before,
-      sym c.arrays_ok.ensures ∙ not-false _ c.if-not-arrays_ok.false,
+      sizes_passed (goal.at.returns c).Else-not-sizes_ok,
+      groups_passed (goal.at.returns c).Else-not-groups_ok,
+      rounds_passed (goal.at.returns c).Else-rounds-gt-MOST_ROUNDS,
+      restarts_passed (goal.at.returns c).Else-restarts-gt-MOST_RESTARTS,
+      sym c.arrays_ok.ensures ∙ c.if-not-arrays_ok.false,
     ) c.leaves_refusal.ensures

@@ -33,7 +33,7 @@ returns-then-code-ne0 c =
 pub run_all-h-requires : goal.run_all-h-requires
 run_all-h-requires c =
     let a = c.args in
-    let r = ready_at c.before.before in record {
+    let r = ready_at (goal.at.run_all-h-requires c).Else-code-ne0 in record {
       runnable = entry_runnable a.weights.now a.coords.now a.d a.k a.rounds a.restarts (length a.labels.now)
           (length a.directions.now) (length a.work.now) (length a.work_u32.now) r;
       restarts_le_most_restarts = r.restarts_small;
@@ -45,7 +45,7 @@ fill_outputs-requires c =
     fillable_of (length a.labels.now) (length a.directions.now) (length a.work.now) _ (length a.work_u32.now) _
     (length a.weights.now) a.k a.d c.run_all-h.auto.work c.run_all-h.auto.work_u32
     (entry_fillable a.weights.now a.coords.now a.d a.k a.rounds a.restarts (length a.labels.now)
-    (length a.directions.now) (length a.work.now) (length a.work_u32.now) (ready_at c.before.before.before.before.before.before.before.before.before.before))
+    (length a.directions.now) (length a.work.now) (length a.work_u32.now) (ready_at (goal.at.fill_outputs-requires c).Else-code-ne0))
 
 pub returns : goal.returns
 returns c =

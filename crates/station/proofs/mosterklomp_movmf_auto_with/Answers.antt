@@ -4,7 +4,6 @@ use mathlib.Core.Path.{◌≡◌, refl, sym, ◌∙◌}
 use mathlib.Core.Bool.{true, true≢false}
 use native.Mathlib.Omega.{arith}
 use lib.ListN.{length}
-use borrow.Author.Tests.{not-true, not-false}
 use Rattle.mixture_kappa.specs.declared.Kappa.{Kappa}
 use Rattle.mixture_outputs.specs.Outputs.{Outputs, arrays}
 use Rattle.mixture_outputs.specs.Labels.{LabelsFirst}
@@ -37,8 +36,8 @@ call s z =
 
 pub returns-then-not-kind_ok : goal.returns-then-not-kind_ok
 returns-then-not-kind_ok c =
-    let none = sym c.kind_ok.ensures ∙ not-true _ c.if-not-kind_ok.true in record {
-      fact = chosen_none (lent c.before.before.before.before.before.before.before.before.before.before.before.before) _ (found c.before.before.before.before.before.before.before.before.before.before.before.before) (call c.before.before.before.before.before.before.before.before.before.before.before.before) c.args.kappa none refl;
+    let none = sym c.kind_ok.ensures ∙ c.if-not-kind_ok.true in record {
+      fact = chosen_none (lent (goal.at.returns-then-not-kind_ok c).Start) _ (found (goal.at.returns-then-not-kind_ok c).Start) (call (goal.at.returns-then-not-kind_ok c).Start) c.args.kappa none refl;
       keeps_best = λ t. absurd (true≢false (sym t ∙ none));
       labels_first = λ z. absurd (omega (arith, z));
     }
@@ -48,15 +47,15 @@ returns c =
     let a = c.args in
     let f = c.movmf_auto_with-a in
     let o = arrays c.movmf_auto_with-a.new.labels c.movmf_auto_with-a.new.responsibilities c.movmf_auto_with-a.new.group_weights c.movmf_auto_with-a.new.directions c.movmf_auto_with-a.new.concentrations c.movmf_auto_with-a.new.logw in
-    let known : kind_ok a.kappa ≡ true = sym c.kind_ok.ensures ∙ not-false _ c.if-not-kind_ok.false in record {
-      fact = chosen_call (lent c.before.before.before.before.before.before.before.before.before.before.before.before.before.before.before.before.before.before.before.before.before.before.before.before.before.before.before.before.before.before.before.before.before.before.before.before.before.before.before.before.before.before.before) _ (found c.before.before.before.before.before.before.before.before.before.before.before.before.before.before.before.before.before.before.before.before.before.before.before.before.before.before.before.before.before.before.before.before.before.before.before.before.before.before.before.before.before.before.before) (call c.before.before.before.before.before.before.before.before.before.before.before.before.before.before.before.before.before.before.before.before.before.before.before.before.before.before.before.before.before.before.before.before.before.before.before.before.before.before.before.before.before.before.before) a.kappa f.result o c.kappa_of-kappa.result known c.kappa_of-kappa.ensures
+    let known : kind_ok a.kappa ≡ true = sym c.kind_ok.ensures ∙ c.if-not-kind_ok.false in record {
+      fact = chosen_call (lent (goal.at.returns c).Start) _ (found (goal.at.returns c).Start) (call (goal.at.returns c).Start) a.kappa f.result o c.kappa_of-kappa.result known c.kappa_of-kappa.ensures
           f.ensures.logw_after c.give_chosen.ensures;
       keeps_best = λ _. given
-          (λ (z : Kappa) (n : Numbers). KeepsBest (found c.before.before.before.before.before.before.before.before.before.before.before.before.before.before.before.before.before.before.before.before.before.before.before.before.before.before.before.before.before.before.before.before.before.before.before.before.before.before.before.before.before.before.before) a.weights.now a.coords.now a.d (settings c.before.before.before.before.before.before.before.before.before.before.before.before.before.before.before.before.before.before.before.before.before.before.before.before.before.before.before.before.before.before.before.before.before.before.before.before.before.before.before.before.before.before.before z) a.k_min a.k_max
+          (λ (z : Kappa) (n : Numbers). KeepsBest (found (goal.at.returns c).Start) a.weights.now a.coords.now a.d (settings (goal.at.returns c).Start z) a.k_min a.k_max
           (length a.work.now) (length a.work_u32.now) n o) _ _ c.kappa_of-kappa.result (kappa_of a.kappa) c.kappa_of-kappa.ensures
-          c.give_chosen.ensures (f.ensures.answer_keeps_best (lent c.before.before.before.before.before.before.before.before.before.before.before.before.before.before.before.before.before.before.before.before.before.before.before.before.before.before.before.before.before.before.before.before.before.before.before.before.before.before.before.before.before.before.before));
+          c.give_chosen.ensures (f.ensures.answer_keeps_best (lent (goal.at.returns c).Start));
       labels_first = given (λ (z : Kappa) (n : Numbers). LabelsFirst (length a.weights.now) n.refusal n.groups o) _ _
-          c.kappa_of-kappa.result (kappa_of a.kappa) c.kappa_of-kappa.ensures c.give_chosen.ensures (f.ensures.answer_labels_first (lent c.before.before.before.before.before.before.before.before.before.before.before.before.before.before.before.before.before.before.before.before.before.before.before.before.before.before.before.before.before.before.before.before.before.before.before.before.before.before.before.before.before.before.before));
+          c.kappa_of-kappa.result (kappa_of a.kappa) c.kappa_of-kappa.ensures c.give_chosen.ensures (f.ensures.answer_labels_first (lent (goal.at.returns c).Start));
     }
 
 pub shape_of-labels : goal.shape_of-labels

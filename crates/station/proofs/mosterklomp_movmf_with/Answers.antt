@@ -4,7 +4,6 @@ use mathlib.Core.Path.{◌≡◌, refl, sym, ◌∙◌}
 use mathlib.Core.Bool.{true}
 use native.Mathlib.Omega.{arith}
 use lib.ListN.{length}
-use borrow.Author.Tests.{not-true, not-false}
 use Rattle.mixture_kappa.specs.declared.Kappa.{Kappa}
 use Rattle.mixture_outputs.specs.Outputs.{Outputs, arrays}
 use Rattle.mixture_outputs.specs.Labels.{LabelsFirst}
@@ -32,7 +31,7 @@ call s z =
 
 pub returns-then-not-kind_ok : goal.returns-then-not-kind_ok
 returns-then-not-kind_ok c = record {
-  fact = fitted_none (lent c.before.before.before.before.before.before.before.before.before.before.before.before) _ (found c.before.before.before.before.before.before.before.before.before.before.before.before) (call c.before.before.before.before.before.before.before.before.before.before.before.before) c.args.kappa (sym c.kind_ok.ensures ∙ not-true _ c.if-not-kind_ok.true) refl;
+  fact = fitted_none (lent (goal.at.returns-then-not-kind_ok c).Start) _ (found (goal.at.returns-then-not-kind_ok c).Start) (call (goal.at.returns-then-not-kind_ok c).Start) c.args.kappa (sym c.kind_ok.ensures ∙ c.if-not-kind_ok.true) refl;
   labels_first = λ z. absurd (omega (arith, z));
 }
 
@@ -40,11 +39,11 @@ pub returns : goal.returns
 returns c =
     let f = c.movmf_with-a in
     let o = arrays c.movmf_with-a.new.labels c.movmf_with-a.new.responsibilities c.movmf_with-a.new.group_weights c.movmf_with-a.new.directions c.movmf_with-a.new.concentrations c.movmf_with-a.new.logw in
-    let known : kind_ok c.args.kappa ≡ true = sym c.kind_ok.ensures ∙ not-false _ c.if-not-kind_ok.false in record {
-      fact = fitted_call (lent c.before.before.before.before.before.before.before.before.before.before.before.before.before.before.before.before.before.before.before.before.before.before.before.before.before.before.before.before.before.before.before.before.before.before.before.before.before.before.before.before.before.before) _ (found c.before.before.before.before.before.before.before.before.before.before.before.before.before.before.before.before.before.before.before.before.before.before.before.before.before.before.before.before.before.before.before.before.before.before.before.before.before.before.before.before.before.before) (call c.before.before.before.before.before.before.before.before.before.before.before.before.before.before.before.before.before.before.before.before.before.before.before.before.before.before.before.before.before.before.before.before.before.before.before.before.before.before.before.before.before.before) c.args.kappa f.result o c.kappa_of-kappa.result known c.kappa_of-kappa.ensures
+    let known : kind_ok c.args.kappa ≡ true = sym c.kind_ok.ensures ∙ c.if-not-kind_ok.false in record {
+      fact = fitted_call (lent (goal.at.returns c).Start) _ (found (goal.at.returns c).Start) (call (goal.at.returns c).Start) c.args.kappa f.result o c.kappa_of-kappa.result known c.kappa_of-kappa.ensures
           f.ensures.logw_after c.give_fitted.ensures;
       labels_first = given (λ (z : Kappa) (n : Numbers). LabelsFirst (length c.args.weights.now) n.refusal n.groups o) _ _
-          c.kappa_of-kappa.result (kappa_of c.args.kappa) c.kappa_of-kappa.ensures c.give_fitted.ensures (f.ensures.answer_labels_first (lent c.before.before.before.before.before.before.before.before.before.before.before.before.before.before.before.before.before.before.before.before.before.before.before.before.before.before.before.before.before.before.before.before.before.before.before.before.before.before.before.before.before.before));
+          c.kappa_of-kappa.result (kappa_of c.args.kappa) c.kappa_of-kappa.ensures c.give_fitted.ensures (f.ensures.answer_labels_first (lent (goal.at.returns c).Start));
     }
 
 pub shape_of-labels : goal.shape_of-labels

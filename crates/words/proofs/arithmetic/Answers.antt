@@ -23,22 +23,22 @@ pub returns-then-kind-eq1 : goal.returns-then-kind-eq1
 returns-then-kind-eq1 c = rw (eq-eqb _ _ c.if-kind-eq1.true) c.root.ensures
 
 pub returns-then-kind-eq2 : goal.returns-then-kind-eq2
-returns-then-kind-eq2 c = rw (not_1 c.before.before, eq-eqb _ _ c.if-kind-eq2.true) c.exp.ensures
+returns-then-kind-eq2 c = rw (not_1 (goal.at.returns-then-kind-eq2 c).Else-kind-eq1, eq-eqb _ _ c.if-kind-eq2.true) c.exp.ensures
 
 pub returns-then-kind-eq3 : goal.returns-then-kind-eq3
 returns-then-kind-eq3 c =
-    rw (not_1 c.before.before.before, not_2 c.before.before, eq-eqb _ _ c.if-kind-eq3.true) c.ln.ensures
+    rw (not_1 (goal.at.returns-then-kind-eq3 c).Else-kind-eq1, not_2 (goal.at.returns-then-kind-eq3 c).Else-kind-eq2, eq-eqb _ _ c.if-kind-eq3.true) c.ln.ensures
 
 pub returns-then-kind-eq4 : goal.returns-then-kind-eq4
 returns-then-kind-eq4 c =
-    rw (not_1 c.before.before.before.before, not_2 c.before.before.before, not_3 c.before.before, eq-eqb _ _ c.if-kind-eq4.true) c.max.ensures
+    rw (not_1 (goal.at.returns-then-kind-eq4 c).Else-kind-eq1, not_2 (goal.at.returns-then-kind-eq4 c).Else-kind-eq2, not_3 (goal.at.returns-then-kind-eq4 c).Else-kind-eq3, eq-eqb _ _ c.if-kind-eq4.true) c.max.ensures
 
 pub returns-then-kind-eq5 : goal.returns-then-kind-eq5
 returns-then-kind-eq5 c =
-    rw (not_1 c.before.before.before.before.before, not_2 c.before.before.before.before, not_3 c.before.before.before, not_4 c.before.before, eq-eqb _ _ c.if-kind-eq5.true)
+    rw (not_1 (goal.at.returns-then-kind-eq5 c).Else-kind-eq1, not_2 (goal.at.returns-then-kind-eq5 c).Else-kind-eq2, not_3 (goal.at.returns-then-kind-eq5 c).Else-kind-eq3, not_4 (goal.at.returns-then-kind-eq5 c).Else-kind-eq4, eq-eqb _ _ c.if-kind-eq5.true)
     c.clamp.ensures
 
 pub returns : goal.returns
 returns c =
-    rw (not_1 c.before.before.before.before.before, not_2 c.before.before.before.before, not_3 c.before.before.before, not_4 c.before.before, ne_eqb _ _ c.if-kind-eq5.false)
+    rw (not_1 (goal.at.returns c).Else-kind-eq1, not_2 (goal.at.returns c).Else-kind-eq2, not_3 (goal.at.returns c).Else-kind-eq3, not_4 (goal.at.returns c).Else-kind-eq4, ne_eqb _ _ c.if-kind-eq5.false)
     c.abs.ensures

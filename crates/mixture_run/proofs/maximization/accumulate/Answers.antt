@@ -31,13 +31,13 @@ pub loop-i-init : goal.loop-i-init
 loop-i-init c =
     let a = c.args in
     let p = parts_in a.m a.k a.d in
-    (omega arith, refl, leaves_start a.weights.now a.coords.now a.k a.d (p a.work.now) (p (begun c.before.before)) (cleared_at c.before.before))
+    (omega arith, refl, leaves_start a.weights.now a.coords.now a.k a.d (p a.work.now) (p (begun (goal.at.loop-i-init c).After-fill_at-2)) (cleared_at (goal.at.loop-i-init c).After-fill_at-2))
 
 pub accumulate_leaf-requires : goal.accumulate_leaf-requires
 accumulate_leaf-requires c =
     let l = c.loop-i in
     let a = c.args in record {
-      area = area_of _ _ a.m a.k a.d (l.invariant.1 ∙ same_at c.before.before.before.before.before) c.requires.area;
+      area = area_of _ _ a.m a.k a.d (l.invariant.1 ∙ same_at (goal.at.accumulate_leaf-requires c).After-fill_at-2) c.requires.area;
       leaves = (c.requires.leaves, leaf_of l.i a.m a.k a.d c.loop-i-test.true);
     }
 
@@ -48,17 +48,17 @@ loop-i-preserved c =
     let p = parts_in a.m a.k a.d in (
       omega (arith, c.loop-i-test.true),
       c.accumulate_leaf.auto.work ∙ l.invariant.1,
-      leaves_turn a.weights.now a.coords.now a.k a.d (p (begun c.before.before.before.before.before.before.before.before)) (p l.work) (p c.accumulate_leaf.new.work) l.i
+      leaves_turn a.weights.now a.coords.now a.k a.d (p (begun (goal.at.loop-i-preserved c).After-fill_at-2)) (p l.work) (p c.accumulate_leaf.new.work) l.i
           l.invariant.2 c.accumulate_leaf.ensures,
     )
 
 pub shape_of-work : goal.shape_of-work
-shape_of-work c = c.loop-i.invariant.1 ∙ same_at c.before.before.before.before
+shape_of-work c = c.loop-i.invariant.1 ∙ same_at (goal.at.shape_of-work c).After-fill_at-2
 
 pub returns : goal.returns
 returns c =
     let l = c.loop-i in
     let a = c.args in
     let p = parts_in a.m a.k a.d in
-    leaves_end a.weights.now a.coords.now a.k a.d (p a.work.now) (p (begun c.before.before.before.before)) (cleared_at c.before.before.before.before) (p l.work) l.i a.m
+    leaves_end a.weights.now a.coords.now a.k a.d (p a.work.now) (p (begun (goal.at.returns c).After-fill_at-2)) (cleared_at (goal.at.returns c).After-fill_at-2) (p l.work) l.i a.m
     (omega (arith, c.loop-i-test.false)) l.invariant.2

@@ -22,15 +22,15 @@ loop-c-init c =
     (omega arith, refl, directions_start a.d (parts_in a.m a.k a.d a.work.now))
 
 pub overflow_mul-to : goal.overflow_mul-to
-overflow_mul-to c = search (row_of_law c.before.before, rules)
+overflow_mul-to c = search (row_of_law (goal.at.overflow_mul-to c).In-loop-c, rules)
 
 pub overflow_add-sums : goal.overflow_add-sums
-overflow_add-sums c = search (row_of_law c.before.before.before, rules)
+overflow_add-sums c = search (row_of_law (goal.at.overflow_add-sums c).In-loop-c, rules)
 
 pub divide_within-requires : goal.divide_within-requires
 divide_within-requires c =
     let l = c.loop-c in
-    let r = row_of_law c.before.before.before in
+    let r = row_of_law (goal.at.divide_within-requires c).In-loop-c in
     record { order = omega (arith, r); within = omega (arith, r, l.invariant.1, c.requires.area.work_long) }
 
 pub loop-c-preserved : goal.loop-c-preserved

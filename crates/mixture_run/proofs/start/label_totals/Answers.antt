@@ -35,26 +35,26 @@ loop-i-init c =
       search rules,
       refl,
       totals_start a.m a.k a.d _ a.weights.now a.work_u32.now a.work.now
-          (cleared c.before.before),
+          (cleared (goal.at.loop-i-init c).After-fill_at),
     )
 
 pub overflow_cast-at : goal.overflow_cast-at
-overflow_cast-at c = search (label_of c.before, rules)
+overflow_cast-at c = search (label_of (goal.at.overflow_cast-at c).In-loop-i, rules)
 
 pub overflow_add-at : goal.overflow_add-at
-overflow_add-at c = search (label_of c.before, rules)
+overflow_add-at c = search (label_of (goal.at.overflow_add-at c).In-loop-i, rules)
 
 pub offset_bounds-work-at : goal.offset_bounds-work-at
-offset_bounds-work-at c = search (label_of c.before, rules)
+offset_bounds-work-at c = search (label_of (goal.at.offset_bounds-work-at c).In-loop-i, rules)
 
 pub bounds-work-at : goal.bounds-work-at
-bounds-work-at c = search (label_of c.before.before, rules)
+bounds-work-at c = search (label_of (goal.at.bounds-work-at c).In-loop-i, rules)
 
 pub offset_bounds-work-at-in-loop-i : goal.offset_bounds-work-at-in-loop-i
-offset_bounds-work-at-in-loop-i c = search (label_of c.before.before.before, rules)
+offset_bounds-work-at-in-loop-i c = search (label_of (goal.at.offset_bounds-work-at-in-loop-i c).In-loop-i, rules)
 
 pub bounds-work-at-in-loop-i : goal.bounds-work-at-in-loop-i
-bounds-work-at-in-loop-i c = search (label_of c.before.before.before, rules)
+bounds-work-at-in-loop-i c = search (label_of (goal.at.bounds-work-at-in-loop-i c).In-loop-i, rules)
 
 pub loop-i-preserved : goal.loop-i-preserved
 loop-i-preserved c =
@@ -63,7 +63,7 @@ loop-i-preserved c =
       omega arith,
       search rules,
       totals_turn a.m a.k a.d _ a.weights.now a.work_u32.now l.work _ l.i
-          (omega (arith, c.totals_at-totals.ensures)) (omega arith) (label_of c.before.before.before) l.invariant.2,
+          (omega (arith, c.totals_at-totals.ensures)) (omega arith) (label_of (goal.at.loop-i-preserved c).In-loop-i) l.invariant.2,
     )
 
 pub returns : goal.returns
@@ -71,4 +71,4 @@ returns c =
     let l = c.loop-i in
     let a = c.args in
     totals_end a.m a.k a.d _ a.weights.now a.work_u32.now a.work.now l.work l.i (omega arith)
-    (cleared c.before.before.before.before) l.invariant.2
+    (cleared (goal.at.returns c).After-fill_at) l.invariant.2
