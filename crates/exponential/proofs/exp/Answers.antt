@@ -3,6 +3,7 @@ use mathlib.Core.Path.{◌∙◌}
 use lib.Ieee.{of_bits, of_int, div}
 use Rattle.float.proofs.Tests.{is_number}
 use Rattle.exponential.proofs.Exponential.{by_nan, by_high, by_low, by_inner, is_low_law, low_inner, is_inside, inside_inner}
+use Rattle.exponential.proofs.exp.Goals.{Else-x-3, Else-x-4}
 use Rattle.exponential.proofs.exp.Goals as goal
 
 pub returns-then-x : goal.returns-then-x

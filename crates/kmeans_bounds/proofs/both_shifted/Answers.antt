@@ -15,7 +15,7 @@ returns c =
     let x = c.args in
     let t = neither _ _ c.if-l-p.false in
     let low =
-    lower_within x.b.low x.own_val c.clamp-l.result c.clamp-p.result
+    lower_within x.b.low x.own c.clamp-l.result c.clamp-p.result
     c.clamp-l.ensures c.clamp-p.ensures
     r.result.a (r.ensures.0 ∙ ap root_of c.squares.ensures) t.0 in
     let high =

@@ -32,22 +32,19 @@ module _ (b : Bounds) (own other l p u q : Float) (el : l ≡ cosine b.low) (ep 
 
 pub returns-then-l-p : goal.returns-then-l-p
 unfolding of_bits of_int
-returns-then-l-p c = let both =
-    let x = c.args in
-    near x.b x.own_val x.other _ _ _ _ c.clamp-l.ensures c.clamp-p.ensures
+returns-then-l-p c =
+    let x = c.args in let both = near x.b x.own x.other _ _ _ _ c.clamp-l.ensures c.clamp-p.ensures
     c.clamp-u.ensures c.clamp-q.ensures c.if-l-p.true in record { value = both.0; never_skipped = both.1 }
 
 pub returns-then-l-p-2 : goal.returns-then-l-p-2
 unfolding of_bits of_int
-returns-then-l-p-2 c = let both =
-    let x = c.args in
-    past x.b x.own_val x.other _ _ _ _ c.clamp-l.ensures c.clamp-p.ensures
+returns-then-l-p-2 c =
+    let x = c.args in let both = past x.b x.own x.other _ _ _ _ c.clamp-l.ensures c.clamp-p.ensures
     c.clamp-u.ensures c.clamp-q.ensures c.if-l-p.false c.if-l-p-2.true in record { value = both.0; never_skipped = both.1 }
 
 pub returns : goal.returns
 unfolding of_bits of_int
-returns c = let both =
-    let x = c.args in
-    close_or_not x.b x.own_val x.other _ _ _ _ c.clamp-l.ensures c.clamp-p.ensures
+returns c =
+    let x = c.args in let both = close_or_not x.b x.own x.other _ _ _ _ c.clamp-l.ensures c.clamp-p.ensures
     c.clamp-u.ensures c.clamp-q.ensures _ _ _ c.if-l-p.false c.if-l-p-2.false c.squares.ensures
     c.squares-2.ensures c.is_close.ensures in record { value = both.0; never_skipped = both.1 }

@@ -41,11 +41,10 @@ slice_bounds-fit_leaves-end-4 c =
     ∙ tabulate_length g (a.m * a.d))
 
 pub returns : goal.returns
-returns c = let both =
+returns c =
     let a = c.args in
     let f : ℕ → Float = λ (i : ℕ). f64_at a.bytes.now (8 + 8 * i) in
-    let g : ℕ → Float = λ (i : ℕ). f64_at a.bytes.now (8 + 8 * a.m + 8 * i) in
-    fit_read a.bytes.now a.m a.d a.labels.now _ _ _
+    let g : ℕ → Float = λ (i : ℕ). f64_at a.bytes.now (8 + 8 * a.m + 8 * i) in let both = fit_read a.bytes.now a.m a.d a.labels.now _ _ _
     (front_read f a.weights.now _ a.m c.requires.leaves c.load.ensures)
     (front_read g a.coords.now _ (a.m * a.d) c.requires.numbers c.load-2.ensures)
     c.fit_leaves.ensures in record { fact = both.0; leaves_keep_best = both.1 }

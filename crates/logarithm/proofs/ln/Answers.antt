@@ -3,6 +3,7 @@ use mathlib.Core.Path.{◌∙◌}
 use lib.Ieee.{of_bits, div, neg}
 use Rattle.float.proofs.Tests.{is_positive}
 use Rattle.logarithm.proofs.Logarithm.{of_zero, of_negative, of_positive, of_endless}
+use Rattle.logarithm.proofs.ln.Goals.{Then-x-3}
 use Rattle.logarithm.proofs.ln.Goals as goal
 
 pub returns-then-x : goal.returns-then-x
