@@ -47,10 +47,10 @@ fit_of_k-t-requires c =
     let m = length a.weights.now in
     let n = length a.coords.now in
     let v = fittable_below m n m a.hi l.k a.d a.s.rounds
-    (lengths_of (found (goal.at.fit_of_k-t-requires c).Start) (length a.work.now) (length a.work_u32.now)) (omega (arith, l.inv.0, c.requires.le_lo.0)) most c.requires.fittable in record {
-      fittable = fittable_of m n m l.k a.d a.s.rounds _ _ l.inv.2 v;
+    (lengths_of (found (goal.at.fit_of_k-t-requires c).Start) (length a.work.now) (length a.work_u32.now)) (omega (arith, l.invariant.0, c.requires.le_lo.0)) most c.requires.fittable in record {
+      fittable = fittable_of m n m l.k a.d a.s.rounds _ _ l.invariant.2 v;
       at_most = (
-        at_most_more (omega (arith, most, c.requires.le_lo.0, c.requires.fittable.runnable.halves.sizes.k_small)) l.inv.5,
+        at_most_more (omega (arith, most, c.requires.le_lo.0, c.requires.fittable.runnable.halves.sizes.k_small)) l.invariant.5,
         c.requires.le_lo.2,
       );
     }
@@ -72,15 +72,15 @@ loop-k-preserved c =
     let x = a.coords.now in
     let o = arrays l.labels l.responsibilities l.group_weights l.directions l.concentrations l.logw in
     let o' = arrays c.fit_of_k-t.new.labels c.fit_of_k-t.new.responsibilities c.fit_of_k-t.new.group_weights c.fit_of_k-t.new.directions c.fit_of_k-t.new.concentrations c.fit_of_k-t.new.logw in (
-      omega (arith, l.inv.0),
+      omega (arith, l.invariant.0),
       omega (arith, most),
       lengths_of_law o o' (length l.work) _ (length l.work_u32) _ c.fit_of_k-t.auto.labels c.fit_of_k-t.auto.responsibilities c.fit_of_k-t.auto.group_weights c.fit_of_k-t.auto.directions c.fit_of_k-t.auto.concentrations
-          c.fit_of_k-t.auto.logw c.fit_of_k-t.auto.work c.fit_of_k-t.auto.work_u32 ∙ l.inv.2,
-      fitted_turn (found (goal.at.loop-k-preserved c).Start) w x a.d a.s a.lo l.k (l.k - a.lo) l.t n.result o o' n.ensures l.inv.4 l.inv.0
-          refl l.inv.3,
-      tails_turn (found (goal.at.loop-k-preserved c).Start) w x a.d a.s a.lo l.k (l.k - a.lo) l.t n.result o o' n.ensures l.inv.4,
-      small_turn (found (goal.at.loop-k-preserved c).Start) w x a.d a.s a.lo l.k (l.k - a.lo) l.t n.result o o' n.ensures l.inv.4 l.inv.0
-          l.inv.5,
+          c.fit_of_k-t.auto.logw c.fit_of_k-t.auto.work c.fit_of_k-t.auto.work_u32 ∙ l.invariant.2,
+      fitted_turn (found (goal.at.loop-k-preserved c).Start) w x a.d a.s a.lo l.k (l.k - a.lo) l.t n.result o o' n.ensures l.invariant.4 l.invariant.0
+          refl l.invariant.3,
+      tails_turn (found (goal.at.loop-k-preserved c).Start) w x a.d a.s a.lo l.k (l.k - a.lo) l.t n.result o o' n.ensures l.invariant.4,
+      small_turn (found (goal.at.loop-k-preserved c).Start) w x a.d a.s a.lo l.k (l.k - a.lo) l.t n.result o o' n.ensures l.invariant.4 l.invariant.0
+          l.invariant.5,
     )
 
 -- an array is as long as found

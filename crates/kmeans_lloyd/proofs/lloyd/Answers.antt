@@ -47,7 +47,7 @@ plus-c-requires c =
 few_at : (p : After-plus-c) → Few (p.loop-it.it + 1) p.plus-c.result
 few_at p =
     let l = p.loop-it in
-    few_turn l.it l.c p.plus-c.result p.one_round-r.result p.one_round-r.ensures.small p.plus-c.ensures l.inv.5
+    few_turn l.it l.c p.plus-c.result p.one_round-r.result p.one_round-r.ensures.small p.plus-c.ensures l.invariant.5
 
 pub loop-it-preserved : goal.loop-it-preserved
 loop-it-preserved c =
@@ -59,16 +59,16 @@ loop-it-preserved c =
     let s = state_in a.m a.k a.d l.work l.work_u32 in
     let s' = state_in a.m a.k a.d c.one_round-r.new.work c.one_round-r.new.work_u32 in (
       omega (arith, below),
-      sized_of _ _ _ _ (length a.coords.now) a.m a.k a.d ew eu l.inv.1,
-      ew ∙ l.inv.2,
-      eu ∙ l.inv.3,
+      sized_of _ _ _ _ (length a.coords.now) a.m a.k a.d ew eu l.invariant.1,
+      ew ∙ l.invariant.2,
+      eu ∙ l.invariant.3,
       labelled_of_round a.weights.now a.coords.now a.m a.k a.d l.it s s' c.one_round-r.result c.one_round-r.ensures
           c.if-r.false
-          l.inv.1.sizes.k_some l.inv.4,
+          l.invariant.1.sizes.k_some l.invariant.4,
       few_at (goal.at.loop-it-preserved c).After-plus-c,
       goes_on a.weights.now a.coords.now a.m a.k a.d (whole (goal.at.loop-it-preserved c).Start) (a.rounds - l.it)
           (a.rounds - (l.it + 1)) l.it s s' l.c c.plus-c.result
-          c.one_round-r.result (omega (arith, below)) c.one_round-r.ensures c.plus-c.ensures l.inv.6 c.if-r.false,
+          c.one_round-r.result (omega (arith, below)) c.one_round-r.ensures c.plus-c.ensures l.invariant.6 c.if-r.false,
     )
 
 pub returns-after-loop-it : goal.returns-after-loop-it
@@ -87,7 +87,7 @@ returns-then-r c =
     let s' = state_in a.m a.k a.d c.one_round-r.new.work c.one_round-r.new.work_u32 in
     stops a.weights.now a.coords.now a.m a.k a.d (whole (goal.at.returns-then-r c).Start) (a.rounds - l.it) (a.rounds - (l.it + 1))
     l.it s s' l.c c.plus-c.result c.one_round-r.result (omega (arith, c.loop-it-test.true))
-    c.one_round-r.ensures c.plus-c.ensures l.inv.6 c.if-r.true (few_at (goal.at.returns-then-r c).After-plus-c) (few_rounds (goal.at.returns-then-r c).After-one_round-r)
+    c.one_round-r.ensures c.plus-c.ensures l.invariant.6 c.if-r.true (few_at (goal.at.returns-then-r c).After-plus-c) (few_rounds (goal.at.returns-then-r c).After-one_round-r)
 
 pub overflow_add-it : goal.overflow_add-it
 overflow_add-it c = omega (arith, few_rounds (goal.at.overflow_add-it c).After-one_round-r)

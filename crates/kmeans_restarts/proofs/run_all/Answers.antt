@@ -52,11 +52,11 @@ loop-t-preserved c =
     let eu = c.restart-h.auto.work_u32 in (
       omega arith,
       omega (arith, c.loop-t-test.true),
-      runnable_of _ _ _ _ (length a.weights.now) (length a.coords.now) a.m a.k a.d a.rounds ew eu l.inv.2,
+      runnable_of _ _ _ _ (length a.weights.now) (length a.coords.now) a.m a.k a.d a.rounds ew eu l.invariant.2,
       restart_turn a.weights.now a.coords.now a.m a.k a.d a.rounds a.seed l.t l.work c.restart-h.new.work
-          l.work_u32 c.restart-h.new.work_u32 l.h c.restart-h.result l.inv.0 l.inv.3 c.restart-h.ensures,
-      ew ∙ l.inv.4,
-      eu ∙ l.inv.5,
+          l.work_u32 c.restart-h.new.work_u32 l.h c.restart-h.result l.invariant.0 l.invariant.3 c.restart-h.ensures,
+      ew ∙ l.invariant.4,
+      eu ∙ l.invariant.5,
     )
 
 pub shape_of-work : goal.shape_of-work

@@ -49,11 +49,11 @@ loop-i-preserved c =
     let ew = c.gain.auto.work in
     let eu = c.gain.auto.work_u32 in (
       omega (arith, c.loop-i-test.true),
-      sized_of _ _ _ _ (length a.coords.now) a.m a.k a.d ew eu l.inv.1,
-      gather_turn a.weights.now a.coords.now a.m a.k a.d _ l.i l.work l.work_u32 l.inv.2 _ _
+      sized_of _ _ _ _ (length a.coords.now) a.m a.k a.d ew eu l.invariant.1,
+      gather_turn a.weights.now a.coords.now a.m a.k a.d _ l.i l.work l.work_u32 l.invariant.2 _ _
           c.gain.ensures,
-      ew ∙ l.inv.3,
-      eu ∙ l.inv.4,
+      ew ∙ l.invariant.3,
+      eu ∙ l.invariant.4,
     )
 
 pub returns : goal.returns

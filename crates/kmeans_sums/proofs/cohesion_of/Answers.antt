@@ -2,23 +2,17 @@
 use lib.ListN.{length}
 use Rattle.kmeans_layout.proofs.Sizes.{sized_of, area_of}
 use Rattle.kmeans_sums.proofs.Sums.{cohesion_done}
-use Rattle.kmeans_sums.proofs.cohesion_of.Goals.{Start}
 use Rattle.kmeans_sums.proofs.cohesion_of.Goals as goal
-
--- places, each from a later one
-abbrev start : tie.After-add-norms-arg → Start
-start p = let q = p.before.before.before.before.before.before in q.before.before.before.before.before.before
 
 pub add_norms-requires : goal.add_norms-requires
 add_norms-requires c =
-    let s = start c in
-    let a = s.args in
+    let a = c.args in
     area_of _ _ (length a.coords.now) a.m a.k a.d
-    (sized_of _ _ _ _ (length a.coords.now) a.m a.k a.d c.accumulate.auto.work c.accumulate.auto.work_u32 s.pre.0)
+    (sized_of _ _ _ _ (length a.coords.now) a.m a.k a.d c.accumulate.auto.work c.accumulate.auto.work_u32 c.requires.sized)
 
 pub returns : goal.returns
 returns c =
-    let a = (start c.before).args in (
+    let a = c.args in (
       cohesion_done a.weights.now a.coords.now a.m a.k a.d a.work.now _ a.work_u32.now _ c.add_norms.result
           c.accumulate.ensures c.add_norms.ensures,
       c.accumulate.ensures.state,

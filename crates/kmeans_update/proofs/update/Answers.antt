@@ -10,7 +10,7 @@ use Rattle.kmeans_update.specs.Update.{refreshed}
 use Rattle.kmeans_layout.specs.Areas.{state_in, sums_in, counts_in}
 use Rattle.kmeans_layout.proofs.Sizes.{sized_of, labelled_of}
 use Rattle.kmeans_update.proofs.Whole.{refresh_made, refresh_left, update_done}
-use Rattle.kmeans_update.proofs.update.Goals.{After-accumulate, Joined-has_empty}
+use Rattle.kmeans_update.proofs.update.Goals.{Joined-has_empty}
 use Rattle.kmeans_update.proofs.update.Goals as goal
 
 -- where the two ways meet
@@ -44,19 +44,13 @@ refreshed_at j =
     ))
     j.if-has_empty.branch
 
--- places, each from a later one
-abbrev accumulate_at : tie.After-refresh-arg2 → After-accumulate
-accumulate_at p = let q = p.before.before.before.before.before in q.before.before.before.before
-
 pub refresh-requires : goal.refresh-requires
 refresh-requires c =
-    let g = accumulate_at c in
-    let s = start g in
-    let a = s.args in record {
-      sized = sized_of _ _ _ _ (length a.coords.now) a.m a.k a.d g.accumulate.kept.0 g.accumulate.kept.1.0 s.pre.0;
+    let a = c.args in record {
+      sized = sized_of _ _ _ _ (length a.coords.now) a.m a.k a.d c.accumulate.auto.work c.accumulate.auto.work_u32 c.requires.sized;
       labelled = labelled_of a.m a.k (state_in a.m a.k a.d a.work.now a.work_u32.now)
-          (state_in a.m a.k a.d g.accumulate.last.0 g.accumulate.last.1.0)
-          (ap (λ (x : State). x.labels) g.accumulate.ensures.state) s.pre.1.1;
+          (state_in a.m a.k a.d c.accumulate.new.work c.accumulate.new.work_u32)
+          (ap (λ (x : State). x.labels) c.accumulate.ensures.state) c.requires.weights_len.1;
     }
 
 pub update_groups-requires : goal.update_groups-requires

@@ -29,9 +29,6 @@ overflow_add-at c = search (row_of_law c, rules)
 pub offset_bounds-resp-at : goal.offset_bounds-resp-at
 offset_bounds-resp-at c = search (row_of_law c, rules)
 
--- GONE part_argmax_end : tie.Need-slice-bounds-argmax-end invariant-loop decreases-loop
--- GONE part_argmax_end c = search (row_of_law c, rules)
-
 pub overflow_cast-labels : goal.overflow_cast-labels
 overflow_cast-labels c =
     let a = c.args in
@@ -58,5 +55,3 @@ returns c =
     let a = c.args in
     let f : ℕ → ℕ = λ n. argmax_of (row_of a.resp.now a.k n) in
     listed_end f l.labels l.i a.m (omega arith) (omega arith) l.invariant.2
-
--- UNPLACED part_argmax_end

@@ -33,7 +33,7 @@ run_beside-r-requires c = c.loop-t.invariant.2
 pub keep-h-requires : goal.keep-h-requires
 keep-h-requires c =
     let l = c.loop-t in
-    (at_most_more (omega (arith, l.inv.1)) l.inv.3.small, at_most_more (omega arith) c.run_beside-r.ensures.small)
+    (at_most_more (omega (arith, l.invariant.1)) l.invariant.3.small, at_most_more (omega arith) c.run_beside-r.ensures.small)
 
 pub overflow_add-t : goal.overflow_add-t
 overflow_add-t c = omega (arith, c.loop-t.invariant.1)
@@ -49,11 +49,11 @@ loop-t-preserved c =
       omega arith,
       omega (arith, c.loop-t-test.true),
       runnable_of _ _ _ _ (length a.weights.now) (length a.coords.now) a.m a.k a.d a.s.rounds r.auto.work
-          r.auto.work_u32 l.inv.2,
+          r.auto.work_u32 l.invariant.2,
       runs_turn a.s a.weights.now a.coords.now a.m a.k a.d l.t l.work r.new.work l.h c.keep-h.result
-          r.result l.inv.0 l.inv.3 r.ensures c.keep-h.ensures,
-      r.auto.work ∙ l.inv.4,
-      r.auto.work_u32 ∙ l.inv.5,
+          r.result l.invariant.0 l.invariant.3 r.ensures c.keep-h.ensures,
+      r.auto.work ∙ l.invariant.4,
+      r.auto.work_u32 ∙ l.invariant.5,
     )
 
 pub shape_of-work : goal.shape_of-work

@@ -18,7 +18,7 @@ loop-j-preserved c =
     let a = c.args in
     let h : l.j + 16 ≤ length a.e.now = omega (arith, c.loop-j-test.true, c.requires) in
     let j = l.j + 8 in
-    let first = exps_turn a.e.now l.e l.j (omega arith) l.inv.2 (j - l.j) x.new.e (omega arith) x.ensures in
+    let first = exps_turn a.e.now l.e l.j (omega arith) l.invariant.2 (j - l.j) x.new.e (omega arith) x.ensures in
     let e : j + 8 ≡ l.j + 16 = omega arith in (
       search rules,
       omega arith,

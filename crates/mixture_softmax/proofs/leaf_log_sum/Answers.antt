@@ -23,23 +23,11 @@ overflow_add-at c = omega (arith, row_in (goal.at.overflow_add-at c).Start)
 pub offset_bounds-e-at : goal.offset_bounds-e-at
 offset_bounds-e-at c = omega (arith, row_in (goal.at.offset_bounds-e-at c).Start)
 
--- GONE part_less_log_sum_start : tie.Need-slice-bounds-less-log-sum-start
--- GONE part_less_log_sum_start c = omega (arith, row_in c.before.before)
-
--- GONE part_less_log_sum_end : tie.Need-slice-bounds-less-log-sum-end
--- GONE part_less_log_sum_end c = omega (arith, row_in c.before.before)
-
 pub overflow_add-at-2 : goal.overflow_add-at-2
 overflow_add-at-2 c = omega (arith, row_in (goal.at.overflow_add-at-2 c).Start)
 
 pub offset_bounds-rows-at : goal.offset_bounds-rows-at
 offset_bounds-rows-at c = omega (arith, row_in (goal.at.offset_bounds-rows-at c).Start)
-
--- GONE part_less_log_sum_start_2 : tie.Need-slice-bounds-less-log-sum-start-2
--- GONE part_less_log_sum_start_2 c = omega (arith, row_in c.before.before.before)
-
--- GONE part_less_log_sum_end_2 : tie.Need-slice-bounds-less-log-sum-end-2
--- GONE part_less_log_sum_end_2 c = omega (arith, row_in c.before.before.before)
 
 pub less_log_sum-requires : goal.less_log_sum-requires
 less_log_sum-requires c =
@@ -52,8 +40,3 @@ returns c =
     let a = c.args in
     let g = c.less_log_sum in
     leaf_done a.e.now a.rows.now g.new.e (a.i * a.k) a.k g.result g.ensures.0 g.ensures.1
-
--- UNPLACED part_less_log_sum_start
--- UNPLACED part_less_log_sum_end
--- UNPLACED part_less_log_sum_start_2
--- UNPLACED part_less_log_sum_end_2

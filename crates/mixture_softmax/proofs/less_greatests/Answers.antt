@@ -38,23 +38,11 @@ overflow_add-at c = omega (arith, row_in c)
 pub offset_bounds-e-at : goal.offset_bounds-e-at
 offset_bounds-e-at c = omega (arith, row_in c)
 
--- GONE part_less_greatest_start : tie.Need-slice-bounds-less-greatest-start invariant-loop decreases-loop
--- GONE part_less_greatest_start c = omega (arith, row_in c)
-
--- GONE part_less_greatest_end : tie.Need-slice-bounds-less-greatest-end invariant-loop decreases-loop
--- GONE part_less_greatest_end c = omega (arith, row_in c)
-
 pub overflow_add-at-in-loop-i : goal.overflow_add-at-in-loop-i
 overflow_add-at-in-loop-i c = omega (arith, row_in (goal.at.overflow_add-at-in-loop-i c).In-loop-i)
 
 pub offset_bounds-rows-at : goal.offset_bounds-rows-at
 offset_bounds-rows-at c = omega (arith, row_in (goal.at.offset_bounds-rows-at c).In-loop-i)
-
--- GONE part_less_greatest_start_2 : tie.Need-slice-bounds-less-greatest-start-2 invariant-loop decreases-loop
--- GONE part_less_greatest_start_2 c = omega (arith, row_in c.before)
-
--- GONE part_less_greatest_end_2 : tie.Need-slice-bounds-less-greatest-end-2 invariant-loop decreases-loop
--- GONE part_less_greatest_end_2 c = omega (arith, row_in c.before)
 
 pub less_greatest-requires : goal.less_greatest-requires
 less_greatest-requires c =
@@ -84,8 +72,3 @@ returns c =
     let a = c.args in
     let e : l.i ≡ a.m = omega (arith, c.loop-i-test.false, l.invariant.0) in
     l.invariant.2 ∙ ap (λ (n : ℕ). from_greatests a.k a.rows.now n ++ drop (n * a.k) a.e.now) e
-
--- UNPLACED part_less_greatest_start
--- UNPLACED part_less_greatest_end
--- UNPLACED part_less_greatest_start_2
--- UNPLACED part_less_greatest_end_2

@@ -55,12 +55,6 @@ offset_bounds-rows-i c = omega (arith, ends_in c)
 pub slice_bounds-log_softmax_block-count : goal.slice_bounds-log_softmax_block-count
 slice_bounds-log_softmax_block-count c = omega (arith, ends_in c)
 
--- GONE part_log_softmax_block_start : tie.Need-slice-bounds-log-softmax-block-start invariant-loop decreases-loop
--- GONE part_log_softmax_block_start c = omega (arith, ends_in c)
-
--- GONE part_log_softmax_block_end : tie.Need-slice-bounds-log-softmax-block-end invariant-loop decreases-loop
--- GONE part_log_softmax_block_end c = omega (arith, ends_in c)
-
 pub log_softmax_block-l-requires : goal.log_softmax_block-l-requires
 log_softmax_block-l-requires c =
     let l = c.loop-i in
@@ -107,6 +101,3 @@ returns c =
       l.invariant.3 ∙ ap (λ (n : ℕ). shares_up_to a.k a.rows.now n ++ drop (n * a.k) a.rows.now) e
           ∙ front_end (shares_up_to a.k a.rows.now m) a.rows.now (m * a.k) c.requires.rows_long,
     )
-
--- UNPLACED part_log_softmax_block_start
--- UNPLACED part_log_softmax_block_end

@@ -47,9 +47,9 @@ returns c =
     let place = c.responsibilities_at-resp.ensures in
     let n = at + a.m * a.k - at in
     let size : n ≡ a.m * a.k = omega arith in
-    let all : l.i ≡ a.m = omega (arith, c.loop-i-test.false, l.inv.0) in (
+    let all : l.i ≡ a.m = omega (arith, c.loop-i-test.false, l.invariant.0) in (
       loglik_done a.m a.k a.d a.work.now a.coords.now a.weights.now l.work l.i at n c.requires.leaves.weights_long
-          c.requires.area.work_long l.inv.1 all l.inv.2 place size x.result x.ensures.0,
+          c.requires.area.work_long l.invariant.1 all l.invariant.2 place size x.result x.ensures.0,
       resp_done a.m a.k a.d a.work.now a.coords.now a.weights.now l.work l.i at n c.requires.leaves.weights_long
-          c.requires.area.work_long l.inv.1 all l.inv.2 place size x.new.rows x.ensures.1,
+          c.requires.area.work_long l.invariant.1 all l.invariant.2 place size x.new.rows x.ensures.1,
     )

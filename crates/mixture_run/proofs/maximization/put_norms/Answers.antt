@@ -29,11 +29,6 @@ overflow_add-at-in-loop-c c = search (row_of_law c, rules)
 pub offset_bounds-s-at : goal.offset_bounds-s-at
 offset_bounds-s-at c = search (row_of_law c, rules)
 
--- GONE part_norm_end : tie.Need-slice-bounds-norm-end invariant-loop decreases-loop
--- GONE part_norm_end c =
--- GONE     let s = start c.before.before.before in
--- GONE     omega (arith, row_of_law c.before, c.before.before.loop.invariant.1, s.pre.work_long)
-
 pub loop-c-preserved : goal.loop-c-preserved
 loop-c-preserved c =
     let l = c.loop-c in
@@ -51,5 +46,3 @@ returns c =
     let l = c.loop-c in
     let a = c.args in
     norms_end a.m a.k a.d a.work.now l.work l.c (omega (arith, c.loop-c-test.false)) c.requires.work_long l.invariant.2
-
--- UNPLACED part_norm_end
