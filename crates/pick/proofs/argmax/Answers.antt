@@ -1,9 +1,9 @@
 -- `pick::argmax` meets its contract.
 use mathlib.Core.Path.{sym, ◌∙◌}
 use mathlib.Core.Bool.{true, false}
-use mathlib.Core.Logic.{⊎_elim}
 use native.Mathlib.Omega.{arith}
 use Rattle.pick.proofs.Places.{argmax_one, argmax_turn, argmax_end}
+use Rattle.pick.proofs.argmax.Goals.{then-v-best, else-v-best}
 use Rattle.pick.proofs.argmax.Goals as goal
 
 pub loop-i-init : goal.loop-i-init
@@ -13,10 +13,11 @@ pub loop-i-preserved : goal.loop-i-preserved
 loop-i-preserved c =
     let v = c.args.v.now in (
       omega arith,
-      ⊎_elim (λ w. omega arith) (λ w. omega arith) c.if-v-best.branch,
-      ⊎_elim (λ w. argmax_turn v c.loop-i.best c.if-v-best.best c.loop-i.i true c.loop-i.invariant.2 w.0.taken w.1)
-          (λ w. argmax_turn v c.loop-i.best c.if-v-best.best c.loop-i.i false c.loop-i.invariant.2 w.0.left w.1)
-          c.if-v-best.branch,
+      elim c.if-v-best.branch [ then-v-best w ↦ omega arith | else-v-best w ↦ omega arith ],
+      elim c.if-v-best.branch [
+        then-v-best w ↦ argmax_turn v c.loop-i.best c.if-v-best.best c.loop-i.i true c.loop-i.invariant.2 w.if-v-best.true w.best-is
+        | else-v-best w ↦ argmax_turn v c.loop-i.best c.if-v-best.best c.loop-i.i false c.loop-i.invariant.2 w.if-v-best.false w.best-is
+      ],
     )
 
 pub returns : goal.returns

@@ -1,9 +1,9 @@
 -- `pick::argmin` meets its contract.
 use mathlib.Core.Path.{sym, ◌∙◌}
 use mathlib.Core.Bool.{true, false}
-use mathlib.Core.Logic.{⊎_elim}
 use native.Mathlib.Omega.{arith}
 use Rattle.pick.proofs.Places.{argmin_one, argmin_turn, argmin_end}
+use Rattle.pick.proofs.argmin.Goals.{then-v-i, else-v-i}
 use Rattle.pick.proofs.argmin.Goals as goal
 
 pub loop-i-init : goal.loop-i-init
@@ -13,10 +13,11 @@ pub loop-i-preserved : goal.loop-i-preserved
 loop-i-preserved c =
     let v = c.args.v.now in (
       omega arith,
-      ⊎_elim (λ w. omega arith) (λ w. omega arith) c.if-v-i.branch,
-      ⊎_elim (λ w. argmin_turn v c.loop-i.best c.if-v-i.best c.loop-i.i true c.loop-i.invariant.2 w.0.taken w.1)
-          (λ w. argmin_turn v c.loop-i.best c.if-v-i.best c.loop-i.i false c.loop-i.invariant.2 w.0.left w.1)
-          c.if-v-i.branch,
+      elim c.if-v-i.branch [ then-v-i w ↦ omega arith | else-v-i w ↦ omega arith ],
+      elim c.if-v-i.branch [
+        then-v-i w ↦ argmin_turn v c.loop-i.best c.if-v-i.best c.loop-i.i true c.loop-i.invariant.2 w.if-v-i.true w.best-is
+        | else-v-i w ↦ argmin_turn v c.loop-i.best c.if-v-i.best c.loop-i.i false c.loop-i.invariant.2 w.if-v-i.false w.best-is
+      ],
     )
 
 pub returns : goal.returns

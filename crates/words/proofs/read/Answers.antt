@@ -5,6 +5,7 @@ use native.Mathlib.Omega.{arith}
 use lib.ListN.{length}
 use Rattle.words.proofs.Parts.{within}
 use Rattle.words.proofs.Turns.{digit_turn, word_turn, words_end, full, ended}
+use Rattle.words.proofs.read.Goals.{then-d-lt16, else-d-lt16}
 use Rattle.words.proofs.read.Goals as goal
 
 pub loop-i-init : goal.loop-i-init
@@ -22,11 +23,11 @@ loop-i-preserved c =
     let l = c.loop-i in
     let a = c.args in
     let e = c.digit-d.ensures in
-    ⊎_elim
-    (λ w. digit_turn a.text.now _ l.to l.n l.x l.i _ _ _ _ l.invariant (omega arith) e w.0.taken w.1 w.2 w.3)
-    (λ w. word_turn a.text.now _ l.to l.n l.x l.i _ _ _ _ l.invariant (omega arith)
-    (omega (arith, c.if-n-to.false)) e w.0.left w.1 w.2 w.3)
-    c.if-d-lt16.branch
+    elim c.if-d-lt16.branch [
+      then-d-lt16 w ↦ digit_turn a.text.now _ l.to l.n l.x l.i _ _ _ _ l.invariant (omega arith) e w.if-d-lt16.true w.to-is w.n-is w.x-is
+      | else-d-lt16 w ↦ word_turn a.text.now _ l.to l.n l.x l.i _ _ _ _ l.invariant (omega arith)
+            (omega (arith, c.if-n-to.false)) e w.if-d-lt16.false w.to-is w.n-is w.x-is
+    ]
 
 pub returns : goal.returns
 returns c =
