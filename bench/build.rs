@@ -1,4 +1,4 @@
-// Links the proved static library. STATION names the file libstation.a, which `rt staticlib station` writes.
+// Links the proved static library. STATION names the file libstation.a, which `rt lib` in crates/station writes.
 use std::path::PathBuf;
 
 fn main() {

@@ -1,7 +1,7 @@
 /* Groups nine shops by the direction of their sales, in as many groups as fit best, and prints which shop is in which
  * group:
- *   rt staticlib station
- *   gcc -I include examples/station.c target/staticlib/libstation.a -o station && ./station */
+ *   (cd crates/station && rt lib)
+ *   gcc -I include examples/station.c crates/station/out/libstation.a -o station && ./station */
 #include "mosterklomp.h"
 #include <stdio.h>
 

@@ -1,5 +1,5 @@
 /* Grouping shops by the direction of their sales: the three fits of Mosterklomp for a program in C. The library is
- * the proved crate `station`, linked as libstation.a (`rt staticlib station`). crates/station/src/lib.rt has the
+ * the proved crate `station`, linked as libstation.a (`rt lib` in crates/station). crates/station/src/lib.rt has the
  * promise of each function; docs/PROMISES.md says it in words.
  *
  * m shops (leaves) are m weights and m * d coordinates, row by row: `weights` with its length m, `coords` with its

@@ -1,6 +1,6 @@
 -- `float::bits_of` meets its contract: only a NaN differs from itself, and it gets the definition's pattern. Assumes nothing.
 use mathlib.Core.Path.{◌≡◌, refl, sym, subst}
-use mathlib.Core.Bool.{true, false, not, true≢false}
+use mathlib.Core.Bool.{false, not, true≢false}
 use lib.Dec.{T}
 use lib.Ieee.{Float, nan, inf, fin, binary64, is_nan, ne, eq, to_bits}
 use lib.Ieee.Compare.{differs_from_itself}
