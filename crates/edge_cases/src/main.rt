@@ -11,6 +11,8 @@ mod fits;
 mod lists;
 mod numbers;
 
+use std::io;
+use std::io::Read;
 use words::word;
 
 // Whether a line's example holds; kind 9 is a restart's seed, kind 15 an entry of the table of ln_gamma.
@@ -31,48 +33,50 @@ fn holds(kind: u64, line: &[u64]) -> bool {
 }
 
 // Prints what stands behind the bar, which is at that place.
-fn print_name(text: &[u8], bar: usize) {
+fn print_name(rt: &impl Print, text: &[u8], bar: usize) -> io::Result<()> {
     if bar < text.len() {
-        io::write_all(1, &text[bar + 1..]);
+        rt.write_all(&text[bar + 1..])?;
     }
+    Ok(())
 }
 
 // Prints whether a line's example holds, or in kind 0 the numbers of the seed in word 1.
-fn run_words(line: &[u64]) {
+fn run_words(rt: &impl Print, line: &[u64]) -> io::Result<()> {
     let kind = word(line, 0);
     if kind == 0 {
-        io::write_all(1, b":\n");
-        numbers::print_draws(word(line, 1));
+        println!(rt; ":")?;
+        numbers::print_draws(rt, word(line, 1))
     } else if holds(kind, line) {
-        io::write_all(1, b": yes\n");
+        println!(rt; ": yes")
     } else {
-        io::write_all(1, b": NO\n");
+        println!(rt; ": NO")
     }
 }
 
 // A line: its words, and its name.
-fn run_line(text: &[u8]) {
+fn run_line(rt: &impl Print, text: &[u8]) -> io::Result<()> {
     let bar = words::place_of(text, 0, 124);
     let mut line = [0u64; 256];
     let n = words::read(&mut line, &text[..bar]);
-    print_name(text, bar);
-    run_words(&line[..n]);
+    print_name(rt, text, bar)?;
+    run_words(rt, &line[..n])
 }
 
-fn run_list(text: &[u8]) {
+fn run_list(rt: &impl Print, text: &[u8]) -> io::Result<()> {
     let mut from = 0;
     while from < text.len() {
         let end = words::place_of(text, from, 10);
-        run_line(&text[from..end]);
+        run_line(rt, &text[from..end])?;
         if end == text.len() {
-            return;
+            return Ok(());
         }
         from = end + 1;
     }
+    Ok(())
 }
 
-fn main() {
-    let mut text = io::large_buffer();
-    let n = io::read_full(0, &mut text);
-    run_list(&text[..n]);
+fn main(rt: HostRuntime) -> io::Result<()> {
+    let mut text = Vec::new(rt.alloc());
+    rt.reader().read_to_end(&mut text)?;
+    run_list(&rt, &text)
 }

@@ -2,6 +2,7 @@
 ghost use Rattle.std.specs.Prelude.{◌≡◌};
 ghost use Rattle.edge_cases.specs.Five.{five_of};
 
+use std::io;
 use words::{number, word};
 
 // Kinds 1 to 8: root, exp, ln, max, clamp, abs, and once more exp and ln. Words 1 to 3 are arguments, and word 4 is the
@@ -40,19 +41,18 @@ fn five_lent(seed: u64) -> Five
     Five { a, b, c, d, e }
 }
 
-fn print_number(n: u64) {
-    io::print_decimal(1, n);
-    io::write_all(1, b"\n");
+fn print_number(rt: &impl Print, n: u64) -> io::Result<()> {
+    println!(rt; "{n}")
 }
 
 // Prints the first five numbers of a seed.
-pub(crate) fn print_draws(seed: u64) {
+pub(crate) fn print_draws(rt: &impl Print, seed: u64) -> io::Result<()> {
     let f = five_lent(seed);
-    print_number(f.a);
-    print_number(f.b);
-    print_number(f.c);
-    print_number(f.d);
-    print_number(f.e);
+    print_number(rt, f.a)?;
+    print_number(rt, f.b)?;
+    print_number(rt, f.c)?;
+    print_number(rt, f.d)?;
+    print_number(rt, f.e)
 }
 
 // Whether the table's ln_gamma of d / 2 has these bits.

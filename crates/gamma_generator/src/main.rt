@@ -7,6 +7,8 @@ ghost use Rattle.std.specs.Float.{binary64};
 ghost use Rattle.std.specs.Float.Ieee.{to_bits};
 ghost use Rattle.gamma.specs.Gamma.{ln_gamma_half};
 
+use std::io;
+
 // The bits of ln_gamma(d / 2).
 fn bits_at(d: u32) -> u64
     ensures { result ≡ to_bits binary64 (ln_gamma_half d) }
@@ -14,13 +16,13 @@ fn bits_at(d: u32) -> u64
     float::bits_of(gamma::ln_gamma(d as f64 / 2.0))
 }
 
-fn print_line(bits: u64) {
-    io::print_hex(1, bits, 16);
-    io::write_all(1, b"\n");
+fn print_line(rt: &impl Print, bits: u64) -> io::Result<()> {
+    println!(rt; "{bits:016x}")
 }
 
-fn main() {
+fn main(rt: HostRuntime) -> io::Result<()> {
     for d in 1..257 {
-        print_line(bits_at(d));
+        print_line(&rt, bits_at(d))?;
     }
+    Ok(())
 }

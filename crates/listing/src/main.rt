@@ -2,11 +2,14 @@
 // which shop is in which group.
 #![tactic(auto)]
 
-fn main() {
+use std::io;
+use std::io::Read;
+
+fn main(rt: HostRuntime) -> io::Result<()> {
+    let mut bytes = Vec::new(rt.alloc());
     // One byte more than the longest leaf file: what is longer still is refused alike.
-    let mut bytes = [0u8; 8713];
-    let n = io::read_full(0, &mut bytes);
+    rt.reader().take(8713).read_to_end(&mut bytes)?;
     let mut text = [0u8; 4096];
-    let end = leaf_file::list_file(&bytes[..n], &mut text);
-    io::write_all(1, &text[..end]);
+    let end = leaf_file::list_file(&bytes, &mut text);
+    rt.write_all(&text[..end])
 }

@@ -11,8 +11,11 @@ mod numbers;
 mod outputs;
 mod vectors;
 
+ghost use Rattle.std.specs.Prelude.{IfOk};
 ghost use Rattle.words.specs.Words.{Counted};
 
+use std::io;
+use std::io::Read;
 use words::{plus, word};
 
 // Whether a case agrees, which has that many words in.
@@ -36,26 +39,16 @@ fn agrees(kind: u64, case: &[u64], ins: usize) -> bool {
 }
 
 // Prints line n of a text, from 0; nothing where it has fewer.
-fn print_line(text: &[u8], n: usize) {
-    let mut from = 0;
-    let mut i = 0;
-    while i < n {
-        let end = words::place_of(text, from, 10);
-        if end == text.len() {
-            return;
-        }
-        from = end + 1;
-        i += 1;
-    }
-    let end = words::place_of(text, from, 10);
-    io::write_all(1, &text[from..end]);
+fn print_line(rt: &impl Print, text: &str, n: usize) -> io::Result<()> {
+    rt.print(text.lines().nth(n).unwrap_or(""))
 }
 
 // Prints what the cases of a kind are of.
-fn print_kind(kind: u64) {
+fn print_kind(rt: &impl Print, kind: u64) -> io::Result<()> {
     let n = if kind <= 26 { kind } else { 0 };
     print_line(
-        b"unknown kind
+        rt,
+        "unknown kind
 root
 exp
 ln
@@ -83,23 +76,29 @@ movmf_auto_with
 listings of leaf files
 ln_gamma_half",
         n as usize,
-    );
+    )
 }
 
-// Reads words to the start of `to`, by way of `part` and until it is full, and answers how many there were.
-fn read_part(part: &mut [u8], to: &mut [u64]) -> usize
-    ensures { Counted result to.new }
+// Reads words to the start of `to`, by way of `space` and until `part` ends, and answers how many there were.
+fn read_part(mut part: impl Read + Drop, space: &mut Vec<u8>, to: &mut [u64]) -> io::Result<usize>
+    ensures { IfOk result (λ n. Counted n to.new) }
 {
-    let got = io::read_full(0, part);
-    words::read(to, &part[..got])
+    space.clear();
+    part.read_to_end(space)?;
+    Ok(words::read(to, space))
 }
 
-// Reads that many words, by way of `space`, and answers how many there were; no more than `space` and `to` hold.
-fn read_words(space: &mut [u8], to: &mut [u64], count: usize) -> usize
-    ensures { Counted result to.new }
+// Reads that many words, by way of `space`, and answers how many there were; no more than 65,536 bytes and `to` hold.
+fn read_words(
+    rt: &impl Input,
+    space: &mut Vec<u8>,
+    to: &mut [u64],
+    count: usize,
+) -> io::Result<usize>
+    ensures { IfOk result (λ n. Counted n to.new) }
 {
-    let bytes = words::least(count % 65536 * 17, space.len());
-    read_part(&mut space[..bytes], to)
+    let bytes = words::least(count % 65536 * 17, 65536);
+    read_part(rt.reader().take(bytes as u64), space, to)
 }
 
 // How many cases of a kind agreed so far, and of how many.
@@ -110,28 +109,24 @@ struct Tally {
     count: usize,
 }
 
-fn print_tally(kind: u64, agreed: usize, count: usize) {
-    print_kind(kind);
-    io::write_all(1, b": ");
-    io::print_decimal(1, agreed as u64);
-    io::write_all(1, b" of ");
-    io::print_decimal(1, count as u64);
-    io::write_all(1, b" agree\n");
+fn print_tally(rt: &impl Print, kind: u64, agreed: usize, count: usize) -> io::Result<()> {
+    print_kind(rt, kind)?;
+    println!(rt; ": {agreed} of {count} agree")
 }
 
 // The tally for a block of this kind: the same one, or a new one, the old one printed.
-fn tally_for(kind: u64, t: Tally) -> Tally {
+fn tally_for(rt: &impl Print, kind: u64, t: Tally) -> io::Result<Tally> {
     if t.kind == kind {
-        return t;
+        return Ok(t);
     }
     if t.kind != 0 {
-        print_tally(t.kind, t.agreed, t.count);
+        print_tally(rt, t.kind, t.agreed, t.count)?;
     }
-    Tally {
+    Ok(Tally {
         kind,
         agreed: 0,
         count: 0,
-    }
+    })
 }
 
 // A block's kind, the numbers of words in and out of a case, and the number of cases.
@@ -158,60 +153,69 @@ fn block_of(words: &[u64], there: bool) -> Block {
 }
 
 // Whether the next case agrees.
-fn run_case(space: &mut [u8], to: &mut [u64], kind: u64, ins: usize, width: usize) -> bool {
-    let n = read_words(space, to, width);
-    (n == width) & agrees(kind, &to[..n], ins)
+fn run_case(
+    rt: &impl Input,
+    space: &mut Vec<u8>,
+    to: &mut [u64],
+    kind: u64,
+    ins: usize,
+    width: usize,
+) -> io::Result<bool> {
+    let n = read_words(rt, space, to, width)?;
+    Ok((n == width) & agrees(kind, &to[..n], ins))
 }
 
 // How many of a block's cases agree.
-fn run_cases(space: &mut [u8], to: &mut [u64], b: Block) -> usize {
+fn run_cases(rt: &impl Input, space: &mut Vec<u8>, to: &mut [u64], b: Block) -> io::Result<usize> {
     let width = plus(b.ins, b.outs);
-    let mut agreed: usize = 0;
-    let mut i = 0;
-    while i < b.count {
-        let same = run_case(space, to, b.kind, b.ins, width);
+    let mut agreed = 0;
+    for _ in 0..b.count {
+        let same = run_case(rt, space, to, b.kind, b.ins, width)?;
         agreed = plus(agreed, same as usize);
-        i += 1;
     }
-    agreed
+    Ok(agreed)
 }
 
 // The next block.
-fn read_block(space: &mut [u8], to: &mut [u64]) -> Block {
-    let n = read_words(space, to, 4);
-    block_of(&to[..n], n == 4)
+fn read_block(rt: &impl Input, space: &mut Vec<u8>, to: &mut [u64]) -> io::Result<Block> {
+    let n = read_words(rt, space, to, 4)?;
+    Ok(block_of(&to[..n], n == 4))
 }
 
 // Runs the next block; kind 0 where there is none.
-fn run_block(space: &mut [u8], to: &mut [u64], t: Tally) -> Tally {
-    let b = read_block(space, to);
-    let old = tally_for(b.kind, t);
-    let agreed = run_cases(space, to, b);
-    Tally {
+fn run_block(
+    rt: &(impl Input + Print),
+    space: &mut Vec<u8>,
+    to: &mut [u64],
+    t: Tally,
+) -> io::Result<Tally> {
+    let b = read_block(rt, space, to)?;
+    let old = tally_for(rt, b.kind, t)?;
+    let agreed = run_cases(rt, space, to, b)?;
+    Ok(Tally {
         kind: b.kind,
         agreed: plus(old.agreed, agreed),
         count: plus(old.count, b.count),
-    }
+    })
 }
 
-fn run_list(space: &mut [u8], to: &mut [u64]) {
+fn run_list(rt: &(impl Input + Print), space: &mut Vec<u8>, to: &mut [u64]) -> io::Result<()> {
     let mut t = Tally {
         kind: 0,
         agreed: 0,
         count: 0,
     };
-    let mut blocks: usize = 0;
-    while blocks < 4096 {
-        t = run_block(space, to, t);
+    for _ in 0..4096 {
+        t = run_block(rt, space, to, t)?;
         if t.kind == 0 {
-            return;
+            return Ok(());
         }
-        blocks += 1;
     }
+    Ok(())
 }
 
-fn main() {
-    let mut space = io::large_buffer();
+fn main(rt: HostRuntime) -> io::Result<()> {
+    let mut space = Vec::new(rt.alloc());
     let mut to = [0u64; 4096];
-    run_list(&mut space, &mut to);
+    run_list(&rt, &mut space, &mut to)
 }

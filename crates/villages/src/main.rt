@@ -2,32 +2,29 @@
 // in one bit: in the first a shop is equally like two groups, in the second it is nearer to one of them.
 #![tactic(auto)]
 
+use std::io::Read;
+use std::rt::Files;
+use std::{env, fs, io};
+
 // The listing of an open file.
-fn list_open(fd: i32) {
+fn list_open(rt: &(impl Print + Alloc), file: impl Read + Drop) -> io::Result<()> {
+    let mut bytes = Vec::new(rt.alloc());
     // One byte more than the longest leaf file: what is longer still is refused alike.
-    let mut bytes = [0u8; 8713];
-    let n = io::read_full(fd, &mut bytes);
+    file.take(8713).read_to_end(&mut bytes)?;
     let mut text = [0u8; 4096];
-    let end = leaf_file::list_file(&bytes[..n], &mut text);
-    io::write_all(1, &text[..end]);
+    let end = leaf_file::list_file(&bytes, &mut text);
+    rt.write_all(&text[..end])
 }
 
-// The name of a file, which is argument i, and its listing.
-fn list_named(i: usize) {
-    let mut path = io::buffer();
-    let n = os::arg(i, &mut path);
-    io::write_all(1, &path[..n]);
-    io::write_all(1, b":\n");
-    let fd = os::open_read(&path[..n]);
-    if fd < 0 {
-        os::fail(&path[..n]);
-        return;
+// The name of a file, and its listing.
+fn list_named(rt: &(impl Files + Print + Alloc), path: &str) -> io::Result<()> {
+    println!(rt; "{path}:")?;
+    list_open(rt, fs::open(rt, path)?)
+}
+
+fn main(rt: HostRuntime) -> io::Result<()> {
+    for path in env::args(&rt)?.skip(1).take(2) {
+        list_named(&rt, path.as_str())?;
     }
-    list_open(fd);
-    libc::close(fd);
-}
-
-fn main() {
-    list_named(1);
-    list_named(2);
+    Ok(())
 }
