@@ -7,9 +7,6 @@ use Prim.Native.Nat.{ℕ, ◌-◌}
 use native.Mathlib.Omega.{arith}
 use lib.Dec.{T}
 use lib.ListN.{get_or}
-use mir.Syntax.{Opd, copy, int, int_neg, int_big, float, opd_true, opd_false, opd_unit, ptr_const}
-use mir.Syntax.{Rv, rv_opd, op2, op1, addr_of, aggregate, repeat}
-use mir.Syntax.{Body, skip, seq, assign, block, loop, cond, switch, exit, return, call}
 use lib.Ieee.{Float, nan, binary64, add, sub, mul, div, lt, round, size, of_bits, of_int}
 use Rattle.float.specs.Arithmetic.{f64, number}
 use Rattle.float.specs.Parts.{units_of}
@@ -18,43 +15,8 @@ use Rattle.logarithm.specs.Logarithm.{ln_of, ln_by, ln_at, ln_from, exponent_of,
 use Rattle.gamma.specs.Gamma.{half, lanczos, lanczos_terms, lanczos_from, ln_gamma_of, ln_gamma_half}
 use Rattle.gamma.proofs.Tau.{ln_tau}
 use Rattle.gamma_table.specs.Table.{GammaTable}
-use Rattle.gamma_table.proofs.ln_gamma_half.Code.Mir.{s-1}
+use Rattle.gamma_table.specs.declared.entries.TheConstants.{LN_GAMMA}
 use Rattle.gamma_table.proofs.ln_gamma_half.Goals as goal
-
--- ---- the table of the code: what the first statement, s-1, of the function puts together
-abbrev value_of : Opd → Float
-value_of (copy p) = nan
-value_of (int w n) = nan
-value_of (int_neg w n) = nan
-value_of (int_big w n) = nan
-value_of (float f b) = of_bits f b
-value_of opd_true = nan
-value_of opd_false = nan
-value_of opd_unit = nan
-value_of (ptr_const n) = nan
-
-abbrev elements_of : Rv → List Opd
-elements_of (rv_opd o) = []
-elements_of (op2 o x y) = []
-elements_of (op1 o x) = []
-elements_of (addr_of p) = []
-elements_of (aggregate os) = os
-elements_of (repeat o n) = []
-
-abbrev puts : Body → List Opd
-puts skip = []
-puts (seq b c) = []
-puts (assign p v) = elements_of v
-puts (block b) = []
-puts (loop b) = []
-puts (cond o b c) = []
-puts (switch o a) = []
-puts (exit n) = []
-puts return = []
-puts (call f os p) = []
-
-unfoldable table : List Float
-table = map value_of (puts s-1)
 
 -- ---- the test of an entry
 -- ln_gamma of d/2, with the constant in the place of the logarithm of TAU
@@ -71,31 +33,30 @@ unfolding quick ln_gamma_of
 quick_is d = rw ln_tau
 
 right : ℕ → Bool
-right d = same (get_or table (d - 1) nan) (quick d)
+right d = same (get_or LN_GAMMA (d - 1) nan) (quick d)
 
 low : T (all_from right 1 86)
-unfolding table right quick ln_of ln_by ln_at ln_from exponent_of fraction_of units_of add sub mul div lt round size of_bits of_int
+unfolding right quick ln_of ln_by ln_at ln_from exponent_of fraction_of units_of add sub mul div lt round size of_bits of_int
 low = tt
 
 middle : T (all_from right 87 86)
-unfolding table right quick ln_of ln_by ln_at ln_from exponent_of fraction_of units_of add sub mul div lt round size of_bits of_int
+unfolding right quick ln_of ln_by ln_at ln_from exponent_of fraction_of units_of add sub mul div lt round size of_bits of_int
 middle = tt
 
 high : T (all_from right 173 84)
-unfolding table right quick ln_of ln_by ln_at ln_from exponent_of fraction_of units_of add sub mul div lt round size of_bits of_int
+unfolding right quick ln_of ln_by ln_at ln_from exponent_of fraction_of units_of add sub mul div lt round size of_bits of_int
 high = tt
 
 tested : T (all_from right 1 256)
 tested = all_joined right 1 86 170 low (all_joined right 87 86 84 middle high)
 
-table_is : GammaTable table
-unfolding table right
+table_is : GammaTable LN_GAMMA
+unfolding right
 table_is =
     record {
       values = refl;
-      entry = λ d l m. same_eq (get_or table (d - 1) nan) (quick d) (all_at right 1 256 d tested l (omega arith)) ∙ quick_is d;
+      entry = λ d l m. same_eq (get_or LN_GAMMA (d - 1) nan) (quick d) (all_at right 1 256 d tested l (omega arith)) ∙ quick_is d;
     }
 
 pub returns : goal.returns
-unfolding table
 returns c = table_is.entry c.args.d c.requires.0 c.requires.1
