@@ -1,32 +1,16 @@
 -- `mixture_softmax::log_softmax_block` meets its contract, by what its five calls ensure. Assumes nothing.
-use mathlib.Core.Path.{◌≡◌, sym, ◌∙◌}
+use mathlib.Core.Path.{sym, ◌∙◌}
 use native.Mathlib.Omega.{arith}
-use lib.ListN.{length, take}
+use lib.ListN.{length}
 use lib.Seq.{length-take-le}
 use Rattle.mixture_softmax.proofs.Blocks.{logs_done, shares_done}
-use Rattle.mixture_softmax.proofs.log_softmax_block.Goals.{After-e-9-1}
 use Rattle.mixture_softmax.proofs.log_softmax_block.Goals as goal
 
--- what is copied is as long as the rows
-front_long : (c : After-e-9-1) → let n =
-    length c.args.rows.now in length
-    (take n c.exp_front-2.new.e) ≡ n
-front_long c =
-    length-take-le _ c.exp_front-2.new.e
-    (omega (
-      arith,
-      c.exp_front-2.auto.e,
-      c.less_log_sums-s.auto.e,
-      c.exp_front.auto.e,
-      c.less_greatests.auto.e,
-      c.requires.rows_small,
-    ))
-
 pub slice_bounds-copy-end : goal.slice_bounds-copy-end
-slice_bounds-copy-end c = sym (front_long c)
+slice_bounds-copy-end c = sym (length-take-le _ c.exp_front-2.new.e (omega (arith, c.requires.rows_small)))
 
 pub copy-requires : goal.copy-requires
-copy-requires c = record { same = sym (front_long c) }
+copy-requires c = record { same = sym (length-take-le _ c.exp_front-2.new.e (omega (arith, c.requires.rows_small))) }
 
 pub returns : goal.returns
 returns c =
