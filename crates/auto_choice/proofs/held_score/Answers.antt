@@ -4,4 +4,4 @@ use Rattle.auto_choice.proofs.held_score.Goals as goal
 
 pub returns-in-Nothing : goal.returns-in-Nothing
 unfolding div of_bits
-returns-in-Nothing c = rw c.enum_told-1.given.1
+returns-in-Nothing c = rw c.in-Nothing.is
