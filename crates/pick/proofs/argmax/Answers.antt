@@ -15,7 +15,7 @@ loop-i-preserved c =
       omega arith,
       elim c.if-v-best.branch [ then-v-best w ↦ omega arith | else-v-best w ↦ omega arith ],
       elim c.if-v-best.branch [
-        then-v-best w ↦ argmax_turn v c.loop-i.best c.if-v-best.best c.loop-i.i true c.loop-i.invariant.2 w.if-v-best.true w.best-is
+        | then-v-best w ↦ argmax_turn v c.loop-i.best c.if-v-best.best c.loop-i.i true c.loop-i.invariant.2 w.if-v-best.true w.best-is
         | else-v-best w ↦ argmax_turn v c.loop-i.best c.if-v-best.best c.loop-i.i false c.loop-i.invariant.2 w.if-v-best.false w.best-is
       ],
     )

@@ -15,7 +15,7 @@ loop-i-preserved c =
       omega arith,
       elim c.if-v-i.branch [ then-v-i w ↦ omega arith | else-v-i w ↦ omega arith ],
       elim c.if-v-i.branch [
-        then-v-i w ↦ argmin_turn v c.loop-i.best c.if-v-i.best c.loop-i.i true c.loop-i.invariant.2 w.if-v-i.true w.best-is
+        | then-v-i w ↦ argmin_turn v c.loop-i.best c.if-v-i.best c.loop-i.i true c.loop-i.invariant.2 w.if-v-i.true w.best-is
         | else-v-i w ↦ argmin_turn v c.loop-i.best c.if-v-i.best c.loop-i.i false c.loop-i.invariant.2 w.if-v-i.false w.best-is
       ],
     )

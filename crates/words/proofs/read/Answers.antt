@@ -1,6 +1,5 @@
 -- `words::read` meets its contract.
 use mathlib.Core.Path.{refl, ◌∙◌}
-use mathlib.Core.Logic.{⊎_elim}
 use native.Mathlib.Omega.{arith}
 use lib.ListN.{length}
 use Rattle.words.proofs.Parts.{within}
@@ -24,9 +23,9 @@ loop-i-preserved c =
     let a = c.args in
     let e = c.digit-d.ensures in
     elim c.if-d-lt16.branch [
-      then-d-lt16 w ↦ digit_turn a.text.now _ l.to l.n l.x l.i _ _ _ _ l.invariant (omega arith) e w.if-d-lt16.true w.to-is w.n-is w.x-is
+      | then-d-lt16 w ↦ digit_turn a.text.now _ l.to l.n l.x l.i _ _ _ _ l.invariant (omega arith) e w.if-d-lt16.true w.to-is w.n-is w.x-is
       | else-d-lt16 w ↦ word_turn a.text.now _ l.to l.n l.x l.i _ _ _ _ l.invariant (omega arith)
-            (omega (arith, c.if-n-to.false)) e w.if-d-lt16.false w.to-is w.n-is w.x-is
+          (omega (arith, c.if-n-to.false)) e w.if-d-lt16.false w.to-is w.n-is w.x-is
     ]
 
 pub returns : goal.returns
