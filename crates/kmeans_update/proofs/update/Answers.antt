@@ -2,7 +2,6 @@
 -- accumulate; update_groups goes on from there. Assumes nothing.
 use mathlib.Core.Path.{◌≡◌, ap, ◌∙◌}
 use mathlib.Core.List.{List}
-use mathlib.Core.Logic.{⊎_elim}
 use lib.ListN.{length}
 use lib.Ieee.{Float}
 use Rattle.kmeans_layout.specs.State.{State}
@@ -10,7 +9,7 @@ use Rattle.kmeans_update.specs.Update.{refreshed}
 use Rattle.kmeans_layout.specs.Areas.{state_in, sums_in, counts_in}
 use Rattle.kmeans_layout.proofs.Sizes.{sized_of, labelled_of}
 use Rattle.kmeans_update.proofs.Whole.{refresh_made, refresh_left, update_done}
-use Rattle.kmeans_update.proofs.update.Goals.{Joined-has_empty}
+use Rattle.kmeans_update.proofs.update.Goals.{Joined-has_empty, then-has_empty, else-has_empty}
 use Rattle.kmeans_update.proofs.update.Goals as goal
 
 -- where the two ways meet
@@ -29,20 +28,20 @@ refreshed_at j =
     let s = state_in a.m a.k a.d w₁ u₁ in
     let counts = counts_in a.m a.k u₁ in
     let h = j.has_empty in
-    ⊎_elim
-    (λ w. (
-      ap length w.6 ∙ w.3.kept.0,
-      ap (λ (l : List Float). state_in a.m a.k a.d l u₁) w.6
-          ∙ refresh_made a.coords.now a.m a.k a.d counts s _ h.result h.ensures w.0.taken w.3.ensures.0,
-      ap (λ (l : List Float). sums_in a.k a.d l) w.6 ∙ w.3.ensures.1,
-    ))
-    (λ w. (
-      ap length w.1,
-      ap (λ (l : List Float). state_in a.m a.k a.d l u₁) w.1
-          ∙ refresh_left a.coords.now a.m a.k a.d counts s s h.result h.ensures w.0.left,
-      ap (λ (l : List Float). sums_in a.k a.d l) w.1,
-    ))
-    j.if-has_empty.branch
+    elim j.if-has_empty.branch [
+      | then-has_empty w ↦ (
+        ap length w.work-is ∙ w.refresh.auto.work,
+        ap (λ (l : List Float). state_in a.m a.k a.d l u₁) w.work-is
+            ∙ refresh_made a.coords.now a.m a.k a.d counts s _ h.result h.ensures w.if-has_empty.true w.refresh.ensures.work_u32_after,
+        ap (λ (l : List Float). sums_in a.k a.d l) w.work-is ∙ w.refresh.ensures.work_unchanged,
+      )
+      | else-has_empty w ↦ (
+        ap length w.work-is,
+        ap (λ (l : List Float). state_in a.m a.k a.d l u₁) w.work-is
+            ∙ refresh_left a.coords.now a.m a.k a.d counts s s h.result h.ensures w.if-has_empty.false,
+        ap (λ (l : List Float). sums_in a.k a.d l) w.work-is,
+      )
+    ]
 
 pub refresh-requires : goal.refresh-requires
 refresh-requires c =
@@ -56,8 +55,8 @@ refresh-requires c =
 pub update_groups-requires : goal.update_groups-requires
 update_groups-requires c =
     let a = c.args in
-    sized_of _ _ _ _ (length a.coords.now) a.m a.k a.d ((refreshed_at (goal.at.update_groups-requires c).Joined-has_empty).0 ∙ c.accumulate.auto.work) c.accumulate.auto.work_u32
-    c.requires.sized
+    let same = (refreshed_at (goal.at.update_groups-requires c).Joined-has_empty).0 ∙ c.accumulate.auto.work in
+    sized_of _ _ _ _ (length a.coords.now) a.m a.k a.d same c.accumulate.auto.work_u32 c.requires.sized
 
 pub shape_of-work : goal.shape_of-work
 shape_of-work c =
@@ -66,6 +65,7 @@ shape_of-work c =
 pub returns : goal.returns
 returns c =
     let a = c.args in
+    let at = refreshed_at (goal.at.returns c).Joined-has_empty in
     update_done a.weights.now a.coords.now a.m a.k a.d a.work.now c.accumulate.new.work c.if-has_empty.work
     a.work_u32.now c.accumulate.new.work_u32 _
-    c.accumulate.ensures (refreshed_at (goal.at.returns c).Joined-has_empty).1 (refreshed_at (goal.at.returns c).Joined-has_empty).2 c.update_groups.ensures
+    c.accumulate.ensures at.1 at.2 c.update_groups.ensures
