@@ -13,7 +13,7 @@ use Rattle.kmeans_lloyd.proofs.leaf_norms.Goals.{After-four_norms-n, In-loop-i-2
 use Rattle.kmeans_lloyd.proofs.leaf_norms.Goals as goal
 
 -- the row of leaf i, in a turn of the second loop
-row_of_law : (c : In-loop-i-22 decreases-loop2) → let a = c.args in
+row_of_law : (c : In-loop-i-2) → let a = c.args in
     c.loop-i-2.i * a.d + a.d ≤ a.m * a.d
 row_of_law c = let a = c.args in row_within c.loop-i-2.i a.m a.d (omega arith)
 
@@ -27,7 +27,7 @@ four_norms-n-requires c =
     omega (arith, mul-le-mul_right c.args.d h, c.requires.1)
 
 -- four places more are within the area
-four_within : (c : After-four_norms-n2 decreases-loop2) → c.scale_at-scale.result + c.loop-i.i + 4 ≤ length c.loop-i.work
+four_within : (c : After-four_norms-n) → c.scale_at-scale.result + c.loop-i.i + 4 ≤ length c.loop-i.work
 four_within c =
     omega (arith, c.loop-i-test.true, c.loop-i.invariant.0, c.loop-i.invariant.1, c.scale_at-scale.ensures, c.requires.0.work_long)
 
@@ -66,25 +66,25 @@ returns c =
     (l.invariant.2 u s g (c.loop-i.invariant.2 u s g (norms_start a.coords.now a.d s)))
 
 pub bounds-work-to : goal.bounds-work-to
-bounds-work-to c = omega (arith, four_within c)
+bounds-work-to c = omega (arith, four_within (goal.at.bounds-work-to c).After-four_norms-n)
 
 pub bounds-work-to-in-loop-i : goal.bounds-work-to-in-loop-i
-bounds-work-to-in-loop-i c = simp length-set (omega (arith, four_within c))
+bounds-work-to-in-loop-i c = simp length-set (omega (arith, four_within (goal.at.bounds-work-to-in-loop-i c).After-four_norms-n))
 
 pub bounds-work-to-in-loop-i-2 : goal.bounds-work-to-in-loop-i-2
-bounds-work-to-in-loop-i-2 c = simp length-set (omega (arith, four_within c))
+bounds-work-to-in-loop-i-2 c = simp length-set (omega (arith, four_within (goal.at.bounds-work-to-in-loop-i-2 c).After-four_norms-n))
 
 pub bounds-work-to-in-loop-i-3 : goal.bounds-work-to-in-loop-i-3
-bounds-work-to-in-loop-i-3 c = simp length-set (omega (arith, four_within c))
+bounds-work-to-in-loop-i-3 c = simp length-set (omega (arith, four_within (goal.at.bounds-work-to-in-loop-i-3 c).After-four_norms-n))
 
 pub overflow_mul-at : goal.overflow_mul-at
-overflow_mul-at c = search (row_of_law c, rules)
+overflow_mul-at c = search (row_of_law (goal.at.overflow_mul-at c).In-loop-i-2, rules)
 
 pub overflow_add-at : goal.overflow_add-at
-overflow_add-at c = search (row_of_law c, rules)
+overflow_add-at c = search (row_of_law (goal.at.overflow_add-at c).In-loop-i-2, rules)
 
 pub offset_bounds-coords-at : goal.offset_bounds-coords-at
-offset_bounds-coords-at c = search (row_of_law c, rules)
+offset_bounds-coords-at c = search (row_of_law (goal.at.offset_bounds-coords-at c).In-loop-i-2, rules)
 
 pub slice_bounds-norm-end : goal.slice_bounds-norm-end
-slice_bounds-norm-end c = search (row_of_law c, rules)
+slice_bounds-norm-end c = search (row_of_law (goal.at.slice_bounds-norm-end c).In-loop-i-2, rules)
