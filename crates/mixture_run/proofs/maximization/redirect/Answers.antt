@@ -1,6 +1,5 @@
 -- `mixture_run::maximization::redirect` meets its contract.
 use mathlib.Core.Path.{◌≡◌, refl, ap, ◌∙◌}
-use mathlib.Core.Logic.{⊎_elim}
 use Prim.Native.Nat.{ℕ, ◌+◌, ◌*◌, ◌≤◌}
 use native.Mathlib.Omega.{arith}
 use lib.ListN.{length}
@@ -9,7 +8,7 @@ use Rattle.rows.proofs.Rows.{row_within}
 use Rattle.mixture_run.specs.Areas.{parts_in, norms_at, total}
 use Rattle.mixture_run.proofs.Directions.{directions_done, directions_start, directed, direction_kept}
 use borrow.Author.Rules.{rules}
-use Rattle.mixture_run.proofs.maximization.redirect.Goals.{In-loop-c}
+use Rattle.mixture_run.proofs.maximization.redirect.Goals.{In-loop-c, then-n, else-n}
 use Rattle.mixture_run.proofs.maximization.redirect.Goals as goal
 
 -- the row of a turn
@@ -44,13 +43,16 @@ loop-c-preserved c =
     let place : at ≡ norms_at a.k a.d + l.c = omega (arith, c.norms_at-norms.ensures) in
     let long : total a.m a.k a.d ≤ length l.work = omega (arith, l.invariant.1, c.requires.area.work_long) in (
       omega (arith, h),
-      ⊎_elim (λ w. ap length w.5 ∙ w.2.kept.0 ∙ l.invariant.1) (λ w. ap length w.1 ∙ l.invariant.1) c.if-n.branch,
-      ⊎_elim
-          (λ w. directed a.m a.k a.d p l.work l.c h long c.requires.work_value l.invariant.2 at place c.if-n.work w.0.taken
-          (w.5 ∙ w.2.ensures))
-          (λ w. direction_kept a.m a.k a.d p l.work l.c h long c.requires.work_value l.invariant.2 at place c.if-n.work w.0.left
-          w.1)
-          c.if-n.branch,
+      elim c.if-n.branch [
+        then-n w ↦ ap length w.work-is ∙ w.divide_within.auto.w ∙ l.invariant.1
+      | else-n w ↦ ap length w.work-is ∙ l.invariant.1
+      ],
+      elim c.if-n.branch [
+        then-n w ↦ directed a.m a.k a.d p l.work l.c h long c.requires.work_value l.invariant.2 at place c.if-n.work
+            w.if-n.true (w.work-is ∙ w.divide_within.ensures)
+      | else-n w ↦ direction_kept a.m a.k a.d p l.work l.c h long c.requires.work_value l.invariant.2 at place c.if-n.work
+            w.if-n.false w.work-is
+      ],
     )
 
 pub returns : goal.returns
