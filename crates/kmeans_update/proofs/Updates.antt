@@ -177,7 +177,8 @@ module _ (m k d : ℕ) (coords w : List Float) (c worst : ℕ) (r w' : List Floa
   marked_sums : sums_in k d marked ≡ sums_in k d (written m k d w c r group long full)
   marked_sums = rw place (set_served_sums m k d (written m k d w c r group long full) worst best_served below)
 
-  marked_state : (u : List ℕ) → state_in m k d marked u ≡ put_served (set (state_in m k d w u).served worst best_served) (state_in m k d w u)
+  marked_state : (u : List ℕ)
+      → state_in m k d marked u ≡ put_served (set (state_in m k d w u).served worst best_served) (state_in m k d w u)
   unfolding put_served
   marked_state u =
       rw place

@@ -1,6 +1,7 @@
 -- Document 01, 'Spherical k-means': the update of a round of `spherical_lloyd`: new centres, and reseeds of empty
 -- groups. Definitions only.
-use Rattle.std.specs.Prelude.{List, [], ◌∷◌, ◌++◌, Bool, false, ◌||◌, cond, ℕ, zero, suc, ◌+◌, ◌*◌, eqb, get_or, set, Float}
+use Rattle.std.specs.Prelude.{List, [], ◌∷◌, ◌++◌, Bool, false, ◌||◌, cond, ℕ, zero, suc, ◌+◌, ◌*◌, eqb, get_or, set}
+use Rattle.std.specs.Prelude.{Float}
 use Rattle.std.specs.Float.{inf}
 use Rattle.rows.specs.Rows.{row_of, put_part}
 use Rattle.vector.specs.Vectors.{dot_of, unit_vector}

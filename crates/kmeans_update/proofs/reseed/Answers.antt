@@ -38,7 +38,8 @@ worst_small p =
 
 pub bounds-work-served : goal.bounds-work-served
 bounds-work-served c =
-    omega (arith, (leaf_at (goal.at.bounds-work-served c).After-argmin-worst).below, c.requires.leafed.area.work_long, kept_at (goal.at.bounds-work-served c).After-unit, c.served_at-served.ensures)
+    let p = goal.at.bounds-work-served c in
+    omega (arith, (leaf_at p.After-argmin-worst).below, c.requires.leafed.area.work_long, kept_at p.After-unit, c.served_at-served.ensures)
 
 pub move_center-requires : goal.move_center-requires
 move_center-requires c =
@@ -62,7 +63,8 @@ returns c =
     let r = c.unit.new.to in
     let z = c.requires.leafed in record {
       by_index = reseed_done a.m a.k a.d a.coords.now a.work.now a.c c.argmin-worst.result r c.move_center.new.work c.requires.group_of
-          z.area.sizes.m_some z.area.work_long (full_at (goal.at.returns c).After-unit) at.result at.ensures c.argmin-worst.ensures c.unit.ensures
+          z.area.sizes.m_some z.area.work_long (full_at (goal.at.returns c).After-unit) at.result at.ensures c.argmin-worst.ensures
+          c.unit.ensures
           c.move_center.ensures.by_index;
       later_rows = reseed_later a.m a.k a.d a.coords.now a.work.now a.c c.argmin-worst.result r c.move_center.new.work c.requires.group_of
           z.area.sizes.m_some z.area.work_long (full_at (goal.at.returns c).After-unit) at.result at.ensures c.argmin-worst.ensures
@@ -76,10 +78,13 @@ pub overflow_add-row : goal.overflow_add-row
 overflow_add-row c = omega (arith, (leaf_at (goal.at.overflow_add-row c).After-argmin-worst).row, c.requires.leafed.area.sizes.md_small)
 
 pub offset_bounds-coords-row : goal.offset_bounds-coords-row
-offset_bounds-coords-row c = omega (arith, (leaf_at (goal.at.offset_bounds-coords-row c).After-argmin-worst).row, c.requires.leafed.area.sizes.md_small, c.requires.leafed.coords_long)
+offset_bounds-coords-row c =
+    let z = c.requires.leafed in
+    omega (arith, (leaf_at (goal.at.offset_bounds-coords-row c).After-argmin-worst).row, z.area.sizes.md_small, z.coords_long)
 
 pub slice_bounds-unit-end-2 : goal.slice_bounds-unit-end-2
-slice_bounds-unit-end-2 c = omega (arith, (leaf_at (goal.at.slice_bounds-unit-end-2 c).After-argmin-worst).row, c.requires.leafed.coords_long)
+slice_bounds-unit-end-2 c =
+    omega (arith, (leaf_at (goal.at.slice_bounds-unit-end-2 c).After-argmin-worst).row, c.requires.leafed.coords_long)
 
 pub overflow_add-work : goal.overflow_add-work
 overflow_add-work c = omega (arith, worst_small (goal.at.overflow_add-work c).After-argmin-worst)
