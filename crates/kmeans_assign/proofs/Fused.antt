@@ -17,8 +17,8 @@ use Rattle.kmeans_nearest.specs.declared.Best.{Best}
 use Rattle.kmeans_bounds.specs.declared.Bounds.{Bounds}
 use Rattle.kmeans_bounds.specs.declared.Slowest.{Slowest}
 use Rattle.kmeans_layout.specs.State.{State}
-use Rattle.kmeans_assign.specs.Pass.{Pass, bounds_at, put_bounds, put_label, shift_leaf, shift_up_to, bounds_by, best_of, put_best, more_made}
-use Rattle.kmeans_assign.specs.Pass.{pass_leaf, pass_up_to}
+use Rattle.kmeans_assign.specs.Pass.{Pass, bounds_at, put_bounds, put_label, shift_leaf, shift_up_to, bounds_by, best_of, put_best}
+use Rattle.kmeans_assign.specs.Pass.{more_made, pass_leaf, pass_up_to}
 use Rattle.kmeans_layout.specs.Areas.{state_in, total, Labelled}
 use Rattle.kmeans_assign.specs.Turns.{Spent, LeafPlaced, LeafPassed, tallied, passed}
 use Rattle.kmeans_assign.specs.declared.Passed.{Passed}
@@ -120,7 +120,7 @@ module _ (coords : List Float) (k d it : ℕ) (t : Slowest) (s : State) where
 module _ (k i : ℕ) (x : Bounds) (s : State) where
   best_anew : (b : Best) → lt plus_zero (get_or s.scale i nan) ≡ true → put_best k i b (put_bounds i x s) ≡ put_best k i b s
   unfolding put_bounds put_label
-  best_anew b e = rw (e, set-set, set-set)
+  best_anew b e = rw e (simp set-set)
 
   bounds_same : x.scale ≡ get_or s.scale i nan → i < length s.low → i < length s.high → bounds_at (put_bounds i x s) i ≡ x
   unfolding put_bounds

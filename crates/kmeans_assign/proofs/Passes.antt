@@ -21,8 +21,8 @@ use Rattle.kmeans_bounds.specs.declared.Bounds.{Bounds}
 use Rattle.kmeans_bounds.specs.declared.Slowest.{Slowest}
 use Rattle.kmeans_nearest.proofs.Nearest.{best_below}
 use Rattle.kmeans_layout.specs.State.{State}
-use Rattle.kmeans_assign.specs.Pass.{Pass, bounds_at, put_bounds, put_label, shift_leaf, shift_up_to, shifted_for, bounds_by, best_of, put_best}
-use Rattle.kmeans_assign.specs.Pass.{more_made, more_saved, pass_up_to, pass_of}
+use Rattle.kmeans_assign.specs.Pass.{Pass, bounds_at, put_bounds, put_label, shift_leaf, shift_up_to, shifted_for, bounds_by, best_of}
+use Rattle.kmeans_assign.specs.Pass.{put_best, more_made, more_saved, pass_up_to, pass_of}
 use Rattle.kmeans_layout.specs.Areas.{state_in, drift_at, served_at, Area, Labelled}
 use Rattle.kmeans_assign.specs.Turns.{LeafPlaced, LeafPassed, tallied, passed}
 use Rattle.kmeans_assign.specs.declared.Passed.{Passed}

@@ -1,6 +1,7 @@
 -- Document 01, 'Spherical k-means': the bounds' shift and the assignment pass of a round of `spherical_lloyd`, with the
 -- products that it makes and saves. Definitions only.
-use Rattle.std.specs.Prelude.{List, Bool, true, false, not, ◌||◌, cond, ℕ, zero, suc, ◌+◌, ◌-◌, eqb, ltb, get_or, set, Float}
+use Rattle.std.specs.Prelude.{List, Bool, true, false, not, ◌||◌, cond, ℕ, zero, suc, ◌+◌, ◌-◌, eqb, ltb, get_or, set}
+use Rattle.std.specs.Prelude.{Float}
 use Rattle.std.specs.Float.{nan, inf, binary64}
 use Rattle.std.specs.Float.Ieee.{div, lt}
 use Rattle.float.specs.Arithmetic.{plus_zero}

@@ -5,7 +5,8 @@
 ghost use Rattle.std.specs.Prelude.{◌≡◌, true, List, ℕ, ◌<◌, ◌≤◌, length, get_or};
 ghost use Rattle.counts.specs.Counts.{AtMost, of_round};
 ghost use Rattle.kmeans_bounds.specs.Shifts.{slowest_of, other_than};
-ghost use Rattle.kmeans_assign.specs.Pass.{bounds_at, put_bounds, shift_leaf, shift_up_to, bounds_by, pass_up_to, pass_of};
+ghost use Rattle.kmeans_assign.specs.Pass.{bounds_at, put_bounds, shift_leaf, shift_up_to, bounds_by};
+ghost use Rattle.kmeans_assign.specs.Pass.{pass_up_to, pass_of};
 ghost use Rattle.kmeans_layout.specs.Areas.{state_in, Sized, LeafOf, Labelled, Area};
 ghost use Rattle.kmeans_assign.specs.Turns.{Spent, LeafPlaced, LeafPassed, tallied, passed};
 

@@ -11,8 +11,9 @@ use Rattle.kmeans_assign.proofs.assign.Given as goal
 abbrev pub invariant-loop-i : goal.invariant-loop-i
 invariant-loop-i l =
     (l.i ≤ l.m) × Sized (length l.work) (length l.work_u32) (length l.coords) l.m l.k l.d
-    × (passed (state_in l.m l.k l.d l.work l.work_u32) l.p ≡ pass_up_to l.coords l.k l.d l.it (state_in l.m l.k l.d l.initial.work l.initial.work_u32) l.i) × (length l.work ≡ length l.initial.work)
-    × (length l.work_u32 ≡ length l.initial.work_u32)
+    × (passed (state_in l.m l.k l.d l.work l.work_u32) l.p
+    ≡ pass_up_to l.coords l.k l.d l.it (state_in l.m l.k l.d l.initial.work l.initial.work_u32) l.i)
+    × (length l.work ≡ length l.initial.work) × (length l.work_u32 ≡ length l.initial.work_u32)
 
 abbrev pub decreases-loop-i : goal.decreases-loop-i
 decreases-loop-i l = l.m - l.i

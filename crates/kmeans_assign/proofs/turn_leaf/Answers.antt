@@ -27,8 +27,8 @@ returns-then-is_spent c =
     let a = c.args in
     leaf_anew a.m a.k a.d a.work.now a.work_u32.now a.coords.now a.it a.i a.t _ _ c.other_drift-other.result
     c.bounds_at-b.result c.place_leaf.result
-    c.requires.sized.work_long c.requires.leaf_of.0.below (own_at (goal.at.returns-then-is_spent c).After-drift_at-drift) c.other_drift-other.ensures (c.bounds_at-b.ensures a.work_u32.now)
-    (c.is_spent.ensures c.if-is_spent.true)
+    c.requires.sized.work_long c.requires.leaf_of.0.below (own_at (goal.at.returns-then-is_spent c).After-drift_at-drift)
+    c.other_drift-other.ensures (c.bounds_at-b.ensures a.work_u32.now) (c.is_spent.ensures c.if-is_spent.true)
     c.place_leaf.ensures
 
 pub assign_leaf-requires : goal.assign_leaf-requires
@@ -45,8 +45,8 @@ returns c =
     let e : state_in a.m a.k a.d c.put_bounds.new.work a.work_u32.now ≡ shift_leaf a.k a.t a.i s₀ =
     shift_done a.m a.k a.d a.work.now c.put_bounds.new.work a.work_u32.now a.i a.t _ c.other_drift-other.result
     c.bounds_at-b.result c.shifted-s.result
-    c.requires.leaf_of.0.below (own_at (goal.at.returns c).After-drift_at-drift) c.other_drift-other.ensures (c.bounds_at-b.ensures a.work_u32.now) c.shifted-s.ensures
-    (c.put_bounds.ensures a.work_u32.now) in
+    c.requires.leaf_of.0.below (own_at (goal.at.returns c).After-drift_at-drift) c.other_drift-other.ensures
+    (c.bounds_at-b.ensures a.work_u32.now) c.shifted-s.ensures (c.put_bounds.ensures a.work_u32.now) in
     subst
     (λ (x : State). LeafPassed a.coords.now a.k a.d a.it a.i x
     (state_in a.m a.k a.d c.assign_leaf.new.work c.assign_leaf.new.work_u32) c.assign_leaf.result)
