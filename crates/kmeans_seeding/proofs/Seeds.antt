@@ -27,8 +27,8 @@ use Rattle.kmeans_seeding.specs.Seeding.{cosine_distance, cosine_distances_up_to
 use Rattle.kmeans_layout.specs.Areas.{Area, state_in, total, low_at, high_at}
 use Rattle.kmeans_seeding.specs.Distances.{put_low, put_high, put_center, four_cosine_distances, lower_at, lower_four}
 use Rattle.kmeans_seeding.specs.Distances.{first_distances, lowered_by, chanced, Seeding, SeededNext, next_pick}
-use Rattle.kmeans_layout.proofs.Regions.{with_low, with_high, put_low_all, high_are, length_centers, set_low, set_high, get_low, row_centers}
-use Rattle.kmeans_layout.proofs.Regions.{put_row_centers, length_low, length_high}
+use Rattle.kmeans_layout.proofs.Regions.{with_low, with_high, put_low_all, high_are, length_centers, set_low, set_high, get_low}
+use Rattle.kmeans_layout.proofs.Regions.{row_centers, put_row_centers, length_low, length_high}
 
 -- what a seeding asks goes by the length of the area, and holds what is asked of the area alone
 pub seeding_kept : (work work' weights coords m k d : ℕ) → work' ≡ work → Seeding work weights coords m k d
@@ -69,7 +69,8 @@ pub four_done : (m k d : ℕ) (w coords : List Float) (u : List ℕ) (c i : ℕ)
     → f ≡ row_dots (take (c * d + d - c * d) (drop (c * d) w)) coords d i → p ≡ max_of (sub binary64 (number 1) f.x0) plus_zero
     → q ≡ max_of (sub binary64 (number 1) f.x1) plus_zero → r ≡ max_of (sub binary64 (number 1) f.x2) plus_zero
     → t ≡ max_of (sub binary64 (number 1) f.x3) plus_zero
-    → ◌≡◌ {A = Four} (record { x0 = p; x1 = q; x2 = r; x3 = t }) (four_cosine_distances coords d (row_of (state_in m k d w u).centers d c) i)
+    → ◌≡◌ {A = Four} (record { x0 = p; x1 = q; x2 = r; x3 = t })
+    (four_cosine_distances coords d (row_of (state_in m k d w u).centers d c) i)
 four_done m k d w coords u c i h f p q r t e ep eq er et =
     let row = row_of (state_in m k d w u).centers d c in
     let g : take (c * d + d - c * d) (drop (c * d) w) ≡ row = row_cut w d c ∙ row_centers m k d w u c h in
@@ -182,7 +183,8 @@ nearer_inf (inf false) = refl
 nearer_inf (fin s m e) = below_inf (lt (fin s m e) plus_zero) s m e
 
 lowered_inf : (coords : List Float) (d : ℕ) (row : List Float) (i n : ℕ)
-    → cosine_distances_up_to coords d row i ++ lowered coords d row i (replicate n (inf false)) ≡ cosine_distances_up_to coords d row (i + n)
+    → cosine_distances_up_to coords d row i ++ lowered coords d row i (replicate n (inf false))
+    ≡ cosine_distances_up_to coords d row (i + n)
 unfolding cosine_distances_up_to lowered
 lowered_inf coords d row i zero = rw (append-nil, add-zero)
 lowered_inf coords d row i (suc n) =
@@ -194,7 +196,8 @@ lowered_inf coords d row i (suc n) =
 
 pub first_done : (m k d low : ℕ) (w w₁ w₂ coords : List Float) (u : List ℕ) → low ≡ low_at m k d → total m k d ≤ length w
     → w₁ ≡ put_part w low m (replicate m (inf false))
-    → state_in m k d w₂ u ≡ lowered_by coords d 0 (state_in m k d w₁ u) → state_in m k d w₂ u ≡ first_distances coords m d (state_in m k d w u)
+    → state_in m k d w₂ u ≡ lowered_by coords d 0 (state_in m k d w₁ u)
+    → state_in m k d w₂ u ≡ first_distances coords m d (state_in m k d w u)
 unfolding put_low cosine_distances_up_to
 first_done m k d low w w₁ w₂ coords u el t e f =
     let s = state_in m k d w u in

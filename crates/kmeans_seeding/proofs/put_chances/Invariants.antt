@@ -10,7 +10,8 @@ use Rattle.kmeans_seeding.proofs.put_chances.Given as goal
 
 abbrev pub invariant-loop-i : goal.invariant-loop-i
 invariant-loop-i l =
-    (l.i ≤ l.m) × (length l.work ≡ length l.initial.work) × ((u : List ℕ) → state_in l.m l.k l.d l.work u ≡ chancing l.weights l.i (state_in l.m l.k l.d l.initial.work u))
+    (l.i ≤ l.m) × (length l.work ≡ length l.initial.work)
+    × ((u : List ℕ) → state_in l.m l.k l.d l.work u ≡ chancing l.weights l.i (state_in l.m l.k l.d l.initial.work u))
 
 abbrev pub decreases-loop-i : goal.decreases-loop-i
 decreases-loop-i l = l.m - l.i

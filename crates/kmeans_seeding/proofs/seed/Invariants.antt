@@ -10,7 +10,8 @@ use Rattle.kmeans_seeding.proofs.seed.Given as goal
 
 abbrev pub invariant-loop-c : goal.invariant-loop-c
 invariant-loop-c l =
-    (0 < l.c) × (l.c ≤ l.k) × (length l.work ≡ length l.initial.work) × ((u : List ℕ) → Held l.weights l.coords l.m l.d l.generator l.c (state_in l.m l.k l.d l.work u) l.g)
+    (0 < l.c) × (l.c ≤ l.k) × (length l.work ≡ length l.initial.work)
+    × ((u : List ℕ) → Held l.weights l.coords l.m l.d l.generator l.c (state_in l.m l.k l.d l.work u) l.g)
 
 abbrev pub decreases-loop-c : goal.decreases-loop-c
 decreases-loop-c l = l.k - l.c
