@@ -87,7 +87,8 @@ returns-then-r c =
     let s' = state_in a.m a.k a.d c.one_round-r.new.work c.one_round-r.new.work_u32 in
     stops a.weights.now a.coords.now a.m a.k a.d (whole (goal.at.returns-then-r c).Start) (a.rounds - l.it) (a.rounds - (l.it + 1))
     l.it s s' l.c c.plus-c.result c.one_round-r.result (omega (arith, c.loop-it-test.true))
-    c.one_round-r.ensures c.plus-c.ensures l.invariant.6 c.if-r.true (few_at (goal.at.returns-then-r c).After-plus-c) (few_rounds (goal.at.returns-then-r c).After-one_round-r)
+    c.one_round-r.ensures c.plus-c.ensures l.invariant.6 c.if-r.true (few_at (goal.at.returns-then-r c).After-plus-c)
+    (few_rounds (goal.at.returns-then-r c).After-one_round-r)
 
 pub overflow_add-it : goal.overflow_add-it
 overflow_add-it c = omega (arith, few_rounds (goal.at.overflow_add-it c).After-one_round-r)

@@ -14,8 +14,9 @@ invariant-loop-it l =
     (l.it ≤ l.rounds) × Sized (length l.work) (length l.work_u32) (length l.coords) l.m l.k l.d × (length l.work ≡ length l.initial.work)
     × (length l.work_u32 ≡ length l.initial.work_u32)
     × Labelled l.m l.k (state_in l.m l.k l.d l.work l.work_u32) × Few l.it l.c
-    × GoesOn l.weights l.coords l.m l.k l.d (rounds_from l.weights l.coords l.m l.k l.d l.rounds 0 (fresh_run (state_in l.m l.k l.d l.initial.work l.initial.work_u32))) (l.rounds - l.it) l.it
-    (state_in l.m l.k l.d l.work l.work_u32) l.c
+    × GoesOn l.weights l.coords l.m l.k l.d
+    (rounds_from l.weights l.coords l.m l.k l.d l.rounds 0 (fresh_run (state_in l.m l.k l.d l.initial.work l.initial.work_u32)))
+    (l.rounds - l.it) l.it (state_in l.m l.k l.d l.work l.work_u32) l.c
 
 abbrev pub decreases-loop-it : goal.decreases-loop-it
 decreases-loop-it l = l.rounds - l.it

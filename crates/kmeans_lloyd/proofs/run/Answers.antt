@@ -43,6 +43,6 @@ returns c =
           c.lloyd-c.result c.cohesion_of-cohesion.result
           (c.seed-next.ensures a.work_u32.now).0 (c.seed-next.ensures a.work_u32.now).1 c.start.ensures c.lloyd-c.ensures
           c.cohesion_of-cohesion.ensures.0 c.cohesion_of-cohesion.ensures.1;
-      run_left = run_left a.weights.now a.coords.now a.m a.k a.d _ _ _ (labelled_at (goal.at.returns c).After-lloyd-c) c.cohesion_of-cohesion.ensures.1
-          c.cohesion_of-cohesion.ensures.2;
+      run_left = run_left a.weights.now a.coords.now a.m a.k a.d _ _ _ (labelled_at (goal.at.returns c).After-lloyd-c)
+          c.cohesion_of-cohesion.ensures.1 c.cohesion_of-cohesion.ensures.2;
     }
