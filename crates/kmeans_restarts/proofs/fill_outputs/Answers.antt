@@ -71,7 +71,8 @@ returns c =
           (omega arith));
       directions_after = ap (λ (l : List Float). l ++ drop n s.directions.now)
           (c.copy.ensures
-          ∙ centers_at s.m s.k s.d s.work.now s.work_u32.now a b from (from + n - from) (work_from (goal.at.returns c).After-held_at-b) (omega arith));
+          ∙ centers_at s.m s.k s.d s.work.now s.work_u32.now a b from (from + n - from)
+          (work_from (goal.at.returns c).After-held_at-b) (omega arith));
     }
 
 pub overflow_add-b : goal.overflow_add-b

@@ -25,7 +25,8 @@ run_at-r-requires c =
     let v = c.requires.runnable.halves in record {
       runnable = c.requires.runnable;
       d_in_bounds = (
-        free_within a.h.held.second (half a.m a.k a.d) (length a.work.now) _ v.work_long (work_free (goal.at.run_at-r-requires c).After-free_at-b),
+        free_within a.h.held.second (half a.m a.k a.d) (length a.work.now) _ v.work_long
+            (work_free (goal.at.run_at-r-requires c).After-free_at-b),
         free_within a.h.held.second (a.m + a.k) (length a.work_u32.now) _ v.work_u32_long c.free_at-b.ensures,
       );
     }

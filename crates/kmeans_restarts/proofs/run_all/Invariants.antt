@@ -9,7 +9,8 @@ use Rattle.kmeans_restarts.proofs.run_all.Given as goal
 
 abbrev pub invariant-loop-t : goal.invariant-loop-t
 invariant-loop-t l =
-    (1 ≤ l.t) × (l.t ≤ max l.restarts 1) × Runnable (length l.work) (length l.work_u32) (length l.weights) (length l.coords) l.m l.k l.d l.rounds
+    (1 ≤ l.t) × (l.t ≤ max l.restarts 1)
+    × Runnable (length l.work) (length l.work_u32) (length l.weights) (length l.coords) l.m l.k l.d l.rounds
     × Holds (restarts_up_to l.weights l.coords l.m l.k l.d l.rounds l.seed (l.t - 1)) l.work l.work_u32 l.m l.k l.d l.t l.h
     × (length l.work ≡ length l.initial.work) × (length l.work_u32 ≡ length l.initial.work_u32)
 
