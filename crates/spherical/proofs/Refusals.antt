@@ -6,20 +6,7 @@ use lib.Dec.{leb}
 use lib.ListN.{length}
 use lib.Ieee.{Float}
 use borrow.Author.Tests.{leb-true}
-use Rattle.limits.specs.Limits.{
-  need,
-  weight_ok,
-  coordinate_ok,
-  every,
-  work_length,
-  work_u32_length,
-  sizes_ok,
-  groups_ok,
-  rounds_ok,
-  most_rounds,
-  most_restarts,
-  LeavesOk,
-}
+use Rattle.limits.specs.Limits.{work_length, work_u32_length, rounds_ok, most_rounds, most_restarts, LeavesOk}
 use Rattle.limits.specs.Sizes.{Sizes}
 use Rattle.limits.proofs.Limits.{both, admitted, sizes_met, groups_met}
 use Rattle.limits.proofs.Sizes.{sizes_of}

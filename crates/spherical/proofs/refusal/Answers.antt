@@ -7,7 +7,8 @@ use borrow.Author.Tests.{le-leb, lt-leb}
 use Rattle.limits.specs.Limits.{sizes_ok, groups_ok, rounds_ok, most_rounds, most_restarts}
 use Rattle.limits.proofs.Limits.{sizes_met, groups_met}
 use Rattle.spherical.specs.Refusals.{restarts_ok, refusal_of}
-use Rattle.spherical.proofs.refusal.Goals.{Else-not-groups_ok, Else-not-sizes_ok, Else-restarts-gt-MOST_RESTARTS, Else-rounds-gt-MOST_ROUNDS}
+use Rattle.spherical.proofs.refusal.Goals.{Else-not-groups_ok, Else-not-sizes_ok}
+use Rattle.spherical.proofs.refusal.Goals.{Else-restarts-gt-MOST_RESTARTS, Else-rounds-gt-MOST_ROUNDS}
 use Rattle.spherical.proofs.refusal.Goals as goal
 
 sizes_passed : (c : Else-not-sizes_ok) → let a = c.args in sizes_ok (length a.weights.now) a.d (length a.coords.now) ≡ true
@@ -28,16 +29,29 @@ returns-then-not-sizes_ok c = rw (sym c.sizes_ok.ensures ∙ c.if-not-sizes_ok.t
 
 pub returns-then-not-groups_ok : goal.returns-then-not-groups_ok
 unfolding refusal_of
-returns-then-not-groups_ok c = rw (sizes_passed (goal.at.returns-then-not-groups_ok c).Else-not-sizes_ok, sym c.groups_ok.ensures ∙ c.if-not-groups_ok.true)
+returns-then-not-groups_ok c =
+    rw (sizes_passed (goal.at.returns-then-not-groups_ok c).Else-not-sizes_ok, sym c.groups_ok.ensures ∙ c.if-not-groups_ok.true)
 
 pub returns-then-rounds-gt-MOST_ROUNDS : goal.returns-then-rounds-gt-MOST_ROUNDS
 unfolding refusal_of
-returns-then-rounds-gt-MOST_ROUNDS c = rw (sizes_passed (goal.at.returns-then-rounds-gt-MOST_ROUNDS c).Else-not-sizes_ok, groups_passed (goal.at.returns-then-rounds-gt-MOST_ROUNDS c).Else-not-groups_ok, lt-leb _ most_rounds c.if-rounds-gt-MOST_ROUNDS.true)
+returns-then-rounds-gt-MOST_ROUNDS c =
+    let p = goal.at.returns-then-rounds-gt-MOST_ROUNDS c in
+    rw (
+      sizes_passed p.Else-not-sizes_ok,
+      groups_passed p.Else-not-groups_ok,
+      lt-leb _ most_rounds c.if-rounds-gt-MOST_ROUNDS.true,
+    )
 
 pub returns-then-restarts-gt-MOST_RESTARTS : goal.returns-then-restarts-gt-MOST_RESTARTS
 unfolding refusal_of
 returns-then-restarts-gt-MOST_RESTARTS c =
-    rw (sizes_passed (goal.at.returns-then-restarts-gt-MOST_RESTARTS c).Else-not-sizes_ok, groups_passed (goal.at.returns-then-restarts-gt-MOST_RESTARTS c).Else-not-groups_ok, rounds_passed (goal.at.returns-then-restarts-gt-MOST_RESTARTS c).Else-rounds-gt-MOST_ROUNDS, lt-leb _ most_restarts c.if-restarts-gt-MOST_RESTARTS.true)
+    let p = goal.at.returns-then-restarts-gt-MOST_RESTARTS c in
+    rw (
+      sizes_passed p.Else-not-sizes_ok,
+      groups_passed p.Else-not-groups_ok,
+      rounds_passed p.Else-rounds-gt-MOST_ROUNDS,
+      lt-leb _ most_restarts c.if-restarts-gt-MOST_RESTARTS.true,
+    )
 
 pub arrays_ok-requires : goal.arrays_ok-requires
 arrays_ok-requires c =
@@ -48,21 +62,23 @@ arrays_ok-requires c =
 pub returns-then-not-arrays_ok : goal.returns-then-not-arrays_ok
 unfolding refusal_of
 returns-then-not-arrays_ok c =
+    let p = goal.at.returns-then-not-arrays_ok c in
     rw (
-      sizes_passed (goal.at.returns-then-not-arrays_ok c).Else-not-sizes_ok,
-      groups_passed (goal.at.returns-then-not-arrays_ok c).Else-not-groups_ok,
-      rounds_passed (goal.at.returns-then-not-arrays_ok c).Else-rounds-gt-MOST_ROUNDS,
-      restarts_passed (goal.at.returns-then-not-arrays_ok c).Else-restarts-gt-MOST_RESTARTS,
+      sizes_passed p.Else-not-sizes_ok,
+      groups_passed p.Else-not-groups_ok,
+      rounds_passed p.Else-rounds-gt-MOST_ROUNDS,
+      restarts_passed p.Else-restarts-gt-MOST_RESTARTS,
       sym c.arrays_ok.ensures ∙ c.if-not-arrays_ok.true,
     )
 
 pub returns : goal.returns
 unfolding refusal_of
 returns c =
+    let p = goal.at.returns c in
     rw (
-      sizes_passed (goal.at.returns c).Else-not-sizes_ok,
-      groups_passed (goal.at.returns c).Else-not-groups_ok,
-      rounds_passed (goal.at.returns c).Else-rounds-gt-MOST_ROUNDS,
-      restarts_passed (goal.at.returns c).Else-restarts-gt-MOST_RESTARTS,
+      sizes_passed p.Else-not-sizes_ok,
+      groups_passed p.Else-not-groups_ok,
+      rounds_passed p.Else-rounds-gt-MOST_ROUNDS,
+      restarts_passed p.Else-restarts-gt-MOST_RESTARTS,
       sym c.arrays_ok.ensures ∙ c.if-not-arrays_ok.false,
     ) c.leaves_refusal.ensures
