@@ -47,7 +47,7 @@ returns-then-beats c =
     fitted_kept a.weights.now a.coords.now a.d a.k a.s c.four_runs-r.new.work c.four_runs-r.result
     c.four_runs-r.ensures a.t l.result a.ln_total c.score_at-score.result c.beats.result n.result l.ensures
     c.requires.at_most.1 c.score_at-score.ensures c.beats.ensures n.ensures (halves_at (goal.at.returns-then-beats c).After-four_runs-r) (found (goal.at.returns-then-beats c).Start)
-    (arrays x.0 x.1.0 x.1.1.0 x.1.1.1.0 x.1.1.1.1.0 x.1.1.1.1.1.0) c.if-beats.true
+    (arrays x.labels x.responsibilities x.group_weights x.directions x.concentrations x.logw) c.if-beats.true
     c.fill_outputs.ensures
 
 pub returns : goal.returns

@@ -85,8 +85,9 @@ loop-k-preserved c =
 
 -- an array is as long as found
 kept : (c : After-loop-k) → let l = c.loop-k in let a = c.args in
+    let o = arrays a.labels.now a.responsibilities.now a.group_weights.now a.directions.now a.concentrations.now a.logw.now in
     lengths_of (arrays l.labels l.responsibilities l.group_weights l.directions l.concentrations l.logw) (length l.work)
-    (length l.work_u32) ≡ lengths_of (found_here) (length a.work.now) (length a.work_u32.now)
+    (length l.work_u32) ≡ lengths_of o (length a.work.now) (length a.work_u32.now)
 kept c = c.loop-k.invariant.2
 
 pub returns : goal.returns
@@ -97,25 +98,25 @@ returns c =
     (omega (arith, l.invariant.1, c.loop-k-test.false)) l.invariant.3
 
 pub shape_of-labels : goal.shape_of-labels
-shape_of-labels c = ap (λ (l : Lengths). l.labels) (kept c)
+shape_of-labels c = ap (λ (l : Lengths). l.labels) (kept (goal.at.shape_of-labels c).After-loop-k)
 
 pub shape_of-responsibilities : goal.shape_of-responsibilities
-shape_of-responsibilities c = ap (λ (l : Lengths). l.responsibilities) (kept c)
+shape_of-responsibilities c = ap (λ (l : Lengths). l.responsibilities) (kept (goal.at.shape_of-responsibilities c).After-loop-k)
 
 pub shape_of-group_weights : goal.shape_of-group_weights
-shape_of-group_weights c = ap (λ (l : Lengths). l.weights) (kept c)
+shape_of-group_weights c = ap (λ (l : Lengths). l.weights) (kept (goal.at.shape_of-group_weights c).After-loop-k)
 
 pub shape_of-directions : goal.shape_of-directions
-shape_of-directions c = ap (λ (l : Lengths). l.directions) (kept c)
+shape_of-directions c = ap (λ (l : Lengths). l.directions) (kept (goal.at.shape_of-directions c).After-loop-k)
 
 pub shape_of-concentrations : goal.shape_of-concentrations
-shape_of-concentrations c = ap (λ (l : Lengths). l.concentrations) (kept c)
+shape_of-concentrations c = ap (λ (l : Lengths). l.concentrations) (kept (goal.at.shape_of-concentrations c).After-loop-k)
 
 pub shape_of-logw : goal.shape_of-logw
-shape_of-logw c = ap (λ (l : Lengths). l.logw) (kept c)
+shape_of-logw c = ap (λ (l : Lengths). l.logw) (kept (goal.at.shape_of-logw c).After-loop-k)
 
 pub shape_of-work : goal.shape_of-work
-shape_of-work c = ap (λ (l : Lengths). l.work) (kept c)
+shape_of-work c = ap (λ (l : Lengths). l.work) (kept (goal.at.shape_of-work c).After-loop-k)
 
 pub shape_of-work_u32 : goal.shape_of-work_u32
-shape_of-work_u32 c = ap (λ (l : Lengths). l.work_u32) (kept c)
+shape_of-work_u32 c = ap (λ (l : Lengths). l.work_u32) (kept (goal.at.shape_of-work_u32 c).After-loop-k)

@@ -20,36 +20,32 @@ found s =
 
 -- the refusal is the definition's
 refusal_is : (r : After-refusal-code) → let a = r.args in
-    r.refusal-code.result ≡ refusal_of a.weights.now a.coords.now a.d a.k a.s
-    (lengths_of (found_here) (length a.work.now) (length a.work_u32.now))
-refusal_is r = let found_here : Outputs =
+    let o = arrays a.labels.now a.responsibilities.now a.group_weights.now a.directions.now a.concentrations.now a.logw.now in
+    r.refusal-code.result ≡ refusal_of a.weights.now a.coords.now a.d a.k a.s (lengths_of o (length a.work.now) (length a.work_u32.now))
+refusal_is r =
     let a = r.args in
-    arrays a.labels.now a.responsibilities.now a.group_weights.now a.directions.now a.concentrations.now a.logw.now in
-    let a = r.args in
+    let o = arrays a.labels.now a.responsibilities.now a.group_weights.now a.directions.now a.concentrations.now a.logw.now in
     r.refusal-code.ensures
-    ∙ ap (λ (b : Bool). fit_refusal b a.weights.now a.coords.now a.d a.k a.s
-    (lengths_of (found_here) (length a.work.now) (length a.work_u32.now))) r.groups_ok-groups.ensures
+    ∙ ap (λ (b : Bool). fit_refusal b a.weights.now a.coords.now a.d a.k a.s (lengths_of o (length a.work.now) (length a.work_u32.now)))
+    r.groups_ok-groups.ensures
 
 -- past the refusals all is in range
 fittable_at : (c : Else-code-ne0) → let a = c.args in
+    let o = arrays a.labels.now a.responsibilities.now a.group_weights.now a.directions.now a.concentrations.now a.logw.now in
     Fittable (length a.weights.now) (length a.coords.now) (length a.weights.now) a.k a.d a.s.rounds
-    (lengths_of (found_here) (length a.work.now) (length a.work_u32.now))
-fittable_at c = let refusal_is_here : let a = c.args in c.refusal-code.result ≡ refusal_of a.weights.now a.coords.now a.d a.k a.s (lengths_of (found_here) (length a.work.now) (length a.work_u32.now)) =
+    (lengths_of o (length a.work.now) (length a.work_u32.now))
+fittable_at c =
     let a = c.args in
-    c.refusal-code.ensures
-    ∙ ap (λ (b : Bool). fit_refusal b a.weights.now a.coords.now a.d a.k a.s
-    (lengths_of (found_here) (length a.work.now) (length a.work_u32.now))) c.groups_ok-groups.ensures in
-    let found_here : Outputs =
-    let a = c.args in
-    arrays a.labels.now a.responsibilities.now a.group_weights.now a.directions.now a.concentrations.now a.logw.now in
-    let a = c.args in
-    (admitted a.weights.now a.coords.now a.d a.k a.s
-    (lengths_of (found_here) (length a.work.now) (length a.work_u32.now)) (sym (refusal_is_here) ∙ c.if-code-ne0.false)).fittable
+    let o = arrays a.labels.now a.responsibilities.now a.group_weights.now a.directions.now a.concentrations.now a.logw.now in
+    let l = lengths_of o (length a.work.now) (length a.work_u32.now) in
+    let e : c.refusal-code.result ≡ refusal_of a.weights.now a.coords.now a.d a.k a.s l = c.refusal-code.ensures
+        ∙ ap (λ (b : Bool). fit_refusal b a.weights.now a.coords.now a.d a.k a.s l) c.groups_ok-groups.ensures in
+    (admitted a.weights.now a.coords.now a.d a.k a.s l (sym e ∙ c.if-code-ne0.false)).fittable
 
 pub refusal-code-requires : goal.refusal-code-requires
 refusal-code-requires c =
     let a = c.args in
-    λ (e : c.groups_ok_law.result ≡ true). (few a.k (length a.weights.now) (sym c.groups_ok_law.ensures ∙ e)).1
+    λ (e : c.groups_ok-groups.result ≡ true). (few a.k (length a.weights.now) (sym c.groups_ok-groups.ensures ∙ e)).1
 
 pub returns-then-code-ne0 : goal.returns-then-code-ne0
 returns-then-code-ne0 c =
@@ -79,7 +75,7 @@ returns c =
     let x = c.fill_outputs.new in
     let d = done (found (goal.at.returns c).Start) a.weights.now a.coords.now a.d a.k a.s (length a.work.now) (length a.work_u32.now)
     c.refusal-code.result (refusal_is (goal.at.returns c).After-refusal-code) c.if-code-ne0.false c.four_runs-r.new.work c.four_runs-r.result l.result
-    (arrays x.0 x.1.0 x.1.1.0 x.1.1.1.0 x.1.1.1.1.0 x.1.1.1.1.1.0) c.four_runs-r.ensures l.ensures
+    (arrays x.labels x.responsibilities x.group_weights x.directions x.concentrations x.logw) c.four_runs-r.ensures l.ensures
     c.fill_outputs.ensures in record {
       logw_after = d;
       answers_with = number_is (found (goal.at.returns c).Start) a.weights.now a.coords.now a.d a.k a.s (length a.work.now)
