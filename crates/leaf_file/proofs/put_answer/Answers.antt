@@ -2,10 +2,10 @@
 use Rattle.leaf_file.proofs.put_answer.Goals as goal
 
 pub returns-in-Refused : goal.returns-in-Refused
-returns-in-Refused c = rw c.r-1.given.1 c.put_refused.ensures
+returns-in-Refused c = rw c.in-Refused.is c.put_refused.ensures
 
 pub returns-in-Unscored : goal.returns-in-Unscored
-returns-in-Unscored c = rw c.enum_told-1.given.1 c.put_refused-in-Unscored.ensures
+returns-in-Unscored c = rw c.in-Unscored.is c.put_refused-in-Unscored.ensures
 
 pub returns-in-Done : goal.returns-in-Done
-returns-in-Done c = rw c.r-in-Done-1.given.1 c.put_groups.ensures
+returns-in-Done c = rw c.in-Done.is c.put_groups.ensures
