@@ -7,4 +7,7 @@ pub returns : goal.returns
 unfolding lib.Ieee.of_bits
 returns c =
     let a = c.args in
-    let e = c.movmf_auto.ensures in let both = fit_by a.weights.now a.coords.now a.d a.labels.now _ _ _ _ _ _ _ refl refl refl refl refl refl refl _ e.0 e.1.0 in record { fact = both.0; leaves_keep_best = both.1 }
+    let e = c.movmf_auto.ensures in
+    let both = fit_by a.weights.now a.coords.now a.d a.labels.now _ _ _ _ _ _ _ refl refl refl refl refl refl refl _ e.logw_after
+    e.answer_keeps_best in
+    record { fact = both.0; leaves_keep_best = both.1 }

@@ -44,7 +44,8 @@ pub returns : goal.returns
 returns c =
     let a = c.args in
     let f : ℕ → Float = λ (i : ℕ). f64_at a.bytes.now (8 + 8 * i) in
-    let g : ℕ → Float = λ (i : ℕ). f64_at a.bytes.now (8 + 8 * a.m + 8 * i) in let both = fit_read a.bytes.now a.m a.d a.labels.now _ _ _
-    (front_read f a.weights.now _ a.m c.requires.leaves c.load.ensures)
-    (front_read g a.coords.now _ (a.m * a.d) c.requires.numbers c.load-2.ensures)
-    c.fit_leaves.ensures in record { fact = both.0; leaves_keep_best = both.1 }
+    let g : ℕ → Float = λ (i : ℕ). f64_at a.bytes.now (8 + 8 * a.m + 8 * i) in
+    let e = c.fit_leaves.ensures in
+    let both = fit_read a.bytes.now a.m a.d a.labels.now _ _ _ (front_read f a.weights.now _ a.m c.requires.leaves c.load.ensures)
+    (front_read g a.coords.now _ (a.m * a.d) c.requires.numbers c.load-2.ensures) (e.fact, e.leaves_keep_best) in
+    record { fact = both.0; leaves_keep_best = both.1 }

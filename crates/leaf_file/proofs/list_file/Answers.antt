@@ -27,4 +27,6 @@ pub returns : goal.returns
 returns c =
     let a = c.args in
     let f = c.fit_file-r in
-    let m = c.shops-m in let both = list_end a.bytes.now a.out.now _ _ m.result c.put_answer.result f.ensures.fact m.ensures.1 c.put_answer.ensures in record { value = both.0; counted = both.1 }
+    let m = c.shops-m in
+    let both = list_end a.bytes.now a.out.now _ _ m.result c.put_answer.result f.ensures.fact m.ensures.1 c.put_answer.ensures in
+    record { value = both.0; counted = both.1 }
