@@ -44,13 +44,13 @@ loop-c-preserved c =
     let long : total a.m a.k a.d ≤ length l.work = omega (arith, l.invariant.1, c.requires.area.work_long) in (
       omega (arith, h),
       elim c.if-n.branch [
-        then-n w ↦ ap length w.work-is ∙ w.divide_within.auto.w ∙ l.invariant.1
-      | else-n w ↦ ap length w.work-is ∙ l.invariant.1
+        | then-n w ↦ ap length w.work-is ∙ w.divide_within.auto.w ∙ l.invariant.1
+        | else-n w ↦ ap length w.work-is ∙ l.invariant.1
       ],
       elim c.if-n.branch [
-        then-n w ↦ directed a.m a.k a.d p l.work l.c h long c.requires.work_value l.invariant.2 at place c.if-n.work
+        | then-n w ↦ directed a.m a.k a.d p l.work l.c h long c.requires.work_value l.invariant.2 at place c.if-n.work
             w.if-n.true (w.work-is ∙ w.divide_within.ensures)
-      | else-n w ↦ direction_kept a.m a.k a.d p l.work l.c h long c.requires.work_value l.invariant.2 at place c.if-n.work
+        | else-n w ↦ direction_kept a.m a.k a.d p l.work l.c h long c.requires.work_value l.invariant.2 at place c.if-n.work
             w.if-n.false w.work-is
       ],
     )
