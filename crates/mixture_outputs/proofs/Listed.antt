@@ -42,7 +42,8 @@ label_below l at n v h g e =
 
 -- ---- ln weight + log normalizer of group c
 pub logw_is : (m k d : ℕ) (w : List Float) (c p q : ℕ) (x y : Float) → c < k → p ≡ weights_at k d → q ≡ kappas_at k d
-    → x ≡ ln_weight (get_or w (p + c) nan) → y ≡ log_norm_of d (get_or w (q + c) nan) → add binary64 x y ≡ logw_at d (model_of (parts_in m k d w)) c
+    → x ≡ ln_weight (get_or w (p + c) nan) → y ≡ log_norm_of d (get_or w (q + c) nan)
+    → add binary64 x y ≡ logw_at d (model_of (parts_in m k d w)) c
 logw_is m k d w c p q x y h ep eq e f =
     let r₁ = get_in weights_r m k d w (p + c) c nan (omega arith) h in
     let r₂ = get_in kappas_r m k d w (q + c) c nan (omega arith) h in

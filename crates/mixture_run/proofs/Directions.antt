@@ -143,7 +143,8 @@ module _ (m k d : ℕ) (p₀ : Parts) (w : List Float) (c : ℕ) (h : c < k) (lo
       ∙ ap (λ (q : Parts). with_directions (put_part q.directions (c * d) d v) q) f
       ∙ ap (λ (x : List Float). with_directions (put_part old (c * d) d x) p₀) is)
 
-  pub direction_kept : (w' : List Float) → lt plus_zero (get_or w normAt nan) ≡ false → w' ≡ w → parts_in m k d w' ≡ directions_done d p₀ (c + 1)
+  pub direction_kept : (w' : List Float) → lt plus_zero (get_or w normAt nan) ≡ false → w' ≡ w
+      → parts_in m k d w' ≡ directions_done d p₀ (c + 1)
   unfolding directions_up_to
   direction_kept w' t e =
       let row = row_of p₀.sums d c in

@@ -19,7 +19,8 @@ use Rattle.mixture_run.proofs.Regions.{sums_r, totals_r, resp_r, set_in, get_in,
 use Rattle.mixture_run.proofs.Groups.{fill_in}
 
 -- a row added to another, as the code cuts them
-pub row_added : (w x r : List Float) (v : Float) (to from d : ℕ) → r ≡ add_scaled v (part w to (to + d - to)) (part x from (from + d - from))
+pub row_added : (w x r : List Float) (v : Float) (to from d : ℕ)
+    → r ≡ add_scaled v (part w to (to + d - to)) (part x from (from + d - from))
     → put_part w to (to + d - to) r ≡ put_part w to d (add_scaled v (part w to d) (part x from d))
 row_added w x r v to from d e =
     let f : to + d - to ≡ d = omega arith in
@@ -114,4 +115,5 @@ module _ (weights coords : List Float) (k d : ℕ) (p₀ p₁ : Parts) (e : p₁
   leaves_start = e ∙ ap (λ (q : Parts). leaves_done weights coords k d q 0) (sym e)
 
   pub leaves_end : (p : Parts) (i m : ℕ) → i ≡ m → p ≡ leaves_done weights coords k d p₁ i → p ≡ leaves_done weights coords k d p₀ m
-  leaves_end p i m f g = g ∙ ap (λ (n : ℕ). leaves_done weights coords k d p₁ n) f ∙ ap (λ (q : Parts). leaves_done weights coords k d q m) e
+  leaves_end p i m f g =
+      g ∙ ap (λ (n : ℕ). leaves_done weights coords k d p₁ n) f ∙ ap (λ (q : Parts). leaves_done weights coords k d q m) e

@@ -1,5 +1,6 @@
 -- Document 01, 'Mixture': the rounds of `movmf_once`, in vmf.rs's order of operations. Definitions only.
-use Rattle.std.specs.Prelude.{List, [], ◌++◌, Bool, ◌&&◌, cond, ℕ, zero, suc, ◌+◌, ◌*◌, ltb, get_or, set, replicate, Float}
+use Rattle.std.specs.Prelude.{List, [], ◌++◌, Bool, ◌&&◌, cond, ℕ, zero, suc, ◌+◌, ◌*◌, ltb}
+use Rattle.std.specs.Prelude.{get_or, set, replicate, Float}
 use Rattle.std.specs.Float.{nan, binary64}
 use Rattle.std.specs.Float.Ieee.{add, sub, mul, div, lt, le}
 use Rattle.float.specs.Arithmetic.{f64, number, plus_zero, minus_zero, sum_from, max_of, abs_of}

@@ -9,7 +9,8 @@ use Rattle.mixture_outputs.proofs.put_labels.Given as goal
 
 abbrev pub invariant-loop-i : goal.invariant-loop-i
 invariant-loop-i l =
-    (l.i ≤ l.m) × (length l.labels ≡ length l.initial.labels) × (take l.i l.labels ≡ tabulate (λ (n : ℕ). argmax_of (row_of l.resp l.k n)) l.i)
+    (l.i ≤ l.m) × (length l.labels ≡ length l.initial.labels)
+    × (take l.i l.labels ≡ tabulate (λ (n : ℕ). argmax_of (row_of l.resp l.k n)) l.i)
 
 abbrev pub decreases-loop-i : goal.decreases-loop-i
 decreases-loop-i l = l.m - l.i

@@ -10,7 +10,8 @@ use Rattle.mixture_outputs.proofs.put_logw.Given as goal
 
 abbrev pub invariant-loop-c : goal.invariant-loop-c
 invariant-loop-c l =
-    (l.c ≤ l.k) × (length l.logw ≡ length l.initial.logw) × (take l.c l.logw ≡ tabulate (logw_at l.d (model_of (parts_in l.m l.k l.d l.area))) l.c)
+    (l.c ≤ l.k) × (length l.logw ≡ length l.initial.logw)
+    × (take l.c l.logw ≡ tabulate (logw_at l.d (model_of (parts_in l.m l.k l.d l.area))) l.c)
 
 abbrev pub decreases-loop-c : goal.decreases-loop-c
 decreases-loop-c l = l.k - l.c

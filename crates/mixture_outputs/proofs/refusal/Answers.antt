@@ -30,7 +30,9 @@ returns-then-not-groups c = rw (sizes_passed (goal.at.returns-then-not-groups c)
 pub returns-then-s-gt-MOST_ROUNDS : goal.returns-then-s-gt-MOST_ROUNDS
 unfolding fit_refusal
 returns-then-s-gt-MOST_ROUNDS c =
-    rw (sizes_passed (goal.at.returns-then-s-gt-MOST_ROUNDS c).Else-not-sizes_ok, groups_passed (goal.at.returns-then-s-gt-MOST_ROUNDS c).Else-not-groups, lt-leb _ most_rounds c.if-s-gt-MOST_ROUNDS.true)
+    let sizes = sizes_passed (goal.at.returns-then-s-gt-MOST_ROUNDS c).Else-not-sizes_ok in
+    let groups = groups_passed (goal.at.returns-then-s-gt-MOST_ROUNDS c).Else-not-groups in
+    rw (sizes, groups, lt-leb _ most_rounds c.if-s-gt-MOST_ROUNDS.true)
 
 pub arrays_ok-requires : goal.arrays_ok-requires
 arrays_ok-requires c =
@@ -41,10 +43,16 @@ arrays_ok-requires c =
 pub returns-then-not-arrays_ok : goal.returns-then-not-arrays_ok
 unfolding fit_refusal
 returns-then-not-arrays_ok c =
-    rw (sizes_passed (goal.at.returns-then-not-arrays_ok c).Else-not-sizes_ok, groups_passed (goal.at.returns-then-not-arrays_ok c).Else-not-groups, rounds_passed (goal.at.returns-then-not-arrays_ok c).Else-s-gt-MOST_ROUNDS, sym c.arrays_ok.ensures ∙ c.if-not-arrays_ok.true)
+    let sizes = sizes_passed (goal.at.returns-then-not-arrays_ok c).Else-not-sizes_ok in
+    let groups = groups_passed (goal.at.returns-then-not-arrays_ok c).Else-not-groups in
+    let rounds = rounds_passed (goal.at.returns-then-not-arrays_ok c).Else-s-gt-MOST_ROUNDS in
+    rw (sizes, groups, rounds, sym c.arrays_ok.ensures ∙ c.if-not-arrays_ok.true)
 
 pub returns : goal.returns
 unfolding fit_refusal
 returns c =
-    rw (sizes_passed (goal.at.returns c).Else-not-sizes_ok, groups_passed (goal.at.returns c).Else-not-groups, rounds_passed (goal.at.returns c).Else-s-gt-MOST_ROUNDS, sym c.arrays_ok.ensures ∙ c.if-not-arrays_ok.false)
+    let sizes = sizes_passed (goal.at.returns c).Else-not-sizes_ok in
+    let groups = groups_passed (goal.at.returns c).Else-not-groups in
+    let rounds = rounds_passed (goal.at.returns c).Else-s-gt-MOST_ROUNDS in
+    rw (sizes, groups, rounds, sym c.arrays_ok.ensures ∙ c.if-not-arrays_ok.false)
     c.leaves_refusal.ensures

@@ -10,7 +10,8 @@ use Rattle.mixture_restarts.proofs.first_runs.Given as goal
 abbrev pub invariant-loop-t : goal.invariant-loop-t
 invariant-loop-t l =
     (1 ≤ l.t) × (l.t ≤ 3) × Runnable (length l.work) (length l.work_u32) (length l.weights) (length l.coords) l.m l.k l.d l.s.rounds
-    × Holds (runs_up_to l.s l.weights l.coords l.m l.k l.d (l.t - 1)) l.work l.m l.k l.d l.t l.h × (length l.work ≡ length l.initial.work) × (length l.work_u32 ≡ length l.initial.work_u32)
+    × Holds (runs_up_to l.s l.weights l.coords l.m l.k l.d (l.t - 1)) l.work l.m l.k l.d l.t l.h
+    × (length l.work ≡ length l.initial.work) × (length l.work_u32 ≡ length l.initial.work_u32)
 
 abbrev pub decreases-loop-t : goal.decreases-loop-t
 decreases-loop-t l = 3 - l.t

@@ -15,9 +15,10 @@ free_from f = f.free_at-a.ensures ∙ ap (free_at f.args.second) f.half.ensures
 
 pub run_at-requires : goal.run_at-requires
 run_at-requires c =
-    let a = c.args in record {
+    let a = c.args in
+    let f = free_from (goal.at.run_at-requires c).After-free_at-a in record {
       runnable = c.requires;
-      d_in_bounds = free_within a.second (half a.m a.k a.d) (length a.work.now) _ c.requires.halves.work_long (free_from (goal.at.run_at-requires c).After-free_at-a);
+      d_in_bounds = free_within a.second (half a.m a.k a.d) (length a.work.now) _ c.requires.halves.work_long f;
     }
 
 pub returns : goal.returns

@@ -11,8 +11,9 @@ use Rattle.mixture_run.proofs.concentration.free_kappas.Given as goal
 
 abbrev pub invariant-loop-c : goal.invariant-loop-c
 invariant-loop-c l =
+    let p = parts_in l.m l.k l.d l.initial.work in
     (l.c ≤ l.k) × (length l.work ≡ length l.initial.work)
-    × Written kappas_r (kappa_at l.d (parts_in l.m l.k l.d l.initial.work).norms (parts_in l.m l.k l.d l.initial.work).totals) l.m l.k l.d l.initial.work l.c l.work
+    × Written kappas_r (kappa_at l.d p.norms p.totals) l.m l.k l.d l.initial.work l.c l.work
 
 abbrev pub decreases-loop-c : goal.decreases-loop-c
 decreases-loop-c l = l.k - l.c

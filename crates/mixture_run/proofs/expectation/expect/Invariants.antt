@@ -9,7 +9,8 @@ use Rattle.mixture_run.proofs.expectation.expect.Given as goal
 
 abbrev pub invariant-loop-i : goal.invariant-loop-i
 invariant-loop-i l =
-    (l.i ≤ l.m) × (length l.work ≡ length l.initial.work) × (parts_in l.m l.k l.d l.work ≡ rows_done l.m l.k l.d l.initial.work l.coords l.i)
+    (l.i ≤ l.m) × (length l.work ≡ length l.initial.work)
+    × (parts_in l.m l.k l.d l.work ≡ rows_done l.m l.k l.d l.initial.work l.coords l.i)
 
 abbrev pub decreases-loop-i : goal.decreases-loop-i
 decreases-loop-i l = l.m - l.i

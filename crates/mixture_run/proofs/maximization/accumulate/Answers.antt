@@ -31,7 +31,8 @@ pub loop-i-init : goal.loop-i-init
 loop-i-init c =
     let a = c.args in
     let p = parts_in a.m a.k a.d in
-    (omega arith, refl, leaves_start a.weights.now a.coords.now a.k a.d (p a.work.now) (p (begun (goal.at.loop-i-init c).After-fill_at-2)) (cleared_at (goal.at.loop-i-init c).After-fill_at-2))
+    let f = (goal.at.loop-i-init c).After-fill_at-2 in
+    (omega arith, refl, leaves_start a.weights.now a.coords.now a.k a.d (p a.work.now) (p (begun f)) (cleared_at f))
 
 pub accumulate_leaf-requires : goal.accumulate_leaf-requires
 accumulate_leaf-requires c =
@@ -45,10 +46,11 @@ pub loop-i-preserved : goal.loop-i-preserved
 loop-i-preserved c =
     let l = c.loop-i in
     let a = c.args in
-    let p = parts_in a.m a.k a.d in (
+    let p = parts_in a.m a.k a.d in
+    let f = (goal.at.loop-i-preserved c).After-fill_at-2 in (
       omega (arith, c.loop-i-test.true),
       c.accumulate_leaf.auto.work ∙ l.invariant.1,
-      leaves_turn a.weights.now a.coords.now a.k a.d (p (begun (goal.at.loop-i-preserved c).After-fill_at-2)) (p l.work) (p c.accumulate_leaf.new.work) l.i
+      leaves_turn a.weights.now a.coords.now a.k a.d (p (begun f)) (p l.work) (p c.accumulate_leaf.new.work) l.i
           l.invariant.2 c.accumulate_leaf.ensures,
     )
 
@@ -60,5 +62,6 @@ returns c =
     let l = c.loop-i in
     let a = c.args in
     let p = parts_in a.m a.k a.d in
-    leaves_end a.weights.now a.coords.now a.k a.d (p a.work.now) (p (begun (goal.at.returns c).After-fill_at-2)) (cleared_at (goal.at.returns c).After-fill_at-2) (p l.work) l.i a.m
+    let f = (goal.at.returns c).After-fill_at-2 in
+    leaves_end a.weights.now a.coords.now a.k a.d (p a.work.now) (p (begun f)) (cleared_at f) (p l.work) l.i a.m
     (omega (arith, c.loop-i-test.false)) l.invariant.2

@@ -9,7 +9,8 @@ use Rattle.mixture_run.proofs.maximization.accumulate.Given as goal
 
 abbrev pub invariant-loop-i : goal.invariant-loop-i
 invariant-loop-i l =
-    (l.i ≤ l.m) × (length l.work ≡ length l.initial.work) × (parts_in l.m l.k l.d l.work ≡ leaves_done l.weights l.coords l.k l.d (parts_in l.m l.k l.d l.initial.work) l.i)
+    (l.i ≤ l.m) × (length l.work ≡ length l.initial.work)
+    × (parts_in l.m l.k l.d l.work ≡ leaves_done l.weights l.coords l.k l.d (parts_in l.m l.k l.d l.initial.work) l.i)
 
 abbrev pub decreases-loop-i : goal.decreases-loop-i
 decreases-loop-i l = l.m - l.i

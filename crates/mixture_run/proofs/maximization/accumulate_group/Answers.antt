@@ -8,7 +8,8 @@ use Rattle.mixture_run.proofs.maximization.accumulate_group.Goals as goal
 
 pub add_row-requires : goal.add_row-requires
 add_row-requires c =
-    (simp length-set (omega (arith, c.requires.area.work_long, c.requires.coords_len.2.row)), omega (arith, c.requires.coords_len.0, c.requires.coords_len.1.row))
+    let n = c.requires.coords_len in
+    (simp length-set (omega (arith, c.requires.area.work_long, n.2.row)), omega (arith, n.0, n.1.row))
 
 pub shape_of-work : goal.shape_of-work
 shape_of-work c =

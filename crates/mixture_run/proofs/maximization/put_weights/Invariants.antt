@@ -11,7 +11,8 @@ use Rattle.mixture_run.proofs.maximization.put_weights.Given as goal
 
 abbrev pub invariant-loop-c : goal.invariant-loop-c
 invariant-loop-c l =
-    (l.c ≤ l.k) × (length l.work ≡ length l.initial.work) × Written weights_r (weight_at l.k l.whole (parts_in l.m l.k l.d l.initial.work).totals) l.m l.k l.d l.initial.work l.c l.work
+    (l.c ≤ l.k) × (length l.work ≡ length l.initial.work)
+    × Written weights_r (weight_at l.k l.whole (parts_in l.m l.k l.d l.initial.work).totals) l.m l.k l.d l.initial.work l.c l.work
 
 abbrev pub decreases-loop-c : goal.decreases-loop-c
 decreases-loop-c l = l.k - l.c

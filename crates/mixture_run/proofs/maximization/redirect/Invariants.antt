@@ -9,7 +9,8 @@ use Rattle.mixture_run.proofs.maximization.redirect.Given as goal
 
 abbrev pub invariant-loop-c : goal.invariant-loop-c
 invariant-loop-c l =
-    (l.c ≤ l.k) × (length l.work ≡ length l.initial.work) × (parts_in l.m l.k l.d l.work ≡ directions_done l.d (parts_in l.m l.k l.d l.initial.work) l.c)
+    (l.c ≤ l.k) × (length l.work ≡ length l.initial.work)
+    × (parts_in l.m l.k l.d l.work ≡ directions_done l.d (parts_in l.m l.k l.d l.initial.work) l.c)
 
 abbrev pub decreases-loop-c : goal.decreases-loop-c
 decreases-loop-c l = l.k - l.c

@@ -9,7 +9,8 @@ use Rattle.mixture_run.proofs.start.label_totals.Given as goal
 
 abbrev pub invariant-loop-i : goal.invariant-loop-i
 invariant-loop-i l =
-    (l.i ≤ l.m) × (length l.work ≡ length l.initial.work) × (parts_in l.m l.k l.d l.work ≡ totalled l.m l.k l.d l.initial.work l.weights l.work_u32 l.i)
+    (l.i ≤ l.m) × (length l.work ≡ length l.initial.work)
+    × (parts_in l.m l.k l.d l.work ≡ totalled l.m l.k l.d l.initial.work l.weights l.work_u32 l.i)
 
 abbrev pub decreases-loop-i : goal.decreases-loop-i
 decreases-loop-i l = l.m - l.i
