@@ -1,6 +1,6 @@
 -- What the functions that fit the numbers one after the other ask and promise: the tally so far, the rest of each
 -- output as found, and one number more. No definition of document 01 stands on this file.
-use Rattle.std.specs.Prelude.{◌≡◌, List, true, false, ℕ, ◌+◌, ◌*◌, length, drop, Float}
+use Rattle.std.specs.Prelude.{◌≡◌, List, true, false, ℕ, ◌*◌, length, drop, Float}
 use Rattle.std.specs.Float.{inf}
 use Rattle.std.specs.Float.Ieee.{lt}
 use Rattle.counts.specs.Counts.{plus_of, AtMost, of_runs}

@@ -26,7 +26,9 @@ halves_at r =
     r.four_runs-r.auto.work r.requires.fittable.runnable
 
 pub score_at-score-requires : goal.score_at-score-requires
-score_at-score-requires c = let z = (halves_at (goal.at.score_at-score-requires c).After-four_runs-r).sizes in (z.k_some, z.k_small, z.kd_small)
+score_at-score-requires c =
+    let z = (halves_at (goal.at.score_at-score-requires c).After-four_runs-r).sizes in
+    (z.k_some, z.k_small, z.kd_small)
 
 pub plus-counts-requires : goal.plus-counts-requires
 plus-counts-requires c =
@@ -35,26 +37,31 @@ plus-counts-requires c =
 pub fill_outputs-requires : goal.fill_outputs-requires
 fill_outputs-requires c =
     let a = c.args in
+    let o = found (goal.at.fill_outputs-requires c).Start in
     fillable _ (length a.weights.now) (length a.coords.now) (length a.weights.now) a.k a.d a.s.rounds
-    (lengths_of (found (goal.at.fill_outputs-requires c).Start) (length a.work.now) (length a.work_u32.now)) c.four_runs-r.auto.work c.requires.fittable
+    (lengths_of o (length a.work.now) (length a.work_u32.now)) c.four_runs-r.auto.work c.requires.fittable
 
 pub returns-then-beats : goal.returns-then-beats
 returns-then-beats c =
     let a = c.args in
+    let o = found (goal.at.returns-then-beats c).Start in
+    let h = halves_at (goal.at.returns-then-beats c).After-four_runs-r in
     let l = c.kept_loglik-loglik in
     let n = c.plus-counts in
     let x = c.fill_outputs.new in
     fitted_kept a.weights.now a.coords.now a.d a.k a.s c.four_runs-r.new.work c.four_runs-r.result
     c.four_runs-r.ensures a.t l.result a.ln_total c.score_at-score.result c.beats.result n.result l.ensures
-    c.requires.at_most.1 c.score_at-score.ensures c.beats.ensures n.ensures (halves_at (goal.at.returns-then-beats c).After-four_runs-r) (found (goal.at.returns-then-beats c).Start)
+    c.requires.at_most.1 c.score_at-score.ensures c.beats.ensures n.ensures h o
     (arrays x.labels x.responsibilities x.group_weights x.directions x.concentrations x.logw) c.if-beats.true
     c.fill_outputs.ensures
 
 pub returns : goal.returns
 returns c =
     let a = c.args in
+    let o = found (goal.at.returns c).Start in
+    let h = halves_at (goal.at.returns c).After-four_runs-r in
     let l = c.kept_loglik-loglik in
     let n = c.plus-counts in
     fitted_left a.weights.now a.coords.now a.d a.k a.s c.four_runs-r.new.work c.four_runs-r.result
     c.four_runs-r.ensures a.t l.result a.ln_total c.score_at-score.result c.beats.result n.result l.ensures
-    c.requires.at_most.1 c.score_at-score.ensures c.beats.ensures n.ensures (halves_at (goal.at.returns c).After-four_runs-r) (found (goal.at.returns c).Start) c.if-beats.false
+    c.requires.at_most.1 c.score_at-score.ensures c.beats.ensures n.ensures h o c.if-beats.false

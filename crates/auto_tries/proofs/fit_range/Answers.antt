@@ -30,24 +30,26 @@ begun counts = record { choice = Nothing; loglik = inf true; counts = counts }
 pub loop-k-init : goal.loop-k-init
 unfolding div neg of_bits
 loop-k-init c =
-    let a = c.args in (
+    let a = c.args in
+    let o = found (goal.at.loop-k-init c).Start in (
       omega arith,
       omega (arith, c.requires.le_lo.1),
       refl,
-      fitted_start (found (goal.at.loop-k-init c).Start) a.weights.now a.coords.now a.d a.s a.lo _ (ap begun c.none.ensures),
-      tails_start (length a.weights.now) a.lo a.d (found (goal.at.loop-k-init c).Start),
+      fitted_start o a.weights.now a.coords.now a.d a.s a.lo _ (ap begun c.none.ensures),
+      tails_start (length a.weights.now) a.lo a.d o,
       rw c.none.ensures (at_most_none (of_runs (4 * (a.lo - a.lo)))),
     )
 
 pub fit_of_k-t-requires : goal.fit_of_k-t-requires
 fit_of_k-t-requires c =
     let a = c.args in
+    let o = found (goal.at.fit_of_k-t-requires c).Start in
     let l = c.loop-k in
     let most = c.loop-k-test.true in
     let m = length a.weights.now in
     let n = length a.coords.now in
-    let v = fittable_below m n m a.hi l.k a.d a.s.rounds
-    (lengths_of (found (goal.at.fit_of_k-t-requires c).Start) (length a.work.now) (length a.work_u32.now)) (omega (arith, l.invariant.0, c.requires.le_lo.0)) most c.requires.fittable in record {
+    let v = fittable_below m n m a.hi l.k a.d a.s.rounds (lengths_of o (length a.work.now) (length a.work_u32.now))
+    (omega (arith, l.invariant.0, c.requires.le_lo.0)) most c.requires.fittable in record {
       fittable = fittable_of m n m l.k a.d a.s.rounds _ _ l.invariant.2 v;
       at_most = (
         at_most_more (omega (arith, most, c.requires.le_lo.0, c.requires.fittable.runnable.halves.sizes.k_small)) l.invariant.5,
@@ -65,21 +67,24 @@ loop-k-smaller c = omega (arith, c.loop-k-test.true)
 pub loop-k-preserved : goal.loop-k-preserved
 loop-k-preserved c =
     let a = c.args in
+    let o₀ = found (goal.at.loop-k-preserved c).Start in
     let l = c.loop-k in
     let n = c.fit_of_k-t in
     let most = c.loop-k-test.true in
     let w = a.weights.now in
     let x = a.coords.now in
     let o = arrays l.labels l.responsibilities l.group_weights l.directions l.concentrations l.logw in
-    let o' = arrays c.fit_of_k-t.new.labels c.fit_of_k-t.new.responsibilities c.fit_of_k-t.new.group_weights c.fit_of_k-t.new.directions c.fit_of_k-t.new.concentrations c.fit_of_k-t.new.logw in (
+    let z = n.new in
+    let e = n.auto in
+    let o' = arrays z.labels z.responsibilities z.group_weights z.directions z.concentrations z.logw in (
       omega (arith, l.invariant.0),
       omega (arith, most),
-      lengths_of_law o o' (length l.work) _ (length l.work_u32) _ c.fit_of_k-t.auto.labels c.fit_of_k-t.auto.responsibilities c.fit_of_k-t.auto.group_weights c.fit_of_k-t.auto.directions c.fit_of_k-t.auto.concentrations
-          c.fit_of_k-t.auto.logw c.fit_of_k-t.auto.work c.fit_of_k-t.auto.work_u32 ∙ l.invariant.2,
-      fitted_turn (found (goal.at.loop-k-preserved c).Start) w x a.d a.s a.lo l.k (l.k - a.lo) l.t n.result o o' n.ensures l.invariant.4 l.invariant.0
+      lengths_of_law o o' (length l.work) _ (length l.work_u32) _ e.labels e.responsibilities e.group_weights e.directions
+          e.concentrations e.logw e.work e.work_u32 ∙ l.invariant.2,
+      fitted_turn o₀ w x a.d a.s a.lo l.k (l.k - a.lo) l.t n.result o o' n.ensures l.invariant.4 l.invariant.0
           refl l.invariant.3,
-      tails_turn (found (goal.at.loop-k-preserved c).Start) w x a.d a.s a.lo l.k (l.k - a.lo) l.t n.result o o' n.ensures l.invariant.4,
-      small_turn (found (goal.at.loop-k-preserved c).Start) w x a.d a.s a.lo l.k (l.k - a.lo) l.t n.result o o' n.ensures l.invariant.4 l.invariant.0
+      tails_turn o₀ w x a.d a.s a.lo l.k (l.k - a.lo) l.t n.result o o' n.ensures l.invariant.4,
+      small_turn o₀ w x a.d a.s a.lo l.k (l.k - a.lo) l.t n.result o o' n.ensures l.invariant.4 l.invariant.0
           l.invariant.5,
     )
 

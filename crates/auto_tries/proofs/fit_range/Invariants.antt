@@ -11,10 +11,13 @@ use Rattle.auto_tries.proofs.fit_range.Given as goal
 
 abbrev pub invariant-loop-k : goal.invariant-loop-k
 invariant-loop-k l =
-    let o₀ = arrays l.initial.labels l.initial.responsibilities l.initial.group_weights l.initial.directions l.initial.concentrations l.initial.logw in
+    let z = l.initial in
+    let o₀ = arrays z.labels z.responsibilities z.group_weights z.directions z.concentrations z.logw in
     let o = arrays l.labels l.responsibilities l.group_weights l.directions l.concentrations l.logw in
-    (l.lo ≤ l.k) × (l.k ≤ l.hi + 1) × (lengths_of o (length l.work) (length l.work_u32) ≡ lengths_of o₀ (length l.initial.work) (length l.initial.work_u32))
-    × Fitted l.weights l.coords l.d l.s o₀ l.lo (l.k - l.lo) l.t o × Tails (length l.weights) l.k l.d o o₀ × AtMost (of_runs (4 * (l.k - l.lo))) l.t.counts
+    (l.lo ≤ l.k) × (l.k ≤ l.hi + 1)
+    × (lengths_of o (length l.work) (length l.work_u32) ≡ lengths_of o₀ (length z.work) (length z.work_u32))
+    × Fitted l.weights l.coords l.d l.s o₀ l.lo (l.k - l.lo) l.t o × Tails (length l.weights) l.k l.d o o₀
+    × AtMost (of_runs (4 * (l.k - l.lo))) l.t.counts
 
 abbrev pub decreases-loop-k : goal.decreases-loop-k
 decreases-loop-k l = l.hi + 1 - l.k
