@@ -1,6 +1,6 @@
 -- The automatic fit keeps exactly the best number of its range: the answer goes by the choice among the scores, which is the best
 -- number or none. By cases on the choice. Assumes nothing.
-use mathlib.Core.Path.{◌≡◌, refl, subst}
+use mathlib.Core.Path.{refl, subst}
 use mathlib.Core.List.{List}
 use mathlib.Core.Bool.{false}
 use Prim.Native.Nat.{ℕ, ◌+◌, ◌-◌, ◌*◌, ◌≤◌}
@@ -16,10 +16,10 @@ use Rattle.auto_choice.specs.Choice.{BestOf}
 use Rattle.auto_choice.specs.declared.Choice.{Choice}
 use Rattle.auto_choice.specs.declared.Choice.TheVariants.{Number, Nothing}
 use Rattle.auto_choice.proofs.Choices.{Means, chosen_means, one_best}
-use Rattle.auto_tries.specs.Lone.{lone, score, chosen_of, counts_of, written_by}
+use Rattle.auto_tries.specs.Lone.{score, chosen_of, counts_of, written_by}
 use Rattle.auto.specs.Outcome.{answer_by, ended}
 use Rattle.auto.specs.Answers.{Numbers, numbers_of}
-use Rattle.auto.specs.Best.{products, Best}
+use Rattle.auto.specs.Best.{Best}
 use Rattle.auto.proofs.Products.{work_sum, work_most}
 
 module _ (o : Outputs) (weights coords : List Float) (d : ℕ) (s : Settings) (lo hi : ℕ) (order : lo ≤ hi) (found : Numbers) where

@@ -51,7 +51,8 @@ abbrev pub KeepsBest : (o : Outputs) (weights coords : List Float) (d : ℕ) (s 
     → Numbers → Outputs → Type 0
 KeepsBest o weights coords d s kMin kMax work workU32 n o' =
     let hi = highest kMax (length weights) in
-    refusal_of weights coords d hi s (lengths_of o work workU32) ≡ 0 → Best weights coords d s (lowest kMin hi) hi n o o'
+    refusal_of weights coords d hi s (lengths_of o work workU32) ≡ 0
+    → Best weights coords d s (lowest kMin hi) hi n o o'
 
 -- of its answer, whatever was found where the numbers are put
 abbrev pub AnswerKeepsBest : (o : Outputs) (weights coords : List Float) (d : ℕ) (s : Settings)

@@ -10,7 +10,8 @@ use Rattle.auto.specs.Refusals.{refusal_of}
 
 -- over all numbers tried, from lo to hi
 abbrev pub doubled_in_range : Settings → (weights coords : List Float) (m d lo hi : ℕ) → ℕ
-doubled_in_range s weights coords m d lo hi = sum_over (λ (k : ℕ). doubled_in_fit s weights coords m k d) lo (hi + 1 - lo)
+doubled_in_range s weights coords m d lo hi =
+    sum_over (λ (k : ℕ). doubled_in_fit s weights coords m k d) lo (hi + 1 - lo)
 
 -- in a call that is not refused doubled is zero, over all restarts and all numbers tried; so it is with 7
 abbrev pub CallsNeverDoubled : Type 0

@@ -26,28 +26,33 @@ refusal-code-requires c = λ e. leb-true _ _ e
 pub returns-then-code-ne0 : goal.returns-then-code-ne0
 returns-then-code-ne0 c =
     let l = c.lowest_number-lo in
+    let h = c.highest_number-hi in
+    let f = c.refusal-code in
+    let o₀ = found (goal.at.returns-then-code-ne0 c).Start in
     let a = c.args in record {
-      logw_after = refused (found (goal.at.returns-then-code-ne0 c).Start) a.weights.now a.coords.now a.d a.k_min a.k_max a.s (length a.work.now)
+      logw_after = refused o₀ a.weights.now a.coords.now a.d a.k_min a.k_max a.s (length a.work.now)
           (length a.work_u32.now)
-          l.result c.highest_number-hi.result c.highest_number-hi.ensures l.ensures c.refusal-code.result c.refusal-code.ensures
+          l.result h.result h.ensures l.ensures f.result f.ensures
           c.if-code-ne0.true;
-      answer_keeps_best = refused_best (found (goal.at.returns-then-code-ne0 c).Start) a.weights.now a.coords.now a.d a.k_min a.k_max a.s (length a.work.now)
-          (length a.work_u32.now) l.result c.highest_number-hi.result c.highest_number-hi.ensures l.ensures
-          c.refusal-code.result c.refusal-code.ensures c.if-code-ne0.true;
-      answer_labels_first = refused_first (found (goal.at.returns-then-code-ne0 c).Start) a.weights.now a.coords.now a.d a.k_min a.k_max a.s (length a.work.now)
-          (length a.work_u32.now) l.result c.highest_number-hi.result c.highest_number-hi.ensures l.ensures
-          c.refusal-code.result c.refusal-code.ensures c.if-code-ne0.true;
+      answer_keeps_best = refused_best o₀ a.weights.now a.coords.now a.d a.k_min a.k_max a.s (length a.work.now)
+          (length a.work_u32.now) l.result h.result h.ensures l.ensures
+          f.result f.ensures c.if-code-ne0.true;
+      answer_labels_first = refused_first o₀ a.weights.now a.coords.now a.d a.k_min a.k_max a.s (length a.work.now)
+          (length a.work_u32.now) l.result h.result h.ensures l.ensures
+          f.result f.ensures c.if-code-ne0.true;
     }
 
 pub fit_range-t-requires : goal.fit_range-t-requires
 fit_range-t-requires c =
     let l = c.lowest_number-lo in
+    let o₀ = found (goal.at.fit_range-t-requires c).Start in
+    let some = some_at (goal.at.fit_range-t-requires c).After-highest_number-hi in
     let a = c.args in record {
       fittable = (admitted a.weights.now a.coords.now a.d c.highest_number-hi.result a.s
-          (lengths_of (found (goal.at.fit_range-t-requires c).Start) (length a.work.now) (length a.work_u32.now)) (some_at (goal.at.fit_range-t-requires c).After-highest_number-hi)
+          (lengths_of o₀ (length a.work.now) (length a.work_u32.now)) some
           (sym c.refusal-code.ensures ∙ c.if-code-ne0.false)).fittable;
       le_lo = (
-        lowest_some a.k_min c.highest_number-hi.result l.result l.ensures (some_at (goal.at.fit_range-t-requires c).After-highest_number-hi),
+        lowest_some a.k_min c.highest_number-hi.result l.result l.ensures some,
         lowest_most a.k_min c.highest_number-hi.result l.result l.ensures,
         c.ln-ln_total.ensures ∙ ap ln_of c.sum.ensures,
       );
@@ -56,41 +61,21 @@ fit_range-t-requires c =
 pub returns : goal.returns
 returns c =
     let l = c.lowest_number-lo in
+    let h = c.highest_number-hi in
+    let f = c.refusal-code in
+    let o₀ = found (goal.at.returns c).Start in
     let a = c.args in
     let n = c.fit_range-t in
-    let o = arrays c.fit_range-t.new.labels c.fit_range-t.new.responsibilities c.fit_range-t.new.group_weights c.fit_range-t.new.directions c.fit_range-t.new.concentrations c.fit_range-t.new.logw in record {
-      logw_after = done (found (goal.at.returns c).Start) a.weights.now a.coords.now a.d a.k_min a.k_max a.s (length a.work.now)
+    let z = n.new in
+    let o = arrays z.labels z.responsibilities z.group_weights z.directions z.concentrations z.logw in record {
+      logw_after = done o₀ a.weights.now a.coords.now a.d a.k_min a.k_max a.s (length a.work.now)
           (length a.work_u32.now)
-          l.result c.highest_number-hi.result c.highest_number-hi.ensures l.ensures c.refusal-code.result c.refusal-code.ensures
+          l.result h.result h.ensures l.ensures f.result f.ensures
           n.result c.answer.result o n.ensures c.answer.ensures c.if-code-ne0.false;
-      answer_keeps_best = done_best (found (goal.at.returns c).Start) a.weights.now a.coords.now a.d a.k_min a.k_max a.s (length a.work.now)
-          (length a.work_u32.now) l.result c.highest_number-hi.result c.highest_number-hi.ensures l.ensures
-          c.refusal-code.result c.refusal-code.ensures n.result c.answer.result o n.ensures c.answer.ensures;
-      answer_labels_first = done_first (found (goal.at.returns c).Start) a.weights.now a.coords.now a.d a.k_min a.k_max a.s (length a.work.now)
-          (length a.work_u32.now) l.result c.highest_number-hi.result c.highest_number-hi.ensures l.ensures
-          c.refusal-code.result c.refusal-code.ensures n.result c.answer.result o n.ensures c.answer.ensures;
+      answer_keeps_best = done_best o₀ a.weights.now a.coords.now a.d a.k_min a.k_max a.s (length a.work.now)
+          (length a.work_u32.now) l.result h.result h.ensures l.ensures
+          f.result f.ensures n.result c.answer.result o n.ensures c.answer.ensures;
+      answer_labels_first = done_first o₀ a.weights.now a.coords.now a.d a.k_min a.k_max a.s (length a.work.now)
+          (length a.work_u32.now) l.result h.result h.ensures l.ensures
+          f.result f.ensures n.result c.answer.result o n.ensures c.answer.ensures;
     }
-
-pub shape_of-labels : goal.shape_of-labels
-shape_of-labels c = c.fit_range-t.auto.labels
-
-pub shape_of-responsibilities : goal.shape_of-responsibilities
-shape_of-responsibilities c = c.fit_range-t.auto.responsibilities
-
-pub shape_of-group_weights : goal.shape_of-group_weights
-shape_of-group_weights c = c.fit_range-t.auto.group_weights
-
-pub shape_of-directions : goal.shape_of-directions
-shape_of-directions c = c.fit_range-t.auto.directions
-
-pub shape_of-concentrations : goal.shape_of-concentrations
-shape_of-concentrations c = c.fit_range-t.auto.concentrations
-
-pub shape_of-logw : goal.shape_of-logw
-shape_of-logw c = c.fit_range-t.auto.logw
-
-pub shape_of-work : goal.shape_of-work
-shape_of-work c = c.fit_range-t.auto.work
-
-pub shape_of-work_u32 : goal.shape_of-work_u32
-shape_of-work_u32 c = c.fit_range-t.auto.work_u32

@@ -39,7 +39,7 @@ fittable_at c =
     let o = arrays a.labels.now a.responsibilities.now a.group_weights.now a.directions.now a.concentrations.now a.logw.now in
     let l = lengths_of o (length a.work.now) (length a.work_u32.now) in
     let e : c.refusal-code.result ≡ refusal_of a.weights.now a.coords.now a.d a.k a.s l = c.refusal-code.ensures
-        ∙ ap (λ (b : Bool). fit_refusal b a.weights.now a.coords.now a.d a.k a.s l) c.groups_ok-groups.ensures in
+    ∙ ap (λ (b : Bool). fit_refusal b a.weights.now a.coords.now a.d a.k a.s l) c.groups_ok-groups.ensures in
     (admitted a.weights.now a.coords.now a.d a.k a.s l (sym e ∙ c.if-code-ne0.false)).fittable
 
 pub refusal-code-requires : goal.refusal-code-requires
@@ -50,12 +50,14 @@ refusal-code-requires c =
 pub returns-then-code-ne0 : goal.returns-then-code-ne0
 returns-then-code-ne0 c =
     let a = c.args in
-    let e = refused (found (goal.at.returns-then-code-ne0 c).Start) a.weights.now a.coords.now a.d a.k a.s (length a.work.now) (length a.work_u32.now)
-    c.refusal-code.result (refusal_is (goal.at.returns-then-code-ne0 c).After-refusal-code) c.if-code-ne0.true in record {
+    let o = found (goal.at.returns-then-code-ne0 c).Start in
+    let f = refusal_is (goal.at.returns-then-code-ne0 c).After-refusal-code in
+    let e = refused o a.weights.now a.coords.now a.d a.k a.s (length a.work.now) (length a.work_u32.now)
+    c.refusal-code.result f c.if-code-ne0.true in record {
       logw_after = e;
-      answers_with = number_is (found (goal.at.returns-then-code-ne0 c).Start) a.weights.now a.coords.now a.d a.k a.s (length a.work.now)
+      answers_with = number_is o a.weights.now a.coords.now a.d a.k a.s (length a.work.now)
           (length a.work_u32.now) _ _ e;
-      answer_labels_first = first_is (found (goal.at.returns-then-code-ne0 c).Start) a.weights.now a.coords.now a.d a.k a.s (length a.work.now)
+      answer_labels_first = first_is o a.weights.now a.coords.now a.d a.k a.s (length a.work.now)
           (length a.work_u32.now) _ _ e;
     }
 
@@ -65,45 +67,25 @@ four_runs-r-requires c = (fittable_at (goal.at.four_runs-r-requires c).Else-code
 pub fill_outputs-requires : goal.fill_outputs-requires
 fill_outputs-requires c =
     let a = c.args in
+    let o = found (goal.at.fill_outputs-requires c).Start in
+    let f = fittable_at (goal.at.fill_outputs-requires c).Else-code-ne0 in
     fillable _ (length a.weights.now) (length a.coords.now) (length a.weights.now) a.k a.d a.s.rounds
-    (lengths_of (found (goal.at.fill_outputs-requires c).Start) (length a.work.now) (length a.work_u32.now)) c.four_runs-r.auto.work (fittable_at (goal.at.fill_outputs-requires c).Else-code-ne0)
+    (lengths_of o (length a.work.now) (length a.work_u32.now)) c.four_runs-r.auto.work f
 
 pub returns : goal.returns
 returns c =
     let a = c.args in
+    let o = found (goal.at.returns c).Start in
+    let f = refusal_is (goal.at.returns c).After-refusal-code in
     let l = c.kept_loglik-loglik in
     let x = c.fill_outputs.new in
-    let d = done (found (goal.at.returns c).Start) a.weights.now a.coords.now a.d a.k a.s (length a.work.now) (length a.work_u32.now)
-    c.refusal-code.result (refusal_is (goal.at.returns c).After-refusal-code) c.if-code-ne0.false c.four_runs-r.new.work c.four_runs-r.result l.result
+    let d = done o a.weights.now a.coords.now a.d a.k a.s (length a.work.now) (length a.work_u32.now)
+    c.refusal-code.result f c.if-code-ne0.false c.four_runs-r.new.work c.four_runs-r.result l.result
     (arrays x.labels x.responsibilities x.group_weights x.directions x.concentrations x.logw) c.four_runs-r.ensures l.ensures
     c.fill_outputs.ensures in record {
       logw_after = d;
-      answers_with = number_is (found (goal.at.returns c).Start) a.weights.now a.coords.now a.d a.k a.s (length a.work.now)
+      answers_with = number_is o a.weights.now a.coords.now a.d a.k a.s (length a.work.now)
           (length a.work_u32.now) _ _ d;
-      answer_labels_first = first_is (found (goal.at.returns c).Start) a.weights.now a.coords.now a.d a.k a.s (length a.work.now)
+      answer_labels_first = first_is o a.weights.now a.coords.now a.d a.k a.s (length a.work.now)
           (length a.work_u32.now) _ _ d;
     }
-
-pub shape_of-labels : goal.shape_of-labels
-shape_of-labels c = c.fill_outputs.auto.labels
-
-pub shape_of-responsibilities : goal.shape_of-responsibilities
-shape_of-responsibilities c = c.fill_outputs.auto.responsibilities
-
-pub shape_of-group_weights : goal.shape_of-group_weights
-shape_of-group_weights c = c.fill_outputs.auto.group_weights
-
-pub shape_of-directions : goal.shape_of-directions
-shape_of-directions c = c.fill_outputs.auto.directions
-
-pub shape_of-concentrations : goal.shape_of-concentrations
-shape_of-concentrations c = c.fill_outputs.auto.concentrations
-
-pub shape_of-logw : goal.shape_of-logw
-shape_of-logw c = c.fill_outputs.auto.logw
-
-pub shape_of-work : goal.shape_of-work
-shape_of-work c = c.four_runs-r.auto.work
-
-pub shape_of-work_u32 : goal.shape_of-work_u32
-shape_of-work_u32 c = c.four_runs-r.auto.work_u32
