@@ -17,8 +17,8 @@ module _ (bytes : List ℕ) (at : ℕ) where
   byte_at : (i j : ℕ) → i ≡ j → get_or bytes i 0 ≡ get_or bytes j 0
   byte_at i j e = ap (λ (n : ℕ). get_or bytes n 0) e
 
-  pub whole_four : (a b c e : ℕ) → a ≡ get_or bytes at 0 → b ≡ get_or bytes (at + 1) 0 → c ≡ get_or bytes (at + 2) 0 → e ≡ get_or bytes (at + 3) 0
-      → a + 256 * b + 65536 * c + 16777216 * e ≡ whole_at bytes at 4
+  pub whole_four : (a b c e : ℕ) → a ≡ get_or bytes at 0 → b ≡ get_or bytes (at + 1) 0 → c ≡ get_or bytes (at + 2) 0
+      → e ≡ get_or bytes (at + 3) 0 → a + 256 * b + 65536 * c + 16777216 * e ≡ whole_at bytes at 4
   unfolding whole_at
   whole_four a b c e p q r s =
       let f : get_or bytes (at + 1 + 1) 0 ≡ c = byte_at (at + 1 + 1) (at + 2) (omega arith) ∙ sym r in

@@ -13,8 +13,8 @@ use Rattle.mixture_outputs.specs.Outputs.{arrays}
 use Rattle.auto.specs.Outcome.{Outcome, outcome}
 use Rattle.auto.specs.Best.{AnswerKeepsBest}
 use Rattle.auto.specs.declared.Chosen.TheVariants.{Refused}
-use Rattle.leaf_file.specs.LeafFile.{Leaves, whole_at, f64s_at, leaves_of, leaves_in, file_refusal, settings, room, work_room, work_u32_room}
-use Rattle.leaf_file.specs.LeafFile.{leaves_fit, LeavesKeepBest, FileFit, file_fit_by, file_fit}
+use Rattle.leaf_file.specs.LeafFile.{Leaves, whole_at, f64s_at, leaves_of, leaves_in, file_refusal, settings, room}
+use Rattle.leaf_file.specs.LeafFile.{work_room, work_u32_room, leaves_fit, LeavesKeepBest, FileFit, file_fit_by, file_fit}
 
 module _ (weights coords : List Float) (d : ℕ) (labels : List ℕ) where
   abbrev leaves : Leaves

@@ -36,26 +36,29 @@ call s z =
 
 pub returns-then-not-kind_ok : goal.returns-then-not-kind_ok
 returns-then-not-kind_ok c =
+    let s = (goal.at.returns-then-not-kind_ok c).Start in
     let none = sym c.kind_ok.ensures ∙ c.if-not-kind_ok.true in record {
-      fact = chosen_none (lent (goal.at.returns-then-not-kind_ok c).Start) _ (found (goal.at.returns-then-not-kind_ok c).Start) (call (goal.at.returns-then-not-kind_ok c).Start) c.args.kappa none refl;
+      fact = chosen_none (lent s) _ (found s) (call s) c.args.kappa none refl;
       keeps_best = λ t. absurd (true≢false (sym t ∙ none));
       labels_first = λ z. absurd (omega (arith, z));
     }
 
 pub returns : goal.returns
 returns c =
+    let s = (goal.at.returns c).Start in
     let a = c.args in
     let f = c.movmf_auto_with-a in
-    let o = arrays c.movmf_auto_with-a.new.labels c.movmf_auto_with-a.new.responsibilities c.movmf_auto_with-a.new.group_weights c.movmf_auto_with-a.new.directions c.movmf_auto_with-a.new.concentrations c.movmf_auto_with-a.new.logw in
+    let k = c.kappa_of-kappa in
+    let o = arrays f.new.labels f.new.responsibilities f.new.group_weights f.new.directions f.new.concentrations f.new.logw in
     let known : kind_ok a.kappa ≡ true = sym c.kind_ok.ensures ∙ c.if-not-kind_ok.false in record {
-      fact = chosen_call (lent (goal.at.returns c).Start) _ (found (goal.at.returns c).Start) (call (goal.at.returns c).Start) a.kappa f.result o c.kappa_of-kappa.result known c.kappa_of-kappa.ensures
-          f.ensures.logw_after c.give_chosen.ensures;
+      fact = chosen_call (lent s) _ (found s) (call s) a.kappa f.result o k.result known k.ensures f.ensures.logw_after
+          c.give_chosen.ensures;
       keeps_best = λ _. given
-          (λ (z : Kappa) (n : Numbers). KeepsBest (found (goal.at.returns c).Start) a.weights.now a.coords.now a.d (settings (goal.at.returns c).Start z) a.k_min a.k_max
-          (length a.work.now) (length a.work_u32.now) n o) _ _ c.kappa_of-kappa.result (kappa_of a.kappa) c.kappa_of-kappa.ensures
-          c.give_chosen.ensures (f.ensures.answer_keeps_best (lent (goal.at.returns c).Start));
+          (λ (z : Kappa) (n : Numbers). KeepsBest (found s) a.weights.now a.coords.now a.d (settings s z) a.k_min a.k_max
+          (length a.work.now) (length a.work_u32.now) n o) _ _ k.result (kappa_of a.kappa) k.ensures c.give_chosen.ensures
+          (f.ensures.answer_keeps_best (lent s));
       labels_first = given (λ (z : Kappa) (n : Numbers). LabelsFirst (length a.weights.now) n.refusal n.groups o) _ _
-          c.kappa_of-kappa.result (kappa_of a.kappa) c.kappa_of-kappa.ensures c.give_chosen.ensures (f.ensures.answer_labels_first (lent (goal.at.returns c).Start));
+          k.result (kappa_of a.kappa) k.ensures c.give_chosen.ensures (f.ensures.answer_labels_first (lent s));
     }
 
 pub shape_of-labels : goal.shape_of-labels

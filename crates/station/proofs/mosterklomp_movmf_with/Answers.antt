@@ -30,20 +30,23 @@ call s z =
     (length a.work.now) (length a.work_u32.now)
 
 pub returns-then-not-kind_ok : goal.returns-then-not-kind_ok
-returns-then-not-kind_ok c = record {
-  fact = fitted_none (lent (goal.at.returns-then-not-kind_ok c).Start) _ (found (goal.at.returns-then-not-kind_ok c).Start) (call (goal.at.returns-then-not-kind_ok c).Start) c.args.kappa (sym c.kind_ok.ensures ∙ c.if-not-kind_ok.true) refl;
-  labels_first = λ z. absurd (omega (arith, z));
-}
+returns-then-not-kind_ok c =
+    let s = (goal.at.returns-then-not-kind_ok c).Start in record {
+      fact = fitted_none (lent s) _ (found s) (call s) c.args.kappa (sym c.kind_ok.ensures ∙ c.if-not-kind_ok.true) refl;
+      labels_first = λ z. absurd (omega (arith, z));
+    }
 
 pub returns : goal.returns
 returns c =
+    let s = (goal.at.returns c).Start in
     let f = c.movmf_with-a in
-    let o = arrays c.movmf_with-a.new.labels c.movmf_with-a.new.responsibilities c.movmf_with-a.new.group_weights c.movmf_with-a.new.directions c.movmf_with-a.new.concentrations c.movmf_with-a.new.logw in
+    let k = c.kappa_of-kappa in
+    let o = arrays f.new.labels f.new.responsibilities f.new.group_weights f.new.directions f.new.concentrations f.new.logw in
     let known : kind_ok c.args.kappa ≡ true = sym c.kind_ok.ensures ∙ c.if-not-kind_ok.false in record {
-      fact = fitted_call (lent (goal.at.returns c).Start) _ (found (goal.at.returns c).Start) (call (goal.at.returns c).Start) c.args.kappa f.result o c.kappa_of-kappa.result known c.kappa_of-kappa.ensures
-          f.ensures.logw_after c.give_fitted.ensures;
+      fact = fitted_call (lent s) _ (found s) (call s) c.args.kappa f.result o k.result known k.ensures f.ensures.logw_after
+          c.give_fitted.ensures;
       labels_first = given (λ (z : Kappa) (n : Numbers). LabelsFirst (length c.args.weights.now) n.refusal n.groups o) _ _
-          c.kappa_of-kappa.result (kappa_of c.args.kappa) c.kappa_of-kappa.ensures c.give_fitted.ensures (f.ensures.answer_labels_first (lent (goal.at.returns c).Start));
+          k.result (kappa_of c.args.kappa) k.ensures c.give_fitted.ensures (f.ensures.answer_labels_first (lent s));
     }
 
 pub shape_of-labels : goal.shape_of-labels
