@@ -14,7 +14,7 @@ abbrev pub invariant-loop-c : goal.invariant-loop-c
 invariant-loop-c l =
     (l.c ≤ l.k) × (length l.work ≡ length l.initial.work) × (l.norm ≡ log_norm_of l.d l.last)
     × Written log_coefficients_r (log_coefficient_at l.d (model_of (parts_in l.m l.k l.d l.initial.work)))
-        l.m l.k l.d l.initial.work l.c l.work
+    l.m l.k l.d l.initial.work l.c l.work
 
 abbrev pub decreases-loop-c : goal.decreases-loop-c
 decreases-loop-c l = l.k - l.c
