@@ -16,15 +16,23 @@ fn list_open(rt: &(impl Print + Alloc), file: impl Read + Drop) -> io::Result<()
     rt.write_all(&text[..end])
 }
 
-// The name of a file, and its listing.
-fn list_named(rt: &(impl Files + Print + Alloc), path: &str) -> io::Result<()> {
+// The name of a file, and its listing, or on standard error why it can't be opened.
+fn list_named(rt: &(impl Files + Print + Eprint + Alloc), path: &str) -> io::Result<()> {
     println!(rt; "{path}:")?;
-    list_open(rt, fs::open(rt, path)?)
+    match fs::open(rt, path) {
+        Ok(file) => list_open(rt, file),
+        Err(e) => eprintln!(rt; "{path}: {e}"),
+    }
 }
 
+// An argument that is missing is the empty name.
 fn main(rt: HostRuntime) -> io::Result<()> {
-    for path in env::args(&rt)?.skip(1).take(2) {
-        list_named(&rt, path.as_str())?;
+    let mut paths = env::args(&rt)?.skip(1);
+    for _ in 0..2 {
+        match paths.next() {
+            Some(path) => list_named(&rt, path.as_str())?,
+            None => list_named(&rt, "")?,
+        }
     }
     Ok(())
 }

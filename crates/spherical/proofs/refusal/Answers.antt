@@ -74,11 +74,11 @@ returns-then-not-arrays_ok c =
 pub returns : goal.returns
 unfolding refusal_of
 returns c =
-    let p = goal.at.returns c in
+    let q = goal.at.returns c in
     rw (
-      sizes_passed p.Else-not-sizes_ok,
-      groups_passed p.Else-not-groups_ok,
-      rounds_passed p.Else-rounds-gt-MOST_ROUNDS,
-      restarts_passed p.Else-restarts-gt-MOST_RESTARTS,
+      sizes_passed q.Else-not-sizes_ok,
+      groups_passed q.Else-not-groups_ok,
+      rounds_passed q.Else-rounds-gt-MOST_ROUNDS,
+      restarts_passed q.Else-restarts-gt-MOST_RESTARTS,
       sym c.arrays_ok.ensures ∙ c.if-not-arrays_ok.false,
     ) c.leaves_refusal.ensures
