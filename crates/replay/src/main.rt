@@ -11,7 +11,7 @@ mod numbers;
 mod outputs;
 mod vectors;
 
-ghost use Rattle.std.specs.Prelude.{IfOk};
+ghost use Rattle.std.specs.Prelude.{◌≡◌, IfOk, OnErr};
 ghost use Rattle.words.specs.Words.{Counted};
 
 use std::io;
@@ -81,7 +81,8 @@ ln_gamma_half",
 
 // Reads words to the start of `to`, by way of `space` and until `part` ends, and answers how many there were.
 fn read_part(mut part: impl Read + Drop, space: &mut Vec<u8>, to: &mut [u64]) -> io::Result<usize>
-    ensures { IfOk result (λ n. Counted n to.new) }
+    ensures counted { IfOk result (λ n. Counted n to.new) }
+    ensures err { OnErr result (to.new ≡ to.old) }
 {
     space.clear();
     part.read_to_end(space)?;
@@ -95,7 +96,8 @@ fn read_words(
     to: &mut [u64],
     count: usize,
 ) -> io::Result<usize>
-    ensures { IfOk result (λ n. Counted n to.new) }
+    ensures counted { IfOk result (λ n. Counted n to.new) }
+    ensures err { OnErr result (to.new ≡ to.old) }
 {
     let bytes = words::least(count % 65536 * 17, 65536);
     read_part(rt.reader().take(bytes as u64), space, to)
