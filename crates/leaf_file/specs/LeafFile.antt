@@ -84,7 +84,8 @@ pub record FileFit : Type 0 where
   pub labels : List ℕ
 
 abbrev pub file_fit_by : ℕ → Leaves → List ℕ → FileFit
-file_fit_by zero l labels = record { answer = (leaves_fit l labels).answer; labels = (leaves_fit l labels).outputs.labels }
+file_fit_by zero l labels =
+    record { answer = (leaves_fit l labels).answer; labels = (leaves_fit l labels).outputs.labels }
 file_fit_by (suc code) l labels = record { answer = Refused (suc code); labels = labels }
 
 abbrev pub file_fit : List ℕ → List ℕ → FileFit

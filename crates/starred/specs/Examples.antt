@@ -93,6 +93,6 @@ all_say (r ∷ rs) = r.says ∷ all_say rs
 
 -- every definition gives what document 01 says
 pub examples : all_give table ≡ all_say table
-unfolding table root_of exp_of ln_of estimate_of shift_lower shift_upper slowest_from chosen max_of clamp_of add sub mul div neg
-    lt le is_nan of_int of_bits round size
+unfolding table root_of exp_of ln_of estimate_of shift_lower shift_upper slowest_from chosen max_of clamp_of
+    add sub mul div neg lt le is_nan of_int of_bits round size
 examples = refl

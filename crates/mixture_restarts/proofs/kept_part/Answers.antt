@@ -5,22 +5,18 @@ use native.Mathlib.Omega.{arith}
 use lib.ListN.{length}
 use Rattle.kmeans_layout.proofs.Halves.{held_within, free_within}
 use Rattle.mixture_restarts.proofs.Halves.{part_kept}
-use Rattle.mixture_restarts.proofs.kept_part.Goals.{After-free_at-b, After-half-n}
+use Rattle.mixture_restarts.proofs.kept_part.Goals.{After-free_at-b}
 use Rattle.mixture_restarts.proofs.kept_part.Goals as goal
 
 -- both halves lie within the array
-both_in : (h : After-half-n) → let n = h.half-n.result in n + n ≤ length h.args.work.now
-both_in h = omega (arith, h.half-n.ensures, h.requires.work_long)
+both_in : (c : After-free_at-b) → let n = c.half-n.result in n + n ≤ length c.args.work.now
+both_in c = omega (arith, c.half-n.ensures, c.requires.work_long)
 
 held_in : (c : After-free_at-b) → c.held_at-a.result + c.half-n.result ≤ length c.args.work.now
-held_in c = let both_in_here : let n = c.half-n.result in n + n ≤ length c.args.work.now =
-    omega (arith, c.half-n.ensures, c.requires.work_long) in
-    (held_within c.args.r.second c.half-n.result _ _ (both_in_here) c.held_at-a.ensures).0
+held_in c = (held_within c.args.r.second c.half-n.result _ _ (both_in c) c.held_at-a.ensures).0
 
 free_in : (c : After-free_at-b) → c.free_at-b.result + c.half-n.result ≤ length c.args.work.now
-free_in c = let both_in_here : let n = c.half-n.result in n + n ≤ length c.args.work.now =
-    omega (arith, c.half-n.ensures, c.requires.work_long) in
-    free_within c.args.r.second c.half-n.result _ _ (both_in_here) c.free_at-b.ensures
+free_in c = free_within c.args.r.second c.half-n.result _ _ (both_in c) c.free_at-b.ensures
 
 pub returns : goal.returns
 returns c =
