@@ -1,21 +1,18 @@
--- Lists of any elements that are filled or copied: one law for a turn of the loop, one for its end. What is done is a front of what is wanted, or stands before what is
--- still held. Assumes nothing.
+-- Lists of any elements that are filled: one law for a turn of the loop, one for its end. What is done is a front of what is wanted, or
+-- stands before what is still held. Assumes nothing.
 use mathlib.Core.Path.{◌≡◌, ap, sym, ◌∙◌}
 use mathlib.Core.List.{List, [], ◌∷◌, ◌++◌, append_assoc, append-nil}
 use Prim.Native.Nat.{ℕ, suc, ◌+◌, ◌≤◌, ◌<◌}
 use native.Mathlib.Numerals.{add-one}
 use native.Mathlib.Omega.{arith}
 use lib.ListN.{length, get_or, take, drop, set, replicate, replicate-append-replicate, drop_of_length-le}
-use lib.Seq.{take-suc, take-suc-set, take_all, drop-cons, set_at, get_or_at}
+use lib.Seq.{take-suc-set, take_all, drop-cons, set_at, get_or_at}
 
 module _ {A : Type 0} where
   pub fill_turn : (s : List A) (j : ℕ) (x : A) → j < length s → take j s ≡ replicate j x → take (j + 1) (set s j x) ≡ replicate (j + 1) x
   fill_turn s j x h e =
       let t : take (j + 1) (set s j x) ≡ take j s ++ (x ∷ []) = rw add-one (take-suc-set s j x h) in
       t ∙ ap (λ (l : List A). l ++ (x ∷ [])) e ∙ replicate-append-replicate j 1 x
-
-  pub copy_turn : (s t : List A) (j : ℕ) (z : A) → j < length s → j < length t → take j s ≡ take j t → take (j + 1) (set s j (get_or t j z)) ≡ take (j + 1) t
-  copy_turn s t j z hs ht e = rw (add-one, take-suc-set, take-suc t j z, e)
 
   pub take_end : (s t : List A) (j : ℕ) → length s ≤ j → take j s ≡ t → s ≡ t
   take_end s t j h e = sym (take_all j s h) ∙ e

