@@ -153,6 +153,6 @@ pub fn fill_outputs(
     let kd = k * d;
     let a = kmeans_layout::held_at(second, kmeans_layout::half(m, k, d));
     let b = kmeans_layout::held_at(second, m + k);
-    rows::copy_u32(&mut labels[..m], &work_u32[b..b + m]);
+    rows::copy(&mut labels[..m], &work_u32[b..b + m]);
     rows::copy(&mut directions[..kd], &work[a..a + kd]);
 }

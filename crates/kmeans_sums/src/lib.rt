@@ -50,7 +50,7 @@ pub fn accumulate(
 {
     let kd = k * d;
     kmeans_layout::fill_at(work, kd, kd, 0.0);
-    rows::fill_u32(&mut work_u32[m..m + k], 0);
+    rows::fill(&mut work_u32[m..m + k], 0);
     let mut i = 0;
     while i < m {
         gain(work, work_u32, weights, coords, i, m, k, d);

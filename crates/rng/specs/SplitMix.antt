@@ -1,18 +1,12 @@
 -- Document 01, 'SplitMix64': the published generator over whole numbers, its fraction, and the seeds of the restarts.
 -- Definitions only. Everything here computes on numerals.
-use Rattle.std.specs.Prelude.{ℕ, zero, suc, ◌+◌, ◌*◌, ◌/◌, ◌%◌, ◌^◌, pos, Float}
+use Rattle.std.specs.Prelude.{ℕ, ◌+◌, ◌*◌, ◌/◌, ◌%◌, ◌^◌, bit_xor, pos, Float}
 use Rattle.std.specs.Float.{binary64}
 use Rattle.std.specs.Float.Ieee.{div, of_int}
 
--- the exclusive or of the k low binary digits of a and b, digit by digit
-unfoldable pub xor : ℕ → ℕ → ℕ → ℕ
-xor zero a b = 0
-xor (suc k) a b = xor k (a / 2) (b / 2) * 2 + (a % 2 + b % 2) % 2
-
 -- z ^ (z >> k), of 64-bit words
 unfoldable pub folded_by : ℕ → ℕ → ℕ
-unfolding xor
-folded_by k z = xor 64 z (z / 2 ^ k)
+folded_by k z = bit_xor z (z / 2 ^ k)
 
 -- the generator's next state
 unfoldable pub step_of : ℕ → ℕ

@@ -8,21 +8,21 @@ use Rattle.rows.specs.Rows.{put_part}
 use Rattle.kmeans_lloyd.proofs.Starts.{start_done}
 use Rattle.kmeans_lloyd.proofs.start.Goals as goal
 
-pub slice_bounds-fill_u32-end-2 : goal.slice_bounds-fill_u32-end-2
-slice_bounds-fill_u32-end-2 c =
+pub slice_bounds-fill-end-2 : goal.slice_bounds-fill-end-2
+slice_bounds-fill-end-2 c =
     sym (length-take-le c.args.m c.args.work_u32.now (omega (arith, c.requires.work_u32_long)))
 
 pub returns : goal.returns
 unfolding div neg of_bits of_int
 returns c =
     let a = c.args in
-    let u = put_part a.work_u32.now 0 a.m c.fill_u32.new.v in
+    let u = put_part a.work_u32.now 0 a.m c.fill.new.v in
     let l₁ = c.leaf_norms.auto.work in
     let l₂ = c.fill_at.auto.work ∙ l₁ in
     let l₃ = c.fill_at-2.auto.work ∙ l₂ in
     start_done a.m a.k a.d a.work.now c.leaf_norms.new.work c.fill_at.new.work c.fill_at-2.new.work
     c.fill_at-3.new.work
-    c.fill_at-4.new.work a.coords.now a.work_u32.now u c.fill_u32.new.v _ _ _ _
+    c.fill_at-4.new.work a.coords.now a.work_u32.now u c.fill.new.v _ _ _ _
     c.low_at-low.ensures
     c.high_at-high.ensures
     c.served_at-served.ensures
@@ -38,8 +38,8 @@ returns c =
     c.fill_at-2.ensures
     c.fill_at-3.ensures
     c.fill_at-4.ensures
-    c.fill_u32.ensures
+    c.fill.ensures
     refl
 
-pub slice_bounds-fill_u32-end : goal.slice_bounds-fill_u32-end
-slice_bounds-fill_u32-end c = omega (arith, c.requires.work_u32_long)
+pub slice_bounds-fill-end : goal.slice_bounds-fill-end
+slice_bounds-fill-end c = omega (arith, c.requires.work_u32_long)

@@ -30,20 +30,20 @@ work_held c =
     let n = half c.args.m c.args.k c.args.d in
     held_within c.args.second n (length c.args.work.now) _ c.requires.halves.work_long (work_from c)
 
-pub slice_bounds-copy_u32-end-2 : goal.slice_bounds-copy_u32-end-2
-slice_bounds-copy_u32-end-2 c = sym (length-take-le c.args.m c.args.labels.now c.requires.labels_long)
+pub slice_bounds-copy-end-2 : goal.slice_bounds-copy-end-2
+slice_bounds-copy-end-2 c = sym (length-take-le c.args.m c.args.labels.now c.requires.labels_long)
 
 work_u32_near : (c : After-held_at-b) → c.held_at-b.result + c.args.m ≤ 8320
 work_u32_near c = let z = c.requires.halves.sizes in omega (arith, work_u32_held c, z.m_small, z.k_small)
 
-pub copy_u32-requires : goal.copy_u32-requires
-copy_u32-requires c =
+pub copy-requires : goal.copy-requires
+copy-requires c =
     let b = c.held_at-b.result in
     alike c.args.labels.now c.args.work_u32.now c.args.m b (b + c.args.m - b) (omega arith) c.requires.labels_long
-    (omega (arith, (work_u32_held (goal.at.copy_u32-requires c).After-held_at-b).0))
+    (omega (arith, (work_u32_held (goal.at.copy-requires c).After-held_at-b).0))
 
-pub slice_bounds-copy-end-2 : goal.slice_bounds-copy-end-2
-slice_bounds-copy-end-2 c =
+pub slice_bounds-copy-end-@ : goal.slice_bounds-copy-end-@
+slice_bounds-copy-end-@ c =
     sym (length-take-le (c.args.k * c.args.d) c.args.directions.now c.requires.directions_long)
 
 work_near : (c : After-held_at-b) → c.held_at-a.result + c.args.k * c.args.d ≤ 1000000
@@ -51,11 +51,11 @@ work_near c =
     let z = c.requires.halves.sizes in
     omega (arith, work_held c, z.m_small, z.k_small, z.mk_small, z.kd_small)
 
-pub copy-requires : goal.copy-requires
-copy-requires c =
+pub copy-2-requires : goal.copy-2-requires
+copy-2-requires c =
     let b = c.held_at-a.result in
     alike c.args.directions.now c.args.work.now (c.args.k * c.args.d) b (b + c.args.k * c.args.d - b) (omega arith)
-    c.requires.directions_long (omega (arith, (work_held (goal.at.copy-requires c).After-held_at-b).0))
+    c.requires.directions_long (omega (arith, (work_held (goal.at.copy-2-requires c).After-held_at-b).0))
 
 pub returns : goal.returns
 returns c =
@@ -66,11 +66,11 @@ returns c =
     let from = c.held_at-a.result in
     let marked = c.held_at-b.result in record {
       labels_after = ap (λ (l : List ℕ). l ++ drop s.m s.labels.now)
-          (c.copy_u32.ensures
+          (c.copy.ensures
           ∙ labels_at s.m s.k s.d s.work.now s.work_u32.now a b marked (marked + s.m - marked) c.held_at-b.ensures
           (omega arith));
       directions_after = ap (λ (l : List Float). l ++ drop n s.directions.now)
-          (c.copy.ensures
+          (c.copy-2.ensures
           ∙ centers_at s.m s.k s.d s.work.now s.work_u32.now a b from (from + n - from)
           (work_from (goal.at.returns c).After-held_at-b) (omega arith));
     }
@@ -81,8 +81,8 @@ overflow_add-b c = omega (arith, work_u32_near (goal.at.overflow_add-b c).After-
 pub offset_bounds-work_u32-b : goal.offset_bounds-work_u32-b
 offset_bounds-work_u32-b c = omega (arith, work_u32_near (goal.at.offset_bounds-work_u32-b c).After-held_at-b)
 
-pub slice_bounds-copy_u32-end-3 : goal.slice_bounds-copy_u32-end-3
-slice_bounds-copy_u32-end-3 c = omega (arith, (work_u32_held (goal.at.slice_bounds-copy_u32-end-3 c).After-held_at-b).0)
+pub slice_bounds-copy-end-3 : goal.slice_bounds-copy-end-3
+slice_bounds-copy-end-3 c = omega (arith, (work_u32_held (goal.at.slice_bounds-copy-end-3 c).After-held_at-b).0)
 
 pub overflow_add-a : goal.overflow_add-a
 overflow_add-a c = omega (arith, work_near (goal.at.overflow_add-a c).After-held_at-b)
@@ -90,5 +90,5 @@ overflow_add-a c = omega (arith, work_near (goal.at.overflow_add-a c).After-held
 pub offset_bounds-work-a : goal.offset_bounds-work-a
 offset_bounds-work-a c = omega (arith, work_near (goal.at.offset_bounds-work-a c).After-held_at-b)
 
-pub slice_bounds-copy-end-3 : goal.slice_bounds-copy-end-3
-slice_bounds-copy-end-3 c = omega (arith, (work_held (goal.at.slice_bounds-copy-end-3 c).After-held_at-b).0)
+pub slice_bounds-copy-end-@3 : goal.slice_bounds-copy-end-@3
+slice_bounds-copy-end-@3 c = omega (arith, (work_held (goal.at.slice_bounds-copy-end-@3 c).After-held_at-b).0)

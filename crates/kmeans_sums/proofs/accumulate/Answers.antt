@@ -9,25 +9,25 @@ use Rattle.kmeans_layout.specs.Areas.{state_in}
 use Rattle.kmeans_layout.proofs.Sizes.{sized_of}
 use Rattle.kmeans_sums.proofs.Sums.{Gathered, cleared, gathered_own, gains_of, gather_turn, gather_end}
 use borrow.Author.Rules.{rules}
-use Rattle.kmeans_sums.proofs.accumulate.Goals.{After-fill_u32}
+use Rattle.kmeans_sums.proofs.accumulate.Goals.{After-fill}
 use Rattle.kmeans_sums.proofs.accumulate.Goals as goal
 
 -- where the loop begins the sums and counts are cleared
-cleared_at : (f : After-fill_u32) → let a = f.args in
+cleared_at : (f : After-fill) → let a = f.args in
     Gathered a.weights.now a.coords.now a.m a.k a.d (state_in a.m a.k a.d a.work.now a.work_u32.now) 0
-    f.fill_at.new.work (put_part a.work_u32.now a.m (a.m + a.k - a.m) f.fill_u32.new.v)
+    f.fill_at.new.work (put_part a.work_u32.now a.m (a.m + a.k - a.m) f.fill.new.v)
 unfolding of_bits
 cleared_at f =
     let a = f.args in
     cleared a.weights.now a.coords.now a.m a.k a.d (length a.coords.now) a.work.now f.fill_at.new.work
-    a.work_u32.now f.fill_u32.new.v f.requires.sized f.fill_at.ensures f.fill_u32.ensures
+    a.work_u32.now f.fill.new.v f.requires.sized f.fill_at.ensures f.fill.ensures
 
 pub loop-i-init : goal.loop-i-init
 loop-i-init c =
     let a = c.args in (
       omega arith,
       sized_of _ _ _ _ (length a.coords.now) a.m a.k a.d (search rules) (search rules) c.requires.sized,
-      gathered_own a.weights.now a.coords.now a.m a.k a.d _ 0 _ _ (cleared_at (goal.at.loop-i-init c).After-fill_u32),
+      gathered_own a.weights.now a.coords.now a.m a.k a.d _ 0 _ _ (cleared_at (goal.at.loop-i-init c).After-fill),
       refl,
       refl,
     )
@@ -38,7 +38,7 @@ gain-requires c =
     let a = c.args in record {
       sized = l.invariant.1;
       gains = gains_of a.weights.now a.coords.now a.m a.k a.d _ l.i l.work l.work_u32 l.invariant.2
-          (state_in a.m a.k a.d a.work.now a.work_u32.now) (cleared_at (goal.at.gain-requires c).After-fill_u32).state c.requires.weights_len.1
+          (state_in a.m a.k a.d a.work.now a.work_u32.now) (cleared_at (goal.at.gain-requires c).After-fill).state c.requires.weights_len.1
           c.loop-i-test.true c.requires.sized.sizes.m_small c.requires.weights_len.0;
     }
 
@@ -61,5 +61,5 @@ returns c =
     let l = c.loop-i in
     let a = c.args in
     gather_end a.weights.now a.coords.now a.m a.k a.d _ l.i l.work l.work_u32 l.invariant.2 a.work.now
-    a.work_u32.now (cleared_at (goal.at.returns c).After-fill_u32).state
+    a.work_u32.now (cleared_at (goal.at.returns c).After-fill).state
     (omega (arith, c.loop-i-test.false))

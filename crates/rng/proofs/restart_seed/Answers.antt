@@ -8,6 +8,4 @@ pub returns : goal.returns
 unfolding restart_seed_of
 returns c =
     let a = c.args in
-    c.wrapping_add_u64.ensures.value
-    ∙ ap (λ (n : ℕ). (a.seed + n) % 2 ^ 64) c.wrapping_mul_u64.ensures
-    ∙ add-mod-mod a.seed (a.s * 0x9E37_79B9) (2 ^ 64)
+    ap (λ (n : ℕ). (a.seed + n) % 2 ^ 64) c.wrapping_mul_u64.ensures ∙ add-mod-mod a.seed (a.s * 0x9E37_79B9) (2 ^ 64)

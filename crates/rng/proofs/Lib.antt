@@ -1,2 +1,0 @@
--- Laws that other proofs cite.
-pub mod Xor
