@@ -10,9 +10,9 @@ use lib.Dec.{T, T_not, not_T}
 use lib.ListN.{length, get_or}
 use lib.Ieee.{Float, nan, lt, is_nan}
 use Rattle.float.proofs.Order.{lt_or_ge, lt_irrefl, lt_trans, lt_splits}
-use Rattle.pick.specs.Places.{argmax_up_to, argmax_of}
+use Rattle.pick.specs.Places.{above, place_up_to, argmax_up_to, argmax_of}
 use Rattle.pick.specs.First.{FirstOfGreatest}
-use Rattle.pick.proofs.Places.{argmax_one}
+use Rattle.pick.proofs.Places.{place_one}
 
 number_or_nan : (b : Bool) → T b ⊎ T (not b)
 number_or_nan true = inl tt
@@ -52,9 +52,9 @@ module _ (v : List Float) where
 
   -- of the first n + 1
   first_to : (n : ℕ) → FirstOfGreatest at (suc n) (argmax_up_to v (suc n))
-  unfolding argmax_up_to
+  unfolding place_up_to
   first_to zero =
-      subst (FirstOfGreatest at 1) (sym (argmax_one v))
+      subst (FirstOfGreatest at 1) (sym (place_one above v))
       (record {
         within = omega arith;
         none_above = λ j g. not_T (lt (at 0) (at j)) (λ t. lt_irrefl (at 0) (subst (λ (i : ℕ). T (lt (at 0) (at i))) (omega arith) t));

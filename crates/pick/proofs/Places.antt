@@ -16,7 +16,7 @@ use Rattle.float.proofs.Order.{lt_or_ge, le_trans, le_of_nlt}
 use Rattle.float.proofs.Interval.{le_refl}
 use Rattle.float.specs.Arithmetic.{minus_zero, plus_zero, sum_from}
 use Rattle.rng.specs.SplitMix.{step_of, mix_of, unit_of}
-use Rattle.pick.specs.Places.{argmax_up_to, argmax_of, argmin_up_to, argmin_of}
+use Rattle.pick.specs.Places.{place_up_to, place_of, above, argmax_of, argmin_up_to, argmin_of}
 use Rattle.pick.specs.Pick.{pick_from, pick_of}
 
 -- what holds of both holds of either
@@ -24,56 +24,38 @@ pub either : {A : Type 0} (P : A → Type 0) (b : Bool) (x y : A) → P x → P 
 either P true x y h g = h
 either P false x y h g = g
 
--- the place of the greatest and of the least: one place alone, a turn by the way that the test went, and the end of a loop that starts at
--- place 1
-module _ (v : List Float) where
-  pub argmax_one : argmax_up_to v 1 ≡ 0
-  unfolding argmax_up_to
-  argmax_one = either (λ (i : ℕ). i ≡ 0) (lt (get_or v 0 nan) (get_or v 0 nan)) 0 0 refl refl
+-- the place held: after one element, after a turn by the way that the test went, and at the end of a loop that starts at place 1; and it
+-- lies in the vector, if that is not empty
+module _ (test : Float → Float → Bool) where
+  pub place_one : (v : List Float) → place_up_to test v 1 ≡ 0
+  unfolding place_up_to
+  place_one v = either (λ (i : ℕ). i ≡ 0) (test (get_or v 0 nan) (get_or v 0 nan)) 0 0 refl refl
 
-  pub argmin_one : argmin_up_to v 1 ≡ 0
-  unfolding argmin_up_to
-  argmin_one = either (λ (i : ℕ). i ≡ 0) (lt (get_or v 0 nan) (get_or v 0 nan)) 0 0 refl refl
+  pub place_turn : (v : List Float) (best best' i : ℕ) (t : Bool) → best ≡ place_up_to test v i → t ≡ test (get_or v i nan) (get_or v best nan)
+      → best' ≡ cond t i best → best' ≡ place_up_to test v (i + 1)
+  unfolding place_up_to
+  place_turn v best best' i t e g h = rw (add-one, ← e, ← g) h
 
-  module _ (best best' i : ℕ) (t : Bool) where
-    pub argmax_turn : best ≡ argmax_up_to v i → lt (get_or v best nan) (get_or v i nan) ≡ t → best' ≡ cond t i best → best' ≡ argmax_up_to v (i + 1)
-    unfolding argmax_up_to
-    argmax_turn e g h = rw (add-one, ← e, g) h
+  pub place_end : (v : List Float) (i : ℕ) → i ≡ max (length v) 1 → place_up_to test v i ≡ place_of test v
+  unfolding place_up_to
+  place_end [] i e = let f : i ≡ 1 = omega arith in rw f (place_one [])
+  place_end (x ∷ v) i e = let f : i ≡ suc (length v) = omega arith in rw f
 
-    pub argmin_turn : best ≡ argmin_up_to v i → lt (get_or v i nan) (get_or v best nan) ≡ t → best' ≡ cond t i best → best' ≡ argmin_up_to v (i + 1)
-    unfolding argmin_up_to
-    argmin_turn e g h = rw (add-one, ← e, g) h
+  place_within : (v : List Float) (n : ℕ) → 0 < length v → n ≤ length v → place_up_to test v n < length v
+  unfolding place_up_to
+  place_within v zero h g = h
+  place_within v (suc i) h g =
+      either (λ (p : ℕ). p < length v) (test (get_or v i nan) (get_or v (place_up_to test v i) nan)) i (place_up_to test v i) g
+      (place_within v i h (omega arith))
 
-pub argmax_end : (v : List Float) (i : ℕ) → i ≡ max (length v) 1 → argmax_up_to v i ≡ argmax_up_to v (length v)
-unfolding argmax_up_to
-argmax_end [] i e = let f : i ≡ 1 = omega arith in rw f (argmax_one [])
-argmax_end (x ∷ v) i e = let f : i ≡ suc (length v) = omega arith in rw f
-
-pub argmin_end : (v : List Float) (i : ℕ) → i ≡ max (length v) 1 → argmin_up_to v i ≡ argmin_up_to v (length v)
-unfolding argmin_up_to
-argmin_end [] i e = let f : i ≡ 1 = omega arith in rw f (argmin_one [])
-argmin_end (x ∷ v) i e = let f : i ≡ suc (length v) = omega arith in rw f
-
--- the place lies in the vector, if it is not empty
-argmax_within : (v : List Float) (n : ℕ) → 0 < length v → n ≤ length v → argmax_up_to v n < length v
-unfolding argmax_up_to
-argmax_within v zero h g = h
-argmax_within v (suc i) h g =
-    either (λ (p : ℕ). p < length v) (lt (get_or v (argmax_up_to v i) nan) (get_or v i nan)) i (argmax_up_to v i) g
-    (argmax_within v i h (omega arith))
-
-argmin_within : (v : List Float) (n : ℕ) → 0 < length v → n ≤ length v → argmin_up_to v n < length v
-unfolding argmin_up_to
-argmin_within v zero h g = h
-argmin_within v (suc i) h g =
-    either (λ (p : ℕ). p < length v) (lt (get_or v i nan) (get_or v (argmin_up_to v i) nan)) i (argmin_up_to v i) g
-    (argmin_within v i h (omega arith))
+  pub place_below : (v : List Float) → 0 < length v → place_of test v < length v
+  place_below v h = place_within v (length v) h (omega arith)
 
 pub argmax_below : (v : List Float) → 0 < length v → argmax_of v < length v
-argmax_below v h = argmax_within v (length v) h (omega arith)
+argmax_below = place_below above
 
 pub argmin_below : (v : List Float) → 0 < length v → argmin_of v < length v
-argmin_below v h = argmin_within v (length v) h (omega arith)
+argmin_below = place_below lt
 
 -- the element at the place of the least is at most each, where all are numbers
 module _ (v : List Float) (numbers : (i : ℕ) → i < length v → T (not (is_nan (get_or v i nan)))) where
@@ -98,11 +80,11 @@ module _ (v : List Float) (numbers : (i : ℕ) → i < length v → T (not (is_n
       (lt_or_ge j n)
 
   least_to : (n : ℕ) → n ≤ length v → (j : ℕ) → j < n → T (le (get_or v (argmin_up_to v n) nan) (get_or v j nan))
-  unfolding argmin_up_to
+  unfolding place_up_to
   least_to zero l j g = absurd (omega arith)
   least_to (suc n) l j g =
       let b = argmin_up_to v n in
-      least_by (lt (get_or v n nan) (get_or v b nan)) n b j refl l (argmin_within v n (omega arith) (omega arith)) (omega arith)
+      least_by (lt (get_or v n nan) (get_or v b nan)) n b j refl l (place_within lt v n (omega arith) (omega arith)) (omega arith)
       (least_to n (omega arith) j)
 
   pub argmin_least : (j : ℕ) → j < length v → T (le (get_or v (argmin_of v) nan) (get_or v j nan))

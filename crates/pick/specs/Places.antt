@@ -1,28 +1,37 @@
 -- vmf.rs, 'shared helpers': the place of the greatest and of the least of a list of f64. Definitions only.
-use Rattle.std.specs.Prelude.{List, cond, ℕ, zero, suc, length, get_or, Float}
+use Rattle.std.specs.Prelude.{◌≡◌, List, Bool, cond, ℕ, zero, suc, length, get_or, Float}
 use Rattle.std.specs.Float.{nan}
 use Rattle.std.specs.Float.Ieee.{lt}
 
-module _ (v : List Float) where
-  -- The place of the greatest among the first n elements, the first of equals: an element takes the place only where
-  -- it is above the one held, and a comparison with a NaN is false.
-  abbrev pub greater : (best i : ℕ) → ℕ
-  greater best i = cond (lt (get_or v best nan) (get_or v i nan)) i best
+-- a closure's answers are this test's
+abbrev pub Tests : (Float → Float → Bool → Type 0) → (Float → Float → Bool) → Type 0
+Tests answers test = (x y : Float) (t : Bool) → answers x y t → t ≡ test x y
 
-  unfoldable pub argmax_up_to : (n : ℕ) → ℕ
-  argmax_up_to zero = 0
-  argmax_up_to (suc i) = greater (argmax_up_to i) i
+-- The place held among the first n elements, where an element takes the place only if it passes the one held.
+module _ (passes : Float → Float → Bool) (v : List Float) where
+  abbrev pub next_place : (best i : ℕ) → ℕ
+  next_place best i = cond (passes (get_or v i nan) (get_or v best nan)) i best
 
-  abbrev pub argmax_of : ℕ
-  argmax_of = argmax_up_to (length v)
+  unfoldable pub place_up_to : (n : ℕ) → ℕ
+  place_up_to zero = 0
+  place_up_to (suc i) = next_place (place_up_to i) i
 
-  -- the place of the least, likewise
-  abbrev pub less : (best i : ℕ) → ℕ
-  less best i = cond (lt (get_or v i nan) (get_or v best nan)) i best
+  abbrev pub place_of : ℕ
+  place_of = place_up_to (length v)
 
-  unfoldable pub argmin_up_to : (n : ℕ) → ℕ
-  argmin_up_to zero = 0
-  argmin_up_to (suc i) = less (argmin_up_to i) i
+-- The place of the greatest, the first of equals: an element takes the place only where it is above the one held, and
+-- a comparison with a NaN is false. And the place of the least, likewise.
+abbrev pub above : Float → Float → Bool
+above x held = lt held x
 
-  abbrev pub argmin_of : ℕ
-  argmin_of = argmin_up_to (length v)
+abbrev pub argmax_up_to : List Float → (n : ℕ) → ℕ
+argmax_up_to = place_up_to above
+
+abbrev pub argmax_of : List Float → ℕ
+argmax_of = place_of above
+
+abbrev pub argmin_up_to : List Float → (n : ℕ) → ℕ
+argmin_up_to = place_up_to lt
+
+abbrev pub argmin_of : List Float → ℕ
+argmin_of = place_of lt

@@ -2,38 +2,36 @@
 // proportion to its weight.
 #![tactic(auto)]
 
-ghost use Rattle.std.specs.Prelude.{◌≡◌, max};
-ghost use Rattle.pick.specs.Places.{argmax_of, argmin_of};
+ghost use Rattle.std.specs.Prelude.{◌≡◌, max, Bool, Float};
+ghost use Rattle.pick.specs.Places.{Tests, place_of, argmax_of, argmin_of};
 ghost use Rattle.pick.specs.Pick.{pick_of, pick_from};
+
+// From the first place on, an element takes the place where it passes the one held; the place held at the end.
+fn place_by<F: Fn(f64, f64) -> bool>(v: &[f64], passes: F) -> usize
+    requires { F.IsAlwaysCallable passes }
+    ensures { (test : Float → Float → Bool) → Tests (λ x y t. F.post passes x y t) test → result ≡ place_of test v.now }
+{
+    let mut best = 0;
+    for i in 1..v.len() {
+        if passes(v[i], v[best]) {
+            best = i;
+        }
+    }
+    best
+}
 
 // The place of the greatest element, the first of equals; 0 in an empty vector.
 pub fn argmax(v: &[f64]) -> usize
     ensures { result ≡ argmax_of v.now }
 {
-    let mut best = 0;
-    let mut i = 1;
-    while i < v.len() {
-        if v[best] < v[i] {
-            best = i;
-        }
-        i += 1;
-    }
-    best
+    place_by(v, |x, held| held < x)
 }
 
 // The place of the least element, the first of equals; 0 in an empty vector.
 pub fn argmin(v: &[f64]) -> usize
     ensures { result ≡ argmin_of v.now }
 {
-    let mut best = 0;
-    let mut i = 1;
-    while i < v.len() {
-        if v[i] < v[best] {
-            best = i;
-        }
-        i += 1;
-    }
-    best
+    place_by(v, |x, held| x < held)
 }
 
 // What a pick answers: the place, and the generator after its draw.
@@ -48,22 +46,20 @@ fn pick_at(w: &[f64], start: f64) -> usize
     ensures { result ≡ pick_from start 0 w.now }
 {
     let mut t = start;
-    let mut i = 0;
-    while i < w.len() {
-        t = t - w[i];
+    for (i, x) in w.iter().enumerate() {
+        t = t - *x;
         if t <= 0.0 {
             return i;
         }
-        i += 1;
     }
-    if i == 0 { 0 } else { i - 1 }
+    w.len().saturating_sub(1)
 }
 
 // n, and 1 for 0.
 fn at_least_one(n: usize) -> usize
     ensures { result ≡ max n 1 }
 {
-    if n == 0 { 1 } else { n }
+    n.max(1)
 }
 
 // A place with a chance in proportion to its weight, by one draw from the generator.
@@ -71,7 +67,7 @@ pub fn weighted_pick(w: &[f64], generator: u64) -> Picked
     ensures { result ≡ pick_of w.now generator }
 {
     let total = vector::sum(w);
-    let drawn = rng::draw_u64(generator);
+    let drawn = rng::draw::<u64>(generator);
     if total <= 0.0 {
         return Picked {
             index: drawn.out as usize % at_least_one(w.len()),

@@ -9,18 +9,14 @@ use Rattle.pick.proofs.pick_at.Goals as goal
 pub returns-then-t : goal.returns-then-t
 unfolding of_bits
 returns-then-t c =
-    pick_found c.loop-i.t c.args.w.now c.loop-i.i (omega arith) c.if-t.true ∙ c.loop-i.invariant.1
+    pick_found c.loop-i.t c.args.w.now c.loop-i.i (omega arith) c.if-t.true ∙ c.loop-i.invariant
 
 pub loop-i-preserved : goal.loop-i-preserved
 unfolding of_bits
 loop-i-preserved c =
-    (omega arith, pick_turn c.loop-i.t c.args.w.now c.loop-i.i (omega arith) c.if-t.false ∙ c.loop-i.invariant.1)
+    pick_turn c.loop-i.t c.args.w.now c.loop-i.i (omega arith) c.if-t.false ∙ c.loop-i.invariant
 
-pub returns-then-i-eq0 : goal.returns-then-i-eq0
-returns-then-i-eq0 c =
-    let e : 0 ≡ c.loop-i.i - 1 = omega arith in
-    e ∙ pick_end c.loop-i.t c.args.w.now c.loop-i.i (omega arith) ∙ c.loop-i.invariant.1
-
-pub returns-else-i-eq0 : goal.returns-else-i-eq0
-returns-else-i-eq0 c =
-    pick_end c.loop-i.t c.args.w.now c.loop-i.i (omega arith) ∙ c.loop-i.invariant.1
+pub returns : goal.returns
+returns c =
+    let e : c.saturating_sub.result ≡ c.loop-i.i - 1 = omega arith in
+    e ∙ pick_end c.loop-i.t c.args.w.now c.loop-i.i (omega arith) ∙ c.loop-i.invariant

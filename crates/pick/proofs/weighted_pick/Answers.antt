@@ -14,7 +14,7 @@ use Rattle.pick.specs.Pick.{pick_from, pick_of}
 use Rattle.pick.specs.declared.Picked.{Picked}
 use Rattle.pick.proofs.weighted_pick.Goals as goal
 
-module _ (ws : List Float) (generator : ℕ) (total : Float) (d : Drawn) (sums : total ≡ sum_from minus_zero ws)
+module _ (ws : List Float) (generator : ℕ) (total : Float) (d : Drawn ℕ) (sums : total ≡ sum_from minus_zero ws)
     (draws : d ≡ drawn generator) where
   low : (most : ℕ) → most ≡ max (length ws) 1 → le total plus_zero ≡ true
       → ◌≡◌ {A = Picked} (record { index = d.out % most; generator = d.state }) (pick_of ws generator)
@@ -28,7 +28,7 @@ pub returns-then-total : goal.returns-then-total
 unfolding of_bits
 returns-then-total c =
     let x = c.args in
-    low x.w.now x.generator c.sum-total.result c.draw_u64-drawn.result c.sum-total.ensures c.draw_u64-drawn.ensures c.at_least_one.result
+    low x.w.now x.generator c.sum-total.result c.draw-drawn.result c.sum-total.ensures c.draw-drawn.ensures c.at_least_one.result
     c.at_least_one.ensures
     c.if-total.true
 
@@ -36,7 +36,7 @@ pub returns : goal.returns
 unfolding of_bits
 returns c =
     let x = c.args in
-    high x.w.now x.generator c.sum-total.result c.draw_u64-drawn.result c.sum-total.ensures c.draw_u64-drawn.ensures c.unit_f64.result
+    high x.w.now x.generator c.sum-total.result c.draw-drawn.result c.sum-total.ensures c.draw-drawn.ensures c.unit_f64.result
     c.pick_at.result
     c.unit_f64.ensures
     c.pick_at.ensures
