@@ -42,8 +42,8 @@ copy-requires c =
     alike c.args.labels.now c.args.work_u32.now c.args.m b (b + c.args.m - b) (omega arith) c.requires.labels_long
     (omega (arith, (work_u32_held (goal.at.copy-requires c).After-held_at-b).0))
 
-pub slice_bounds-copy-end-@ : goal.slice_bounds-copy-end-@
-slice_bounds-copy-end-@ c =
+pub slice_bounds-copy-end-5 : goal.slice_bounds-copy-end-5
+slice_bounds-copy-end-5 c =
     sym (length-take-le (c.args.k * c.args.d) c.args.directions.now c.requires.directions_long)
 
 work_near : (c : After-held_at-b) → c.held_at-a.result + c.args.k * c.args.d ≤ 1000000
@@ -51,11 +51,11 @@ work_near c =
     let z = c.requires.halves.sizes in
     omega (arith, work_held c, z.m_small, z.k_small, z.mk_small, z.kd_small)
 
-pub copy-2-requires : goal.copy-2-requires
-copy-2-requires c =
+pub copy-requires-2 : goal.copy-requires-2
+copy-requires-2 c =
     let b = c.held_at-a.result in
     alike c.args.directions.now c.args.work.now (c.args.k * c.args.d) b (b + c.args.k * c.args.d - b) (omega arith)
-    c.requires.directions_long (omega (arith, (work_held (goal.at.copy-2-requires c).After-held_at-b).0))
+    c.requires.directions_long (omega (arith, (work_held (goal.at.copy-requires-2 c).After-held_at-b).0))
 
 pub returns : goal.returns
 returns c =
@@ -90,5 +90,5 @@ overflow_add-a c = omega (arith, work_near (goal.at.overflow_add-a c).After-held
 pub offset_bounds-work-a : goal.offset_bounds-work-a
 offset_bounds-work-a c = omega (arith, work_near (goal.at.offset_bounds-work-a c).After-held_at-b)
 
-pub slice_bounds-copy-end-@3 : goal.slice_bounds-copy-end-@3
-slice_bounds-copy-end-@3 c = omega (arith, (work_held (goal.at.slice_bounds-copy-end-@3 c).After-held_at-b).0)
+pub slice_bounds-copy-end-6 : goal.slice_bounds-copy-end-6
+slice_bounds-copy-end-6 c = omega (arith, (work_held (goal.at.slice_bounds-copy-end-6 c).After-held_at-b).0)
