@@ -5,8 +5,7 @@ use words::{plus, word};
 
 // The place of the last element that is written of the list at word `at`, counted from its first.
 fn last(line: &[u64], at: usize) -> usize {
-    let written = word(line, plus(at, 1)) as usize;
-    if written == 0 { 0 } else { written - 1 }
+    (word(line, plus(at, 1)) as usize).saturating_sub(1)
 }
 
 // The word after the list at word `at`.
@@ -32,7 +31,8 @@ pub(crate) fn bytes_at(line: &[u64], at: usize) -> words::Bytes {
     words::Bytes {
         count: word(line, at) as usize,
         from: plus(at, 2),
-        last: last(line, at),
-        packed: false,
+        layout: words::Layout::Spread {
+            last: last(line, at),
+        },
     }
 }

@@ -5,6 +5,11 @@ ghost use Rattle.edge_cases.specs.Five.{five_of};
 use std::io;
 use words::{number, word};
 
+// The operation that has this number; abs where none has.
+fn operation_of(number: u64) -> words::Operation {
+    words::Operation::try_from(number).unwrap_or(words::Operation::Abs)
+}
+
 // Kinds 1 to 8: root, exp, ln, max, clamp, abs, and once more exp and ln. Words 1 to 3 are arguments, and word 4 is the
 // value, all NaN as one; in kinds 7 and 8 the value lies between words 2 and 3.
 pub(crate) fn number_holds(kind: u64, line: &[u64]) -> bool {
@@ -12,9 +17,9 @@ pub(crate) fn number_holds(kind: u64, line: &[u64]) -> bool {
     let y = number(line, 2);
     let z = number(line, 3);
     if kind < 7 {
-        return words::is_number(words::arithmetic(kind, x, y, z), line, 4);
+        return words::is_number(words::arithmetic(operation_of(kind), x, y, z), line, 4);
     }
-    let v = words::arithmetic(kind - 5, x, y, z);
+    let v = words::arithmetic(operation_of(kind - 5), x, y, z);
     (y < v) & (v < z)
 }
 
@@ -33,11 +38,11 @@ fn five_lent(seed: u64) -> Five
     ensures { result ≡ five_of seed }
 {
     let mut g = rng::SplitMix64::new(seed);
-    let a = rng::next_u64(&mut g);
-    let b = rng::next_u64(&mut g);
-    let c = rng::next_u64(&mut g);
-    let d = rng::next_u64(&mut g);
-    let e = rng::next_u64(&mut g);
+    let a = g.next();
+    let b = g.next();
+    let c = g.next();
+    let d = g.next();
+    let e = g.next();
     Five { a, b, c, d, e }
 }
 

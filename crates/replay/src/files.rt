@@ -6,8 +6,7 @@ fn packed_at(case: &[u64], at: usize) -> words::Bytes {
     words::Bytes {
         count: word(case, at) as usize,
         from: plus(at, 1),
-        last: 0,
-        packed: true,
+        layout: words::Layout::Packed,
     }
 }
 

@@ -3,11 +3,13 @@ ghost use Rattle.std.specs.Prelude.{◌≡◌};
 ghost use Rattle.bessel.specs.Concentration.{Dimension};
 ghost use Rattle.rng.specs.Drawn.{drawn, drawn_f64};
 
-use words::{is_number, number, word};
+use words::{Operation, is_number, number, word};
 
-// Kinds 1 to 6: root, exp, ln, max, clamp, abs; by the number of words in, after which the answer stands.
+// Kinds 1 to 6: root, exp, ln, max, clamp, abs, as for any other; by the number of words in, after which the answer
+// stands.
 pub(crate) fn arithmetic_agrees(kind: u64, case: &[u64], ins: usize) -> bool {
-    let x = words::arithmetic(kind, number(case, 0), number(case, 1), number(case, 2));
+    let operation = Operation::try_from(kind).unwrap_or(Operation::Abs);
+    let x = words::arithmetic(operation, number(case, 0), number(case, 1), number(case, 2));
     is_number(x, case, ins)
 }
 
@@ -17,7 +19,7 @@ fn draws_agree(case: &[u64]) -> bool {
     let mut same = true;
     let mut i = 1;
     while i < 65 {
-        let d = rng::draw_u64(state);
+        let d = rng::draw::<u64>(state);
         state = d.state;
         same = same & (d.out == word(case, i));
         i += 1;
@@ -37,9 +39,9 @@ fn draw_lent(seed: u64) -> Draw
     ensures { (result.number ≡ (drawn seed).out) × (result.fraction ≡ (drawn_f64 seed).out) }
 {
     let mut g = rng::SplitMix64::new(seed);
-    let number = rng::next_u64(&mut g);
+    let number = g.next();
     let mut h = rng::SplitMix64::new(seed);
-    let fraction = rng::next_f64(&mut h);
+    let fraction = h.next();
     Draw { number, fraction }
 }
 

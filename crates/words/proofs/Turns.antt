@@ -2,7 +2,7 @@
 -- the place of a byte go by what is left of the text, the words with what is done before it. Assumes nothing.
 use mathlib.Core.Path.{◌≡◌, ap, ◌∙◌}
 use mathlib.Core.List.{List, [], ◌∷◌, ◌++◌, append_assoc, append-nil}
-use Prim.Native.Nat.{ℕ, ◌+◌, ◌*◌, ◌%◌, ◌≤◌, ◌<◌}
+use Prim.Native.Nat.{ℕ, ◌+◌, ◌-◌, ◌*◌, ◌%◌, ◌≤◌, ◌<◌}
 use native.Mathlib.Nat.{add-zero}
 use native.Mathlib.Numerals.{add-one}
 use native.Mathlib.Omega.{arith}
@@ -12,6 +12,37 @@ use lib.Ieee.{Float, binary64, of_bits}
 use borrow.Author.Tests.{lt-ltb, le-ltb, eq-eqb, ne_eqb}
 use Rattle.words.specs.Words.{digit_of, words_from, words_of, place_of, element_of, values_up_to, byte_of, bytes_up_to}
 use Rattle.words.specs.declared.Bytes.{Bytes}
+
+-- a digit by where the byte lies
+module _ (b : ℕ) where
+  pub digit_below : b < 48 → digit_of b ≡ 16
+  unfolding digit_of
+  digit_below h = rw (lt-ltb _ _ h)
+
+  pub digit_ten : 48 ≤ b → b < 58 → digit_of b ≡ b - 48
+  unfolding digit_of
+  digit_ten g h = rw (le-ltb _ _ g, lt-ltb _ _ h)
+
+  pub digit_between : 58 ≤ b → b < 97 → digit_of b ≡ 16
+  unfolding digit_of
+  digit_between g h =
+      let f : 48 ≤ b = omega arith in
+      rw (le-ltb _ _ f, le-ltb _ _ g, lt-ltb _ _ h)
+
+  pub digit_six : 97 ≤ b → b < 103 → digit_of b ≡ b - 97 + 10
+  unfolding digit_of
+  digit_six g h =
+      let f : 48 ≤ b = omega arith in
+      let e : 58 ≤ b = omega arith in
+      rw (le-ltb _ _ f, le-ltb _ _ e, le-ltb _ _ g, lt-ltb _ _ h) (omega arith)
+
+  pub digit_above : 103 ≤ b → digit_of b ≡ 16
+  unfolding digit_of
+  digit_above g =
+      let f : 48 ≤ b = omega arith in
+      let e : 58 ≤ b = omega arith in
+      let d : 97 ≤ b = omega arith in
+      rw (le-ltb _ _ f, le-ltb _ _ e, le-ltb _ _ d, le-ltb _ _ g)
 
 -- while a text is read: n words stand in `to`, which has room for m, and x is the value of the digits behind them, up to place i
 abbrev pub Reading : (text : List ℕ) (m : ℕ) (to : List ℕ) (n x i : ℕ) → Type 0

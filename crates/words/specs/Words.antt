@@ -1,14 +1,12 @@
--- What the programs that run lists of examples read: the words of a text, the lists among them, and the functions that
--- a kind of example names. Definitions only.
+-- What the programs that run lists of examples read: the words of a text, and the lists among them. Definitions
+-- only.
 use Rattle.std.specs.Prelude.{◌≡◌, cond, List, [], ◌∷◌, ◌++◌, length, take, get_or, Float}
-use Rattle.std.specs.Prelude.{ℕ, zero, suc, ◌+◌, ◌-◌, ◌*◌, ◌/◌, ◌%◌, ◌^◌, ◌≤◌, min, eqb, ltb}
+use Rattle.std.specs.Prelude.{ℕ, zero, suc, ◌+◌, ◌-◌, ◌*◌, ◌/◌, ◌%◌, ◌^◌, ◌≤◌, ◌<◌, min, eqb, ltb}
 use Rattle.std.specs.Float.{binary64}
 use Rattle.std.specs.Float.Ieee.{of_bits}
-use Rattle.float.specs.Arithmetic.{max_of, clamp_of, abs_of}
-use Rattle.root.specs.Root.{root_of}
-use Rattle.exponential.specs.Exponential.{exp_of}
-use Rattle.logarithm.specs.Logarithm.{ln_of}
 use Rattle.words.specs.declared.Bytes.{Bytes}
+use Rattle.words.specs.declared.Layout.{Layout}
+use Rattle.words.specs.declared.Layout.TheVariants.{Packed, Spread}
 
 -- n counts elements at the start of an array. The second part follows from the first; both are stated, since lending
 -- that part of the array asks for both
@@ -50,21 +48,22 @@ values_up_to words from last (suc n) =
     values_up_to words from last n ++ (of_bits binary64 (element_of words from last n) ∷ [])
 
 -- byte j of a list of bytes, which are packed eight to a word, the first lowest, or stand one to a word; and the first
+abbrev pub byte_in : List ℕ → (from : ℕ) → Layout → ℕ → ℕ
+byte_in words from Packed j = get_or words (plus_of from (j / 8)) 0 / 2 ^ (j % 8 * 8) % 256
+byte_in words from (Spread last) j = element_of words from last j % 256
+
 abbrev pub byte_of : List ℕ → Bytes → ℕ → ℕ
-byte_of words list j =
-    cond list.packed
-    (get_or words (plus_of list.from (j / 8)) 0 / 2 ^ (j % 8 * 8) % 256)
-    (element_of words list.from list.last j % 256)
+byte_of words list j = byte_in words list.from list.layout j
 
 abbrev pub bytes_up_to : List ℕ → Bytes → ℕ → List ℕ
 bytes_up_to words list zero = []
 bytes_up_to words list (suc n) = bytes_up_to words list n ++ (byte_of words list n ∷ [])
 
--- the function that a kind of example names
-abbrev pub arithmetic_of : ℕ → (x y z : Float) → Float
-arithmetic_of kind x y z =
-    cond (eqb kind 1) (root_of x)
-    (cond (eqb kind 2) (exp_of x)
-    (cond (eqb kind 3) (ln_of x)
-    (cond (eqb kind 4) (max_of x y)
-    (cond (eqb kind 5) (clamp_of x y z) (abs_of x)))))
+-- place j of an array, where the list's first n bytes stand at its start and the rest is still 7
+abbrev pub due_at : List ℕ → Bytes → (n j : ℕ) → ℕ
+due_at words list n j = cond (ltb j n) (byte_of words list j) 7
+
+-- the whole list is the array's first n bytes, and the rest is still 7
+pub record AreBytes (v : List ℕ) (n : ℕ) (words : List ℕ) (list : Bytes) : Type 0 where
+  pub whole : n ≡ list.count
+  pub each : (j : ℕ) → j < length v → get_or v j 0 ≡ due_at words list n j

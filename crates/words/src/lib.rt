@@ -3,18 +3,20 @@
 // parts of that array.
 #![tactic(auto)]
 
-ghost use Rattle.std.specs.Prelude.{◌≡◌, ◌+◌, ◌≤◌, min, eqb, length, take, drop, get_or};
+ghost use Rattle.std.specs.Prelude.{◌≡◌, ◌↔◌, IsTrue, ◌+◌, ◌≤◌, min, eqb, length, take, drop, get_or};
 ghost use Rattle.std.specs.Float.{binary64};
 ghost use Rattle.std.specs.Float.Ieee.{of_bits, to_bits};
 ghost use Rattle.words.specs.Words.{Counted, digit_of, words_of, place_of};
-ghost use Rattle.words.specs.Words.{plus_of, element_of, values_up_to, byte_of, bytes_up_to, arithmetic_of};
+ghost use Rattle.words.specs.Words.{plus_of, element_of, values_up_to, byte_of, bytes_up_to};
+ghost use Rattle.words.specs.Words.{due_at, AreBytes};
+ghost use Rattle.words.specs.Arithmetic.{Numbered, arithmetic_of};
 
 // The smaller of two numbers.
 pub fn least(a: usize, b: usize) -> usize
     ensures upper_bound { result ≤ b }
     ensures value { result ≡ min a b }
 {
-    if a < b { a } else { b }
+    a.min(b)
 }
 
 // The sum of two places or counts, each modulo 2^32.
@@ -24,29 +26,15 @@ pub fn plus(a: usize, b: usize) -> usize
     a % 4294967296 + b % 4294967296
 }
 
-fn wide(b: u8) -> u64
-    ensures { result ≡ b }
-{
-    b as u64
-}
-
 // The value of a hexadecimal digit; 16 for any other byte.
 fn digit(b: u8) -> u64
     ensures { result ≡ digit_of b }
 {
-    if b < 48 {
-        return 16;
+    match b {
+        b'0'..=b'9' => u64::from(b - b'0'),
+        b'a'..=b'f' => u64::from(b - b'a' + 10),
+        _ => 16,
     }
-    if b < 58 {
-        return wide(b - 48);
-    }
-    if b < 97 {
-        return 16;
-    }
-    if b < 103 {
-        return wide(b - 87);
-    }
-    16
 }
 
 // Puts the words of a text at the start of `to`, and answers how many; no more than `to` holds.
@@ -56,12 +44,11 @@ pub fn read(to: &mut [u64], text: &[u8]) -> usize
 {
     let mut n = 0;
     let mut x: u64 = 0;
-    let mut i = 0;
-    while i < text.len() {
+    for b in text {
         if n == to.len() {
             return n;
         }
-        let d = digit(text[i]);
+        let d = digit(*b);
         if d < 16 {
             x = x % 0x1000_0000_0000_0000 * 16 + d;
         } else {
@@ -69,7 +56,6 @@ pub fn read(to: &mut [u64], text: &[u8]) -> usize
             n += 1;
             x = 0;
         }
-        i += 1;
     }
     n
 }
@@ -81,14 +67,12 @@ pub fn place_of(text: &[u8], from: usize, b: u8) -> usize
     ensures counted { Counted result text.now }
     ensures value { result ≡ from + place_of b (drop from text.now) }
 {
-    let mut i = from;
-    while i < text.len() {
+    for i in from..text.len() {
         if text[i] == b {
             return i;
         }
-        i += 1;
     }
-    i
+    text.len()
 }
 
 // Word j; 0 past the end.
@@ -127,32 +111,37 @@ pub fn load(v: &mut [f64], words: &[u64], from: usize, last: usize, n: usize) ->
     ensures v_after { take result v.new ≡ values_up_to words.now from last result }
 {
     let m = least(n, v.len());
-    let mut j = 0;
-    while j < m {
+    for j in 0..m {
         v[j] = float::of_bits(element(words, from, last, j));
-        j += 1;
     }
     m
 }
 
-// A list of `count` bytes from word `from` on: packed eight to a word, the first lowest, or one to a word, of which
-// elements 0 to `last` are written and the last of them stands for the rest.
+// How the bytes of a list stand: eight to a word, the first lowest; or one to a word, of which elements 0 to `last` are
+// written and the last of them stands for the rest.
+#[derive(Clone, Copy)]
+pub enum Layout {
+    Packed,
+    Spread { last: usize },
+}
+
+// A list of `count` bytes from word `from` on.
 #[derive(Clone, Copy)]
 pub struct Bytes {
     pub count: usize,
     pub from: usize,
-    pub last: usize,
-    pub packed: bool,
+    pub layout: Layout,
 }
 
 // Byte j of a list.
 fn byte(words: &[u64], list: Bytes, j: usize) -> u8
     ensures { result ≡ byte_of words.now list j }
 {
-    if list.packed {
-        return ((word(words, plus(list.from, j / 8)) >> (j % 8 * 8)) % 256) as u8;
-    }
-    (element(words, list.from, list.last, j) % 256) as u8
+    let value = match list.layout {
+        Layout::Packed => word(words, plus(list.from, j / 8)) >> (j % 8 * 8),
+        Layout::Spread { last } => element(words, list.from, last, j),
+    };
+    (value % 256) as u8
 }
 
 // Puts a list at the start of v, and answers its length; no more than v holds.
@@ -162,47 +151,75 @@ pub fn load_bytes(v: &mut [u8], words: &[u64], list: Bytes) -> usize
     ensures v_after { take result v.new ≡ bytes_up_to words.now list result }
 {
     let m = least(list.count, v.len());
-    let mut j = 0;
-    while j < m {
+    for j in 0..m {
         v[j] = byte(words, list, j);
-        j += 1;
     }
     m
 }
 
-// Whether the first n of v are the list, and the rest are still 7.
-pub fn are_bytes(v: &[u8; 4096], n: usize, words: &[u64], list: Bytes) -> bool {
-    let mut same = n == list.count;
-    let mut j = 0;
-    while j < 4096 {
-        if j < n {
-            same = same & (v[j] == byte(words, list, j));
-        } else {
-            same = same & (v[j] == 7);
-        }
-        j += 1;
-    }
-    same
+// What place j of an array is due, where the list's first n bytes stand at its start and the rest is still 7.
+fn due(words: &[u64], list: Bytes, n: usize, j: usize) -> u8
+    ensures { result ≡ due_at words.now list n j }
+{
+    if j < n { byte(words, list, j) } else { 7 }
 }
 
-// Kinds 1 to 6 of an example: root, exp, ln, max, clamp, abs.
-pub fn arithmetic(kind: u64, x: f64, y: f64, z: f64) -> f64
-    ensures { result ≡ arithmetic_of kind x y z }
+// Whether the first n of v are the list, and the rest are still 7.
+pub fn are_bytes(v: &[u8; 4096], n: usize, words: &[u64], list: Bytes) -> bool
+    ensures { IsTrue result ↔ AreBytes v.now n words.now list }
 {
-    if kind == 1 {
-        return root::root(x);
+    for (j, x) in v.iter().enumerate() {
+        if *x != due(words, list, n, j) {
+            return false;
+        }
     }
-    if kind == 2 {
-        return exponential::exp(x);
+    n == list.count
+}
+
+// The functions that examples are of.
+#[derive(Clone, Copy, Debug, PartialEq, Eq, Hash)]
+pub enum Operation {
+    Root,
+    Exp,
+    Ln,
+    Max,
+    Clamp,
+    Abs,
+}
+
+// A number that no function has.
+#[derive(Clone, Copy, Debug, PartialEq, Eq, Hash)]
+pub struct UnknownOperation(pub u64);
+
+// By the numbers that the lists have.
+impl TryFrom<u64> for Operation {
+    type Error = UnknownOperation;
+
+    ghost try_from_gives = { Numbered };
+
+    fn try_from(number: u64) -> Result<Self, UnknownOperation> {
+        match number {
+            1 => Ok(Operation::Root),
+            2 => Ok(Operation::Exp),
+            3 => Ok(Operation::Ln),
+            4 => Ok(Operation::Max),
+            5 => Ok(Operation::Clamp),
+            6 => Ok(Operation::Abs),
+            _ => Err(UnknownOperation(number)),
+        }
     }
-    if kind == 3 {
-        return logarithm::ln(x);
+}
+
+// What a function gives.
+pub fn arithmetic(operation: Operation, x: f64, y: f64, z: f64) -> f64
+    ensures { result ≡ arithmetic_of operation x y z }
+{
+    match operation {
+        Operation::Root => root::root(x),
+        Operation::Exp => exponential::exp(x),
+        Operation::Ln => logarithm::ln(x),
+        Operation::Max => float::max(x, y),
+        Operation::Clamp => float::clamp(x, y, z),
+        Operation::Abs => float::abs(x),
     }
-    if kind == 4 {
-        return float::max(x, y);
-    }
-    if kind == 5 {
-        return float::clamp(x, y, z);
-    }
-    float::abs(x)
 }

@@ -1,5 +1,5 @@
 -- `words::load` meets its contract.
-use mathlib.Core.Path.{◌≡◌, refl, ap, subst, ◌∙◌}
+use mathlib.Core.Path.{◌≡◌, ap, subst, ◌∙◌}
 use Prim.Native.Nat.{ℕ, ◌≤◌}
 use native.Mathlib.Omega.{arith}
 use lib.ListN.{length, take, length-set}
@@ -9,17 +9,13 @@ use Rattle.words.specs.Words.{values_up_to}
 use Rattle.words.proofs.Turns.{values_turn}
 use Rattle.words.proofs.load.Goals as goal
 
-pub loop-j-init : goal.loop-j-init
-loop-j-init c = (refl, omega arith, refl)
-
 pub loop-j-preserved : goal.loop-j-preserved
 loop-j-preserved c =
     let l = c.loop-j in
     let a = c.args in (
       simp length-set l.invariant.0,
-      omega arith,
       values_turn a.words.now a.from a.last l.v l.j _ (omega (arith, l.invariant.0))
-          (c.of_bits.ensures ∙ ap (of_bits binary64) c.element.ensures) l.invariant.2,
+          (c.of_bits.ensures ∙ ap (of_bits binary64) c.element.ensures) l.invariant.1,
     )
 
 pub returns : goal.returns
@@ -29,7 +25,7 @@ returns c =
     let a = c.args in
     let h : m.result ≤ length l.v = rw l.invariant.0 m.ensures.upper_bound in
     let e : l.j ≡ m.result = omega arith in
-    let t = subst (λ (k : ℕ). take k l.v ≡ values_up_to a.words.now a.from a.last k) e l.invariant.2 in record {
+    let t = subst (λ (k : ℕ). take k l.v ≡ values_up_to a.words.now a.from a.last k) e l.invariant.1 in record {
       counted = (h, within m.result l.v h);
       value = m.ensures.value;
       v_after = t;

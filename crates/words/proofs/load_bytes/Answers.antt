@@ -1,5 +1,5 @@
 -- `words::load_bytes` meets its contract.
-use mathlib.Core.Path.{◌≡◌, refl, subst}
+use mathlib.Core.Path.{◌≡◌, subst}
 use Prim.Native.Nat.{ℕ, ◌≤◌}
 use native.Mathlib.Omega.{arith}
 use lib.ListN.{length, take, length-set}
@@ -8,16 +8,12 @@ use Rattle.words.proofs.Turns.{bytes_turn}
 use Rattle.words.proofs.Parts.{within}
 use Rattle.words.proofs.load_bytes.Goals as goal
 
-pub loop-j-init : goal.loop-j-init
-loop-j-init c = (refl, omega arith, refl)
-
 pub loop-j-preserved : goal.loop-j-preserved
 loop-j-preserved c =
     let l = c.loop-j in
     let a = c.args in (
       simp length-set l.invariant.0,
-      omega arith,
-      bytes_turn a.words.now a.list l.v l.j _ (omega (arith, l.invariant.0)) c.byte.ensures l.invariant.2,
+      bytes_turn a.words.now a.list l.v l.j _ (omega (arith, l.invariant.0)) c.byte.ensures l.invariant.1,
     )
 
 pub returns : goal.returns
@@ -27,7 +23,7 @@ returns c =
     let a = c.args in
     let h : m.result ≤ length l.v = rw l.invariant.0 m.ensures.upper_bound in
     let e : l.j ≡ m.result = omega arith in
-    let t = subst (λ (k : ℕ). take k l.v ≡ bytes_up_to a.words.now a.list k) e l.invariant.2 in record {
+    let t = subst (λ (k : ℕ). take k l.v ≡ bytes_up_to a.words.now a.list k) e l.invariant.1 in record {
       counted = (h, within m.result l.v h);
       value = m.ensures.value;
       v_after = t;
