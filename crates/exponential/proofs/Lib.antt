@@ -6,4 +6,4 @@ pub mod SeriesRange
 pub mod Exponential
 pub mod Low
 pub mod Small
-pub mod Fours
+pub mod Several

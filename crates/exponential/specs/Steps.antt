@@ -1,11 +1,11 @@
--- What the inner functions of this crate promise one another: the field of a power of two, and the series of four. No
+-- What the inner functions of this crate promise one another: the field of a power of two, and a series on its way. No
 -- definition of document 01 stands on this file. Definitions only.
 use Rattle.std.specs.Prelude.{◌≡◌, Bool, true, false, ◌&&◌, ℕ, ◌+◌, ◌*◌, ◌%◌, ◌≤◌, ◌<◌, T, ℤ, Float}
 use Rattle.std.specs.Float.{nan, inf, fin, binary64}
 use Rattle.std.specs.Float.Ieee.{up, down, minus, add, mul, div, neg, lt, le, of_int, to_bits}
 use Rattle.float.specs.Arithmetic.{f64, number}
-use Rattle.float.specs.declared.Four.{Four}
 use Rattle.exponential.specs.Exponential.{exp_from, left_of, floor_of, turns_of}
+use Rattle.exponential.specs.declared.Term.{Term}
 
 -- ---- one exponential between its borders
 
@@ -44,68 +44,23 @@ pub record Lifted (n : ℤ) (u : Float) : Type 0 where
 abbrev pub series_of : Float → Float → Float
 series_of x n = exp_from 13 (left_of x n) (number 1)
 
--- ---- four exponentials at once
-
--- 1 + (r·p)/j
-abbrev pub stepped : Float → Float → Float → Float
-stepped r p j = add binary64 (f64 0x3FF0000000000000) (div binary64 (mul binary64 r p) j)
-
-abbrev pub stepped_four : Four → Four → Float → Four
-stepped_four r p j =
-    record {
-      x0 = stepped r.x0 p.x0 j;
-      x1 = stepped r.x1 p.x1 j;
-      x2 = stepped r.x2 p.x2 j;
-      x3 = stepped r.x3 p.x3 j;
-    }
-
-abbrev pub left_four : Four → Four → Four
-left_four x n =
-    record {
-      x0 = left_of x.x0 n.x0;
-      x1 = left_of x.x1 n.x1;
-      x2 = left_of x.x2 n.x2;
-      x3 = left_of x.x3 n.x3;
-    }
-
--- the series of each from p, with j steps left; p begins at 1
-abbrev pub series_four : ℕ → Four → Four → Four
-series_four j r p =
-    record {
-      x0 = exp_from j r.x0 p.x0;
-      x1 = exp_from j r.x1 p.x1;
-      x2 = exp_from j r.x2 p.x2;
-      x3 = exp_from j r.x3 p.x3;
-    }
-
-abbrev pub ones_four : Four
-ones_four = record { x0 = number 1; x1 = number 1; x2 = number 1; x3 = number 1 }
-
-abbrev pub times_four : Four → Four → Four
-times_four p w =
-    record {
-      x0 = mul binary64 p.x0 w.x0;
-      x1 = mul binary64 p.x1 w.x1;
-      x2 = mul binary64 p.x2 w.x2;
-      x3 = mul binary64 p.x3 w.x3;
-    }
-
 -- n is x's whole number as a float, and w is 2^n
 pub record OnePower (x n w : Float) : Type 0 where
   pub whole : n ≡ of_int binary64 (floor_of (turns_of x))
   pub power : w ≡ fin false 1 (floor_of (turns_of x))
 
-pub record PowersOf (x n w : Four) : Type 0 where
-  pub at_0 : OnePower x.x0 n.x0 w.x0
-  pub at_1 : OnePower x.x1 n.x1 w.x1
-  pub at_2 : OnePower x.x2 n.x2 w.x2
-  pub at_3 : OnePower x.x3 n.x3 w.x3
+-- ---- the series on its way
 
-abbrev pub all_inside : Four → Bool
-all_inside x = inside x.x0 && inside x.x1 && inside x.x2 && inside x.x3
+-- where the series of x begins past n, with w beside it, and with n and 2^n of x itself
+abbrev pub started : Float → Float → Float → Term
+started x n w = record { r = left_of x n; p = number 1; w = w }
 
-pub record AllInside (x : Four) : Type 0 where
-  pub at_0 : T (inside x.x0)
-  pub at_1 : T (inside x.x1)
-  pub at_2 : T (inside x.x2)
-  pub at_3 : T (inside x.x3)
+abbrev pub begun : Float → Term
+begun x = started x (of_int binary64 (floor_of (turns_of x))) (fin false 1 (floor_of (turns_of x)))
+
+-- one step, p = 1 + (r·p)/j, and the j last steps
+abbrev pub stepped : Float → Term → Term
+stepped j t = record { r = t.r; p = add binary64 (f64 0x3FF0000000000000) (div binary64 (mul binary64 t.r t.p) j); w = t.w }
+
+abbrev pub summed : ℕ → Term → Term
+summed j t = record { r = t.r; p = exp_from j t.r t.p; w = t.w }

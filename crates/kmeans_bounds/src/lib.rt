@@ -116,11 +116,11 @@ fn both_shifted(b: Bounds, own: f64, other: f64) -> Bounds
             high: shift_upper(b.high, other),
         };
     }
-    let s = root::root2(squares(l, p), squares(u, q));
+    let [s, t] = root::roots([squares(l, p), squares(u, q)]);
     Bounds {
         scale: b.scale,
-        low: l * p - s.a,
-        high: u * q + s.b,
+        low: l * p - s,
+        high: u * q + t,
     }
 }
 

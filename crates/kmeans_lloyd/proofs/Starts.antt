@@ -6,11 +6,10 @@ use mathlib.Core.Bool.{true, false}
 use Prim.Native.Nat.{ℕ, ◌+◌, ◌*◌, ◌-◌, ◌≤◌, ◌<◌}
 use native.Mathlib.Numerals.{add-one}
 use native.Mathlib.Omega.{arith}
-use lib.ListN.{length, take, drop, set, replicate, length-replicate}
+use lib.ListN.{length, get_or, take, drop, set, replicate, length-replicate}
 use lib.Seq.{length-take-le}
 use lib.Ieee.{Float, nan, inf}
 use Rattle.float.specs.Arithmetic.{number}
-use Rattle.float.specs.declared.Four.{Four}
 use Rattle.rows.specs.Rows.{put_part, row_of}
 use Rattle.vector.specs.Vectors.{norm_of}
 use Rattle.rows.proofs.Rows.{row_cut}
@@ -60,27 +59,27 @@ module _ (m k d : ℕ) (coords : List Float) (u : List ℕ) (s : State) (ls : le
       → state_in m k d w u ≡ normed coords d i s → state_in m k d (set w (scale + i) v) u ≡ normed coords d (i + 1) s
   norms_turn w scale i v es h e f = norms_next w i (scale + i) v h (omega (arith, es)) (e ∙ ap norm_of (row_cut coords d i)) f
 
-  pub norms_four : (w : List Float) (scale i : ℕ) (f : Four) → scale ≡ scale_at m k d → i + 4 ≤ m → f ≡ four_norms coords d i
+  pub norms_four : (w : List Float) (scale i : ℕ) (f : List Float) → scale ≡ scale_at m k d → i + 4 ≤ m → f ≡ four_norms coords d i
       → state_in m k d w u ≡ normed coords d i s
       → let at = scale + i in
-      state_in m k d (set (set (set (set w at f.x0) (at + 1) f.x1) (at + 2) f.x2) (at + 3) f.x3) u ≡ normed coords d (i + 4) s
+      state_in m k d (set (set (set (set w at (get_or f 0 nan)) (at + 1) (get_or f 1 nan)) (at + 2) (get_or f 2 nan)) (at + 3) (get_or f 3 nan)) u
+      ≡ normed coords d (i + 4) s
   norms_four w scale i f es h e g =
       let at = scale + i in
       let p₂ : i + 1 + 1 ≡ i + 2 = omega arith in
       let p₃ : i + 2 + 1 ≡ i + 3 = omega arith in
       let p₄ : i + 3 + 1 ≡ i + 4 = omega arith in
-      let w₁ = set w at f.x0 in
-      let w₂ = set w₁ (at + 1) f.x1 in
-      let w₃ = set w₂ (at + 2) f.x2 in
-      let t₁ = norms_next w i at f.x0 (omega arith) (omega (arith, es)) (ap (λ (v : Four). v.x0) e) g in
+      let x : ℕ → Float = λ j. get_or f j nan in
+      let is : (j : ℕ) → x j ≡ get_or (four_norms coords d i) j nan = λ j. ap (λ (v : List Float). get_or v j nan) e in
+      let w₁ = set w at (x 0) in
+      let w₂ = set w₁ (at + 1) (x 1) in
+      let w₃ = set w₂ (at + 2) (x 2) in
+      let t₁ = norms_next w i at (x 0) (omega arith) (omega (arith, es)) (is 0) g in
       let t₂ =
-      norms_next w₁ (i + 1) (at + 1) f.x1 (omega arith) (omega (arith, es)) (ap (λ (v : Four). v.x1) e) t₁
-      ∙ ap (λ (n : ℕ). normed coords d n s) p₂ in
+      norms_next w₁ (i + 1) (at + 1) (x 1) (omega arith) (omega (arith, es)) (is 1) t₁ ∙ ap (λ (n : ℕ). normed coords d n s) p₂ in
       let t₃ =
-      norms_next w₂ (i + 2) (at + 2) f.x2 (omega arith) (omega (arith, es)) (ap (λ (v : Four). v.x2) e) t₂
-      ∙ ap (λ (n : ℕ). normed coords d n s) p₃ in
-      norms_next w₃ (i + 3) (at + 3) f.x3 (omega arith) (omega (arith, es)) (ap (λ (v : Four). v.x3) e) t₃
-      ∙ ap (λ (n : ℕ). normed coords d n s) p₄
+      norms_next w₂ (i + 2) (at + 2) (x 2) (omega arith) (omega (arith, es)) (is 2) t₂ ∙ ap (λ (n : ℕ). normed coords d n s) p₃ in
+      norms_next w₃ (i + 3) (at + 3) (x 3) (omega arith) (omega (arith, es)) (is 3) t₃ ∙ ap (λ (n : ℕ). normed coords d n s) p₄
 
   pub norms_end : (w : List Float) (i : ℕ) → i ≡ m → state_in m k d w u ≡ normed coords d i s
       → state_in m k d w u ≡ put_scale (norms_up_to coords d m) s

@@ -1,11 +1,10 @@
 -- What the functions of the start, of a round and of a whole run ask and promise. No definition of document 01 stands
 -- on this file.
-use Rattle.std.specs.Prelude.{◌≡◌, List, true, false, ℕ, ◌+◌, ◌≤◌, Float}
+use Rattle.std.specs.Prelude.{◌≡◌, List, [], ◌∷◌, true, false, ℕ, ◌+◌, ◌≤◌, Float}
 use Rattle.counts.specs.declared.Counts.{Counts}
 use Rattle.counts.specs.Counts.{AtMost, of_round, of_runs}
 use Rattle.rows.specs.Rows.{row_of}
 use Rattle.vector.specs.Vectors.{norm_of}
-use Rattle.float.specs.declared.Four.{Four}
 use Rattle.kmeans_lloyd.specs.Results.{Result}
 use Rattle.kmeans_layout.specs.State.{State}
 use Rattle.kmeans_update.specs.Update.{update_of}
@@ -17,14 +16,10 @@ use Rattle.kmeans_lloyd.specs.declared.RunEnd.{RunEnd}
 use Rattle.kmeans_layout.specs.Areas.{state_in, sums_in, Sized, Labelled}
 
 -- the norms of leaves i to i + 3
-abbrev pub four_norms : (coords : List Float) (d i : ℕ) → Four
+abbrev pub four_norms : (coords : List Float) (d i : ℕ) → List Float
 four_norms coords d i =
-    record {
-      x0 = norm_of (row_of coords d i);
-      x1 = norm_of (row_of coords d (i + 1));
-      x2 = norm_of (row_of coords d (i + 2));
-      x3 = norm_of (row_of coords d (i + 3));
-    }
+    norm_of (row_of coords d i)
+    ∷ norm_of (row_of coords d (i + 1)) ∷ norm_of (row_of coords d (i + 2)) ∷ norm_of (row_of coords d (i + 3)) ∷ []
 
 -- ---- the rounds
 

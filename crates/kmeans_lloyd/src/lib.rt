@@ -84,7 +84,7 @@ fn lloyd(
 // ---- the start of a run
 
 // The norms of leaves i to i + 3, their roots in step.
-fn four_norms(coords: &[f64], i: usize, d: usize) -> float::Four
+fn four_norms(coords: &[f64], i: usize, d: usize) -> [f64; 4]
     requires { (i + 4) * d ≤ length coords.now }
     ensures { result ≡ four_norms coords.now d i }
 {
@@ -96,12 +96,12 @@ fn four_norms(coords: &[f64], i: usize, d: usize) -> float::Four
     let y = &coords[q..r];
     let z = &coords[r..s];
     let w = &coords[s..s + d];
-    root::root4(float::Four {
-        x0: vector::dot(x, x),
-        x1: vector::dot(y, y),
-        x2: vector::dot(z, z),
-        x3: vector::dot(w, w),
-    })
+    root::roots([
+        vector::dot(x, x),
+        vector::dot(y, y),
+        vector::dot(z, z),
+        vector::dot(w, w),
+    ])
 }
 
 // The norm of each leaf becomes its scale: by fours, then singly.
@@ -115,10 +115,10 @@ fn leaf_norms(work: &mut [f64], coords: &[f64], m: usize, k: usize, d: usize)
     while 4 <= m - i {
         let n = four_norms(coords, i, d);
         let to = scale + i;
-        work[to] = n.x0;
-        work[to + 1] = n.x1;
-        work[to + 2] = n.x2;
-        work[to + 3] = n.x3;
+        work[to] = n[0];
+        work[to + 1] = n[1];
+        work[to + 2] = n[2];
+        work[to + 3] = n[3];
         i += 4;
     }
     while i < m {

@@ -1,4 +1,4 @@
--- Laws of one row (specs/Softmax.antt): for each loop a turn and its end; eight exponentials; the sum and the shares of a row by the
+-- Laws of one row (specs/Softmax.antt): for each loop a turn and its end; the sum and the shares of a row by the
 -- exponentials of what it is less a number. Assumes nothing.
 use mathlib.Core.Path.{◌≡◌, refl, ap, ◌∙◌}
 use mathlib.Core.List.{List, [], ◌∷◌, ◌++◌, map, map-append, append_assoc, append-nil}
@@ -10,8 +10,6 @@ use lib.Seq.{drop-cons, take-suc-set, take_all, take-add, take-take, take-append
 use lib.Ieee.{Float, nan, binary64, add, sub}
 use Rattle.float.specs.Arithmetic.{max_of, sum_from}
 use Rattle.exponential.specs.Exponential.{exp_of}
-use Rattle.exponential.specs.Fours.{exponentials, eight_of}
-use Rattle.exponential.specs.declared.Eight.{Eight}
 use Rattle.rows.specs.Rows.{put_part}
 use Rattle.mixture_softmax.specs.Softmax.{greatest_from, exp_sum_from, shares_of, log_sum_exp}
 use Rattle.mixture_softmax.specs.Blocks.{less_by, log_sum_over, from_greatest}
@@ -47,26 +45,6 @@ shares_length lse [] = refl
 shares_length lse (x ∷ row) = ap suc (shares_length lse row)
 
 -- ---- exponentials
-
--- eight read, and stored
-pub eight_done : (l : List Float) (f : Eight) → length l ≡ 8
-    → f
-    ≡ eight_of (exponentials (record { x0 = get_or l 0 nan; x1 = get_or l 1 nan; x2 = get_or l 2 nan; x3 = get_or l 3 nan }))
-    (exponentials (record { x0 = get_or l 4 nan; x1 = get_or l 5 nan; x2 = get_or l 6 nan; x3 = get_or l 7 nan }))
-    → set (set (set (set (set (set (set (set l 0 f.first.x0) 1 f.first.x1) 2 f.first.x2) 3 f.first.x3) 4 f.last.x0) 5
-    f.last.x1) 6 f.last.x2) 7 f.last.x3
-    ≡ map exp_of l
-eight_done [] f h e = absurd (omega arith)
-eight_done (_ ∷ []) f h e = absurd (omega arith)
-eight_done (_ ∷ _ ∷ []) f h e = absurd (omega arith)
-eight_done (_ ∷ _ ∷ _ ∷ []) f h e = absurd (omega arith)
-eight_done (_ ∷ _ ∷ _ ∷ _ ∷ []) f h e = absurd (omega arith)
-eight_done (_ ∷ _ ∷ _ ∷ _ ∷ _ ∷ []) f h e = absurd (omega arith)
-eight_done (_ ∷ _ ∷ _ ∷ _ ∷ _ ∷ _ ∷ []) f h e = absurd (omega arith)
-eight_done (_ ∷ _ ∷ _ ∷ _ ∷ _ ∷ _ ∷ _ ∷ []) f h e = absurd (omega arith)
-eight_done (_ ∷ _ ∷ _ ∷ _ ∷ _ ∷ _ ∷ _ ∷ _ ∷ []) f h e = rw e
-eight_done (_ ∷ _ ∷ _ ∷ _ ∷ _ ∷ _ ∷ _ ∷ _ ∷ _ ∷ _) f h e = absurd (omega arith)
-
 pub map_length : (f : Float → Float) (l : List Float) → length (map f l) ≡ length l
 map_length f [] = refl
 map_length f (x ∷ l) = ap suc (map_length f l)

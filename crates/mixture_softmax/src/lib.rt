@@ -52,29 +52,8 @@ fn exp_eight(e: &mut [f64])
     requires { length e.old ≡ 8 }
     ensures { e.new ≡ map exp_of e.old }
 {
-    let x = float::Four {
-        x0: e[0],
-        x1: e[1],
-        x2: e[2],
-        x3: e[3],
-    };
-    let y = float::Four {
-        x0: e[4],
-        x1: e[5],
-        x2: e[6],
-        x3: e[7],
-    };
-    let f = exponential::exp8(x, y);
-    let p = f.first;
-    let q = f.last;
-    e[0] = p.x0;
-    e[1] = p.x1;
-    e[2] = p.x2;
-    e[3] = p.x3;
-    e[4] = q.x0;
-    e[5] = q.x1;
-    e[6] = q.x2;
-    e[7] = q.x3;
+    let f = exponential::exp8([e[0], e[1], e[2], e[3], e[4], e[5], e[6], e[7]]);
+    e.copy_from_slice(&f);
 }
 
 // The first n elements become their exponentials, sixteen at a time; so do up to fifteen after them. In two calls a

@@ -11,7 +11,7 @@ use Rattle.root.specs.Root.{near_root, places_of, radicand_of, positive_root, ro
 use Rattle.root.specs.Steps.{Scaled, Open, Nearest}
 use Rattle.float.proofs.Tests.{zero_digits, not_below}
 use Rattle.float.proofs.Parts.{InUnits, units_split, units_size}
-use Rattle.root.proofs.Roots.{Paired, paired, paired_near, nearest_one, near_root_is}
+use Rattle.root.proofs.WholeRoots.{Paired, paired, paired_near, nearest_one, near_root_is}
 use Rattle.float.proofs.Units.{parts_of, reached, places, in_units}
 
 -- ---- powers

@@ -2,10 +2,10 @@
 // of one root, of two in step and of four in step. It takes any f64.
 #![tactic(auto)]
 
-ghost use Rattle.std.specs.Prelude.{◌≡◌, ◌^◌, T};
+ghost use Rattle.std.specs.Prelude.{◌≡◌, ◌^◌, ◌≤◌, map, T};
+ghost use Rattle.std.specs.List.{All};
 ghost use Rattle.std.specs.Float.Ieee.Positive.{positive};
 ghost use Rattle.root.specs.Root.{root_of};
-ghost use Rattle.root.specs.Fours.{roots_of, AllPositive};
 ghost use Rattle.root.specs.Steps.{Words, Placed, Open, Found, Finished};
 
 // What the highest of the 53 places of a root is worth: 2^52.
@@ -70,19 +70,20 @@ fn finish(s: Square) -> f64
     }
 }
 
-// The square root of a positive number. At each turn the places from the one worth `top` down are open.
-fn positive_root(x: f64) -> f64
-    requires { T (positive x) }
-    ensures { result ≡ root_of x }
+// The square roots of positive numbers, in step. At each turn the places from the one worth `top` down are open.
+fn positive_roots<const N: usize>(x: [f64; N]) -> [f64; N]
+    requires fits { N ≤ 2 ^ 32 }
+    requires positive { All (λ v. T (positive v)) x }
+    ensures { result ≡ map root_of x.entry }
 {
-    let mut s = begin(x);
+    let mut s = x.map(begin);
     let mut top = TOP;
     while 0 < top {
         let less = std::num::wrapping_sub_u64(0, top);
-        s = place(s, top, less);
+        s = s.map(|square| place(square, top, less));
         top = top / 2;
     }
-    finish(s)
+    s.map(finish)
 }
 
 // The square root: NaN for NaN and below zero, zeros and +infinity kept.
@@ -95,34 +96,10 @@ pub fn root(x: f64) -> f64
     if x < 0.0 {
         return 0.0 / 0.0;
     }
-    if x < 1.0 / 0.0 { positive_root(x) } else { x }
-}
-
-// Two floats, for what is computed of two at once.
-#[derive(Clone, Copy)]
-pub struct Two {
-    pub a: f64,
-    pub b: f64,
-}
-
-// As positive_root, of two in step.
-fn positive_pair(x: f64, w: f64) -> Two
-    requires t { T (positive x) }
-    requires t_2 { T (positive w) }
-    ensures { (result.a ≡ root_of x) × (result.b ≡ root_of w) }
-{
-    let mut a = begin(x);
-    let mut b = begin(w);
-    let mut top = TOP;
-    while 0 < top {
-        let less = std::num::wrapping_sub_u64(0, top);
-        a = place(a, top, less);
-        b = place(b, top, less);
-        top = top / 2;
-    }
-    Two {
-        a: finish(a),
-        b: finish(b),
+    if x < 1.0 / 0.0 {
+        positive_roots([x])[0]
+    } else {
+        x
     }
 }
 
@@ -133,56 +110,14 @@ fn is_positive(x: f64) -> bool
     (0.0 < x) & (x < 1.0 / 0.0)
 }
 
-// Two square roots: in step where both numbers are above zero and finite, else one by one.
-pub fn root2(x: f64, w: f64) -> Two
-    ensures { (result.a ≡ root_of x) × (result.b ≡ root_of w) }
+// Square roots: in step where all the numbers are above zero and finite, else one by one.
+pub fn roots<const N: usize>(x: [f64; N]) -> [f64; N]
+    requires fits { N ≤ 2 ^ 32 }
+    ensures { result ≡ map root_of x.entry }
 {
-    if is_positive(x) & is_positive(w) {
-        return positive_pair(x, w);
-    }
-    Two {
-        a: root(x),
-        b: root(w),
-    }
-}
-
-// As positive_pair, of four.
-fn positive_four(x: f64, y: f64, z: f64, w: f64) -> float::Four
-    requires { AllPositive (record { x0 = x; x1 = y; x2 = z; x3 = w }) }
-    ensures { result ≡ roots_of (record { x0 = x; x1 = y; x2 = z; x3 = w }) }
-{
-    let mut a = begin(x);
-    let mut b = begin(y);
-    let mut c = begin(z);
-    let mut e = begin(w);
-    let mut top = TOP;
-    while 0 < top {
-        let less = std::num::wrapping_sub_u64(0, top);
-        a = place(a, top, less);
-        b = place(b, top, less);
-        c = place(c, top, less);
-        e = place(e, top, less);
-        top = top / 2;
-    }
-    float::Four {
-        x0: finish(a),
-        x1: finish(b),
-        x2: finish(c),
-        x3: finish(e),
-    }
-}
-
-// Four square roots: in step where all the numbers are above zero and finite, else one by one.
-pub fn root4(x: float::Four) -> float::Four
-    ensures { result ≡ roots_of x }
-{
-    if is_positive(x.x0) & is_positive(x.x1) & is_positive(x.x2) & is_positive(x.x3) {
-        return positive_four(x.x0, x.x1, x.x2, x.x3);
-    }
-    float::Four {
-        x0: root(x.x0),
-        x1: root(x.x1),
-        x2: root(x.x2),
-        x3: root(x.x3),
+    if x.iter().all(|v| is_positive(*v)) {
+        positive_roots(x)
+    } else {
+        x.map(root)
     }
 }

@@ -1,23 +1,12 @@
 -- `mixture_softmax::exp_eight` meets its contract: eight elements read, their exponentials by one call, and stored. Assumes nothing.
-use native.Mathlib.Omega.{arith}
-use lib.ListN.{length-set}
-use Rattle.mixture_softmax.proofs.Softmax.{eight_done}
+use Rattle.std.proofs.Common.{map, get_or, refl, sym, ap, ◌∙◌}
+use Rattle.std.proofs.lemmas.List.FromFn.{fill_by_all}
+use lib.Ieee.{nan}
+use Rattle.exponential.specs.Exponential.{exp_of}
 use Rattle.mixture_softmax.proofs.exp_eight.Goals as goal
 
-pub bounds-e-4-2 : goal.bounds-e-4-2
-bounds-e-4-2 c = simp length-set (omega arith)
-
-pub bounds-e-5-2 : goal.bounds-e-5-2
-bounds-e-5-2 c = simp length-set (omega arith)
-
-pub bounds-e-6-2 : goal.bounds-e-6-2
-bounds-e-6-2 c = simp length-set (omega arith)
-
-pub bounds-e-7-2 : goal.bounds-e-7-2
-bounds-e-7-2 c = simp length-set (omega arith)
-
-pub shape_of-e : goal.shape_of-e
-shape_of-e c = simp length-set
-
 pub returns : goal.returns
-returns c = eight_done c.args.e.now c.exp8-f.result c.requires c.exp8-f.ensures
+returns c =
+    let e = c.args.e.now in
+    c.copy_from_slice.ensures.after ∙ c.exp8-f.ensures
+    ∙ ap (map exp_of) (sym (fill_by_all (λ k. get_or e k nan) e 8 nan c.requires (λ k h. refl)))

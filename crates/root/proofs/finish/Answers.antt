@@ -2,7 +2,7 @@
 -- neighbour is nearer. The tests' facts go through `omega`, so that a wrong test is refused on the side on which it is wrong.
 -- Assumes nothing.
 use Rattle.std.proofs.Common.{◌∙◌, arith}
-use Rattle.root.proofs.Roots.{ended_up, ended_down}
+use Rattle.root.proofs.WholeRoots.{ended_up, ended_down}
 use Rattle.root.proofs.RootOf.{root_is}
 use Rattle.root.proofs.finish.Goals as goal
 

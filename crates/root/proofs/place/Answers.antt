@@ -1,7 +1,7 @@
 -- `root::place` meets its contract: the difference is below 2^63 where what is left reaches the step, and not where it does not.
 -- Assumes nothing.
 use Rattle.std.proofs.Common.{◌≡◌, ◌+◌, ◌<◌, arith}
-use Rattle.root.proofs.Roots.{reached, missed}
+use Rattle.root.proofs.WholeRoots.{reached, missed}
 use Rattle.root.proofs.place.Goals as goal
 
 pub returns-then-over-lt9223372036854775808 : goal.returns-then-over-lt9223372036854775808
