@@ -1,13 +1,13 @@
--- Laws of the list f 0, .. f (n − 1): its length, one value more, and the value at a place. Assumes nothing.
-use mathlib.Core.Path.{◌≡◌, refl, ◌∙◌}
-use mathlib.Core.List.{[], ◌∷◌, ◌++◌}
+-- Laws of the list f 0, .. f (n − 1): its length, one value more, the value at a place, and a list that has the values. Assumes nothing.
+use mathlib.Core.Path.{◌≡◌, refl, sym, ◌∙◌}
+use mathlib.Core.List.{List, [], ◌∷◌, ◌++◌}
 use mathlib.Core.Bool.{Bool, true, false, not}
 use Prim.Native.Nat.{ℕ, zero, suc, ◌+◌, ◌<◌, ◌≤◌}
 use native.Mathlib.Numerals.{add-one}
 use native.Mathlib.Omega.{arith}
 use lib.Dec.{T, ltb, ltb→lt, nltb→le}
 use lib.ListN.{length, get_or, length-append, get_or-append}
-use lib.Seq.{get_or_at}
+use lib.Seq.{get_or_at, ext_get_or}
 use Rattle.rows.specs.Tabulate.{tabulate}
 
 module _ {A : Type 0} (f : ℕ → A) where
@@ -33,3 +33,9 @@ module _ {A : Type 0} (f : ℕ → A) where
   unfolding tabulate
   tabulate_at zero i z h = absurd (omega arith)
   tabulate_at (suc n) i z h = at_by n i z (ltb i n) (ltb→lt i n) (nltb→le i n) h (tabulate_at n i z)
+
+  -- a list of n elements that are the values
+  pub tabulate_is : (l : List A) (n : ℕ) (z : A) → length l ≡ n → ((i : ℕ) → i < n → get_or l i z ≡ f i) → l ≡ tabulate f n
+  tabulate_is l n z e h =
+      ext_get_or z l (tabulate f n) (e ∙ sym (tabulate_length n))
+      (λ i g. let b : i < n = omega arith in h i b ∙ sym (tabulate_at n i z b))
