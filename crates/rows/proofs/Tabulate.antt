@@ -1,13 +1,14 @@
--- Laws of the list f 0, .. f (n − 1): its length, one value more, the value at a place, and a list that has the values. Assumes nothing.
-use mathlib.Core.Path.{◌≡◌, refl, sym, ◌∙◌}
+-- Laws of the list f 0, .. f (n − 1): its length, one value more, the value at a place, a list that has the values, the values after the first, and functions that agree. Assumes
+-- nothing.
+use mathlib.Core.Path.{◌≡◌, refl, ap, sym, ◌∙◌}
 use mathlib.Core.List.{List, [], ◌∷◌, ◌++◌}
 use mathlib.Core.Bool.{Bool, true, false, not}
 use Prim.Native.Nat.{ℕ, zero, suc, ◌+◌, ◌<◌, ◌≤◌}
 use native.Mathlib.Numerals.{add-one}
 use native.Mathlib.Omega.{arith}
 use lib.Dec.{T, ltb, ltb→lt, nltb→le}
-use lib.ListN.{length, get_or, length-append, get_or-append}
-use lib.Seq.{get_or_at, ext_get_or}
+use lib.ListN.{length, get_or, drop, length-append, get_or-append}
+use lib.Seq.{get_or_at, drop-append-le, ext_get_or}
 use Rattle.rows.specs.Tabulate.{tabulate}
 
 module _ {A : Type 0} (f : ℕ → A) where
@@ -39,3 +40,18 @@ module _ {A : Type 0} (f : ℕ → A) where
   tabulate_is l n z e h =
       ext_get_or z l (tabulate f n) (e ∙ sym (tabulate_length n))
       (λ i g. let b : i < n = omega arith in h i b ∙ sym (tabulate_at n i z b))
+
+  -- what follows the first
+  pub tabulate_tail : (n : ℕ) → drop 1 (tabulate f (suc n)) ≡ tabulate (λ i. f (suc i)) n
+  unfolding tabulate
+  tabulate_tail zero = refl
+  tabulate_tail (suc n) =
+      drop-append-le 1 (tabulate f (suc n)) (f (suc n) ∷ []) (omega (arith, tabulate_length (suc n)))
+      ∙ ap (λ (l : List A). l ++ (f (suc n) ∷ [])) (tabulate_tail n)
+
+pub tabulate_same : {A : Type 0} (f g : ℕ → A) (n : ℕ) → ((i : ℕ) → i < n → f i ≡ g i) → tabulate f n ≡ tabulate g n
+unfolding tabulate
+tabulate_same f g zero h = refl
+tabulate_same f g (suc n) h =
+    let last : f n ≡ g n = h n (omega arith) in
+    rw (last, tabulate_same f g n (λ i l. h i (omega arith)))
