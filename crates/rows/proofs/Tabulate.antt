@@ -7,9 +7,10 @@ use Prim.Native.Nat.{ℕ, zero, suc, ◌+◌, ◌<◌, ◌≤◌}
 use native.Mathlib.Numerals.{add-one}
 use native.Mathlib.Omega.{arith}
 use lib.Dec.{T, ltb, ltb→lt, nltb→le}
-use lib.ListN.{length, get_or, drop, length-append, get_or-append}
+use lib.ListN.{length, get_or, drop, set, length-append, get_or-append}
 use lib.Seq.{get_or_at, drop-append-le, ext_get_or}
 use Rattle.rows.specs.Tabulate.{tabulate}
+use Rattle.rows.proofs.Fills.{front_turn, front_next}
 
 module _ {A : Type 0} (f : ℕ → A) where
   pub tabulate_length : (n : ℕ) → length (tabulate f n) ≡ n
@@ -20,6 +21,15 @@ module _ {A : Type 0} (f : ℕ → A) where
   pub tabulate_turn : (i : ℕ) (v : A) → v ≡ f i → tabulate f i ++ (v ∷ []) ≡ tabulate f (i + 1)
   unfolding tabulate
   tabulate_turn i v e = rw (add-one, e)
+
+  -- a list whose first i elements are the values: one more, the element after them, and all
+  pub tabulated_turn : (l : List A) (i : ℕ) (v z : A) → i < length l → v ≡ f i
+      → set (tabulate f i ++ drop i l) i v ≡ tabulate f (i + 1) ++ drop (i + 1) l
+  tabulated_turn l i v z h e =
+      front_turn z (tabulate f i) l i (tabulate_length i) v h ∙ ap (λ (p : List A). p ++ drop (i + 1) l) (tabulate_turn i v e)
+
+  pub tabulated_next : (l : List A) (i : ℕ) (z : A) → i < length l → get_or (tabulate f i ++ drop i l) i z ≡ get_or l i z
+  tabulated_next l i z h = front_next z (tabulate f i) l i (tabulate_length i) h
 
   -- the value at place i, by whether that is the last
   at_by : (n i : ℕ) (z : A) (t : Bool) → (T t → i < n) → (T (not t) → n ≤ i) → i < suc n → (i < n → get_or (tabulate f n) i z ≡ f i)
