@@ -16,9 +16,9 @@ loop-b-preserved c =
     let h : 4 * l.b + 4 ≤ a.m = omega arith in
     let next : 4 * l.b + 4 ≡ 4 * (l.b + 1) = omega arith in
     λ u s g e. rw c.lower_from.ensures
-        (lowering_block a.m a.k a.d a.coords.now u a.c s g l.work p.result (4 * l.b) 4 c.cosine_distances-f.result p.ensures h
-        (c.cosine_distances-f.ensures u) (l.invariant u s g e))
-        ∙ ap (λ (n : ℕ). lowering a.coords.now a.d a.c n s) next
+    (lowering_block a.m a.k a.d a.coords.now u a.c s g l.work p.result (4 * l.b) 4 c.cosine_distances-f.result p.ensures h
+    (c.cosine_distances-f.ensures u) (l.invariant u s g e))
+    ∙ ap (λ (n : ℕ). lowering a.coords.now a.d a.c n s) next
 
 pub loop-i-preserved : goal.loop-i-preserved
 loop-i-preserved c =
@@ -27,8 +27,8 @@ loop-i-preserved c =
     let f = c.cosine_distances-f-in-loop-i in
     let a = c.args in
     λ u s g e. rw c.lower_from-in-loop-i.ensures
-        (lowering_block a.m a.k a.d a.coords.now u a.c s g l.work p.result l.i 1 f.result p.ensures (omega arith) (f.ensures u)
-        (l.invariant u s g e))
+    (lowering_block a.m a.k a.d a.coords.now u a.c s g l.work p.result l.i 1 f.result p.ensures (omega arith) (f.ensures u)
+    (l.invariant u s g e))
 
 pub returns : goal.returns
 returns c =
