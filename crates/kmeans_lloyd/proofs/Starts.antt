@@ -41,11 +41,6 @@ pub norms_start : (coords : List Float) (d : ℕ) (s : State) → s ≡ normed c
 unfolding put_scale norms_up_to
 norms_start coords d s = refl
 
--- what a loop over the leaves from i₀ to i does: where the scales of those before i₀ are their norms, those of the leaves before i are
-abbrev pub NormedFrom : ℕ → ℕ → ℕ → List Float → List Float → ℕ → List Float → ℕ → Type 0
-NormedFrom m k d coords w₀ i₀ w i =
-    (u : List ℕ) (s : State) → length s.scale ≡ m → state_in m k d w₀ u ≡ normed coords d i₀ s → state_in m k d w u ≡ normed coords d i s
-
 module _ (m k d : ℕ) (coords : List Float) (u : List ℕ) (s : State) (ls : length s.scale ≡ m) where
   norms_next : (w : List Float) (i at : ℕ) (v : Float) → i < m → at ≡ scale_at m k d + i → v ≡ norm_of (row_of coords d i)
       → state_in m k d w u ≡ normed coords d i s → state_in m k d (set w at v) u ≡ normed coords d (i + 1) s

@@ -109,12 +109,6 @@ pub lowering_start : (coords : List Float) (d c : ℕ) (s : State) → s ≡ low
 unfolding put_low
 lowering_start coords d c s = refl
 
--- what a loop over the leaves from i₀ to i does: where those before i₀ are lowered, those before i are
-abbrev pub LoweredFrom : (m k d : ℕ) → List Float → (c : ℕ) → List Float → (i₀ : ℕ) → List Float → (i : ℕ) → Type 0
-LoweredFrom m k d coords c w₀ i₀ w i =
-    (u : List ℕ) (s : State) → length s.low ≡ m → state_in m k d w₀ u ≡ lowering coords d c i₀ s
-    → state_in m k d w u ≡ lowering coords d c i s
-
 module _ (m k d : ℕ) (coords : List Float) (u : List ℕ) (c : ℕ) (s : State) (ls : length s.low ≡ m) where
   lowering_next : (w : List Float) (i at : ℕ) (v : Float) → i < m → at ≡ low_at m k d + i
       → v ≡ cosine_distance (row_of coords d i) (row_of s.centers d c)
