@@ -1,24 +1,26 @@
--- Laws of the start, over plain lists: the scales written place by place, singly and by fours, and the state before the first
+-- Laws of the start, over plain lists: the scales written place by place, singly and by blocks, and the state before the first
 -- round from its regions filled one after the other. Assumes nothing.
-use mathlib.Core.Path.{◌≡◌, refl, ap, ◌∙◌}
+use mathlib.Core.Path.{◌≡◌, refl, ap, sym, ◌∙◌}
 use mathlib.Core.List.{List, [], ◌∷◌, ◌++◌}
 use mathlib.Core.Bool.{true, false}
-use Prim.Native.Nat.{ℕ, ◌+◌, ◌*◌, ◌-◌, ◌≤◌, ◌<◌}
+use Prim.Native.Nat.{ℕ, zero, suc, ◌+◌, ◌*◌, ◌-◌, ◌≤◌, ◌<◌}
 use native.Mathlib.Numerals.{add-one}
 use native.Mathlib.Omega.{arith}
-use lib.ListN.{length, get_or, take, drop, set, replicate, length-replicate}
+use lib.ListN.{length, take, drop, set, replicate, length-replicate, take-append-drop}
 use lib.Seq.{length-take-le}
 use lib.Ieee.{Float, nan, inf}
 use Rattle.float.specs.Arithmetic.{number}
 use Rattle.rows.specs.Rows.{put_part, row_of}
 use Rattle.vector.specs.Vectors.{norm_of}
-use Rattle.rows.proofs.Rows.{row_cut}
+use Rattle.rows.specs.Tabulate.{tabulate}
+use Rattle.rows.proofs.Rows.{row_cut, put_more}
+use Rattle.rows.proofs.Tabulate.{tabulate_length}
 use Rattle.rows.proofs.Fills.{front_turn, front_end}
 use Rattle.kmeans_layout.specs.State.{State}
 use Rattle.kmeans_sums.specs.Sums.{norms_up_to}
 use Rattle.kmeans_lloyd.specs.Lloyd.{started_from}
 use Rattle.kmeans_layout.specs.Areas.{state_in, total, scale_at, low_at, high_at, served_at, drift_at}
-use Rattle.kmeans_lloyd.specs.Runs.{put_scale, four_norms}
+use Rattle.kmeans_lloyd.specs.Runs.{put_scale, norms_from}
 use Rattle.kmeans_layout.proofs.Regions.{with_scale, with_low, with_high, with_served, with_drift, with_labels, put_low_all, put_high_all}
 use Rattle.kmeans_layout.proofs.Regions.{put_served_all, put_drift_all, put_labels_all, set_scale}
 use Rattle.kmeans_sums.proofs.Sums.{norms_length}
@@ -39,11 +41,6 @@ pub norms_start : (coords : List Float) (d : ℕ) (s : State) → s ≡ normed c
 unfolding put_scale norms_up_to
 norms_start coords d s = refl
 
--- what a loop over the leaves from i₀ to i does: where the scales of those before i₀ are their norms, those of the leaves before i are
-abbrev pub NormedFrom : ℕ → ℕ → ℕ → List Float → List Float → ℕ → List Float → ℕ → Type 0
-NormedFrom m k d coords w₀ i₀ w i =
-    (u : List ℕ) (s : State) → length s.scale ≡ m → state_in m k d w₀ u ≡ normed coords d i₀ s → state_in m k d w u ≡ normed coords d i s
-
 module _ (m k d : ℕ) (coords : List Float) (u : List ℕ) (s : State) (ls : length s.scale ≡ m) where
   norms_next : (w : List Float) (i at : ℕ) (v : Float) → i < m → at ≡ scale_at m k d + i → v ≡ norm_of (row_of coords d i)
       → state_in m k d w u ≡ normed coords d i s → state_in m k d (set w at v) u ≡ normed coords d (i + 1) s
@@ -53,33 +50,27 @@ module _ (m k d : ℕ) (coords : List Float) (u : List ℕ) (s : State) (ls : le
       rw ea (scale_turn m k d w u s (norms_up_to coords d i) i v h (norms_length coords d i) ls f)
       ∙ ap (λ (x : List Float). put_scale (x ++ drop (i + 1) s.scale) s) more
 
-  -- a leaf, whose row is as the code cuts it, and four leaves
+  -- a leaf, whose row is as the code cuts it, and n leaves
   pub norms_turn : (w : List Float) (scale i : ℕ) (v : Float) → scale ≡ scale_at m k d → i < m
       → v ≡ norm_of (take (i * d + d - i * d) (drop (i * d) coords))
       → state_in m k d w u ≡ normed coords d i s → state_in m k d (set w (scale + i) v) u ≡ normed coords d (i + 1) s
   norms_turn w scale i v es h e f = norms_next w i (scale + i) v h (omega (arith, es)) (e ∙ ap norm_of (row_cut coords d i)) f
 
-  pub norms_four : (w : List Float) (scale i : ℕ) (f : List Float) → scale ≡ scale_at m k d → i + 4 ≤ m → f ≡ four_norms coords d i
+  pub norms_block : (w : List Float) (at i n : ℕ) → at ≡ scale_at m k d + i → i + n ≤ m → at + n ≤ length w
       → state_in m k d w u ≡ normed coords d i s
-      → let at = scale + i in
-      state_in m k d (set (set (set (set w at (get_or f 0 nan)) (at + 1) (get_or f 1 nan)) (at + 2) (get_or f 2 nan)) (at + 3) (get_or f 3 nan)) u
-      ≡ normed coords d (i + 4) s
-  norms_four w scale i f es h e g =
-      let at = scale + i in
-      let p₂ : i + 1 + 1 ≡ i + 2 = omega arith in
-      let p₃ : i + 2 + 1 ≡ i + 3 = omega arith in
-      let p₄ : i + 3 + 1 ≡ i + 4 = omega arith in
-      let x : ℕ → Float = λ j. get_or f j nan in
-      let is : (j : ℕ) → x j ≡ get_or (four_norms coords d i) j nan = λ j. ap (λ (v : List Float). get_or v j nan) e in
-      let w₁ = set w at (x 0) in
-      let w₂ = set w₁ (at + 1) (x 1) in
-      let w₃ = set w₂ (at + 2) (x 2) in
-      let t₁ = norms_next w i at (x 0) (omega arith) (omega (arith, es)) (is 0) g in
-      let t₂ =
-      norms_next w₁ (i + 1) (at + 1) (x 1) (omega arith) (omega (arith, es)) (is 1) t₁ ∙ ap (λ (n : ℕ). normed coords d n s) p₂ in
-      let t₃ =
-      norms_next w₂ (i + 2) (at + 2) (x 2) (omega arith) (omega (arith, es)) (is 2) t₂ ∙ ap (λ (n : ℕ). normed coords d n s) p₃ in
-      norms_next w₃ (i + 3) (at + 3) (x 3) (omega arith) (omega (arith, es)) (is 3) t₃ ∙ ap (λ (n : ℕ). normed coords d n s) p₄
+      → state_in m k d (put_part w at n (norms_from coords d i n)) u ≡ normed coords d (i + n) s
+  unfolding tabulate
+  norms_block w at i zero ea h l f = let e : i + 0 ≡ i = omega arith in rw (take-append-drop at w, e) f
+  norms_block w at i (suc n) ea h l f =
+      let vs = norms_from coords d i n in
+      let v = norm_of (row_of coords d (i + n)) in
+      let e : i + n + 1 ≡ i + suc n = omega arith in
+      let lv : length vs ≡ n = tabulate_length (λ (j : ℕ). norm_of (row_of coords d (i + j))) n in
+      let next =
+      norms_next (put_part w at n vs) (i + n) (at + n) v (omega arith) (omega (arith, ea)) refl (norms_block w at i n ea (omega arith) (omega arith) f) in
+      let more : set (put_part w at n vs) (at + n) v ≡ put_part w at (suc n) (vs ++ (v ∷ [])) =
+      put_more w vs at n v nan lv (omega arith) ∙ ap (λ (j : ℕ). put_part w at j (vs ++ (v ∷ []))) (add-one n) in
+      ap (λ (l : List Float). state_in m k d l u) (sym more) ∙ next ∙ ap (λ (j : ℕ). normed coords d j s) e
 
   pub norms_end : (w : List Float) (i : ℕ) → i ≡ m → state_in m k d w u ≡ normed coords d i s
       → state_in m k d w u ≡ put_scale (norms_up_to coords d m) s

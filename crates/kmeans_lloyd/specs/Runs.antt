@@ -1,10 +1,11 @@
 -- What the functions of the start, of a round and of a whole run ask and promise. No definition of document 01 stands
 -- on this file.
-use Rattle.std.specs.Prelude.{◌≡◌, List, [], ◌∷◌, true, false, ℕ, ◌+◌, ◌≤◌, Float}
+use Rattle.std.specs.Prelude.{◌≡◌, List, true, false, ℕ, ◌+◌, ◌≤◌, Float}
 use Rattle.counts.specs.declared.Counts.{Counts}
 use Rattle.counts.specs.Counts.{AtMost, of_round, of_runs}
 use Rattle.rows.specs.Rows.{row_of}
-use Rattle.vector.specs.Vectors.{norm_of}
+use Rattle.rows.specs.Tabulate.{tabulate}
+use Rattle.vector.specs.Vectors.{dot_of, norm_of}
 use Rattle.kmeans_lloyd.specs.Results.{Result}
 use Rattle.kmeans_layout.specs.State.{State}
 use Rattle.kmeans_update.specs.Update.{update_of}
@@ -15,11 +16,12 @@ use Rattle.kmeans_lloyd.specs.declared.Round.{Round}
 use Rattle.kmeans_lloyd.specs.declared.RunEnd.{RunEnd}
 use Rattle.kmeans_layout.specs.Areas.{state_in, sums_in, Sized, Labelled}
 
--- the norms of leaves i to i + 3
-abbrev pub four_norms : (coords : List Float) (d i : ℕ) → List Float
-four_norms coords d i =
-    norm_of (row_of coords d i)
-    ∷ norm_of (row_of coords d (i + 1)) ∷ norm_of (row_of coords d (i + 2)) ∷ norm_of (row_of coords d (i + 3)) ∷ []
+-- the dots with themselves, and the norms, of n leaves from leaf i on
+abbrev pub own_dots : (coords : List Float) (d i n : ℕ) → List Float
+own_dots coords d i n = tabulate (λ e. dot_of (row_of coords d (i + e)) (row_of coords d (i + e))) n
+
+abbrev pub norms_from : (coords : List Float) (d i n : ℕ) → List Float
+norms_from coords d i n = tabulate (λ e. norm_of (row_of coords d (i + e))) n
 
 -- ---- the rounds
 

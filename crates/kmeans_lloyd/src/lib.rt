@@ -7,7 +7,7 @@ ghost use Rattle.kmeans_sums.specs.Sums.{norms_up_to};
 ghost use Rattle.kmeans_lloyd.specs.Lloyd.{started_from, fresh_run, rounds_from};
 ghost use Rattle.kmeans_lloyd.specs.Results.{result_of};
 ghost use Rattle.kmeans_layout.specs.Areas.{state_in, Sized, Labelled, Area};
-ghost use Rattle.kmeans_lloyd.specs.Runs.{RoundDone, RunSoFar, put_scale, four_norms, Runnable, RunDone, RunLeft};
+ghost use Rattle.kmeans_lloyd.specs.Runs.{RoundDone, RunSoFar, put_scale, own_dots, norms_from, Runnable, RunDone, RunLeft};
 
 // ---- rounds
 
@@ -83,25 +83,27 @@ fn lloyd(
 
 // ---- the start of a run
 
+// The dots of leaves i to i + N - 1 with themselves.
+fn own_dots<const N: usize>(coords: &[f64], i: usize, d: usize) -> [f64; N]
+    requires { (i + N) * d ≤ length coords.now }
+    ensures { result ≡ own_dots coords.now d i N }
+{
+    let mut f = [0.0; N];
+    for e in 0..N {
+        let at = i * d + e * d;
+        let x = &coords[at..at + d];
+        f[e] = vector::dot(x, x);
+    }
+    f
+}
+
 // The norms of leaves i to i + 3, their roots in step.
 fn four_norms(coords: &[f64], i: usize, d: usize) -> [f64; 4]
     requires { (i + 4) * d ≤ length coords.now }
-    ensures { result ≡ four_norms coords.now d i }
+    ensures { result ≡ norms_from coords.now d i 4 }
 {
-    let p = i * d;
-    let q = p + d;
-    let r = q + d;
-    let s = r + d;
-    let x = &coords[p..q];
-    let y = &coords[q..r];
-    let z = &coords[r..s];
-    let w = &coords[s..s + d];
-    root::roots([
-        vector::dot(x, x),
-        vector::dot(y, y),
-        vector::dot(z, z),
-        vector::dot(w, w),
-    ])
+    let f = own_dots::<4>(coords, i, d);
+    root::roots(f)
 }
 
 // The norm of each leaf becomes its scale: by fours, then singly.
@@ -111,20 +113,13 @@ fn leaf_norms(work: &mut [f64], coords: &[f64], m: usize, k: usize, d: usize)
         ≡ put_scale (norms_up_to coords.now d m) (state_in m k d work.old u) }
 {
     let scale = kmeans_layout::scale_at(m, k, d);
-    let mut i = 0;
-    while 4 <= m - i {
-        let n = four_norms(coords, i, d);
-        let to = scale + i;
-        work[to] = n[0];
-        work[to + 1] = n[1];
-        work[to + 2] = n[2];
-        work[to + 3] = n[3];
-        i += 4;
+    for b in 0..m / 4 {
+        let to = scale + 4 * b;
+        work[to..to + 4].copy_from_slice(&four_norms(coords, 4 * b, d));
     }
-    while i < m {
+    for i in m - m % 4..m {
         let at = i * d;
         work[scale + i] = vector::norm(&coords[at..at + d]);
-        i += 1;
     }
 }
 
@@ -144,7 +139,7 @@ fn start(work: &mut [f64], work_u32: &mut [u32], coords: &[f64], m: usize, k: us
     kmeans_layout::fill_at(work, high, m, 1.0 / 0.0);
     kmeans_layout::fill_at(work, served, m, -1.0 / 0.0);
     kmeans_layout::fill_at(work, drift, k, 1.0);
-    rows::fill(&mut work_u32[..m], 0);
+    rows::fill_u32(&mut work_u32[..m], 0);
 }
 
 // ---- a whole run

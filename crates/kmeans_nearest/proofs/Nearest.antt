@@ -1,17 +1,18 @@
--- Laws of the definitions of specs/Nearest.antt: a turn of the loop that computes the best centre, and the best centre is one of those
+-- Laws of the definitions of specs/Nearest.antt: a block of centres more, and the best centre is one of those
 -- looked at. By recursion on the turns done. Assumes nothing.
-use mathlib.Core.Path.{◌≡◌, refl, ap, ◌∙◌}
-use mathlib.Core.List.{List}
+use mathlib.Core.Path.{◌≡◌, ap, ◌∙◌}
+use mathlib.Core.List.{List, [], ◌∷◌, ◌++◌}
 use mathlib.Core.Bool.{Bool, true, false, cond}
 use Prim.Native.Nat.{ℕ, zero, suc, ◌+◌, ◌-◌, ◌<◌}
-use native.Mathlib.Numerals.{add-one}
 use native.Mathlib.Omega.{arith}
-use lib.Ieee.{Float, lt}
-use Rattle.float.specs.declared.Four.{Four}
+use lib.ListN.{length, get_or, drop}
+use lib.Ieee.{Float, nan, inf, lt}
 use Rattle.rows.specs.Rows.{row_of}
+use Rattle.rows.specs.Tabulate.{tabulate}
+use Rattle.rows.proofs.Tabulate.{tabulate_length, tabulate_at, tabulate_tail, tabulate_same}
 use Rattle.vector.specs.Vectors.{dot_of}
 use Rattle.kmeans_nearest.specs.Nearest.{better_of, best_to}
-use Rattle.kmeans_nearest.specs.Fours.{row_dots, with_three}
+use Rattle.kmeans_nearest.specs.Blocks.{row_dots, with_dots}
 use Rattle.kmeans_nearest.specs.declared.Best.{Best}
 
 chosen_below : (s t : Bool) (x y z : Best) (n : ℕ) → x.index < n → y.index < n → z.index < n → (cond s x (cond t y z)).index < n
@@ -19,36 +20,48 @@ chosen_below true t x y z n hx hy hz = hx
 chosen_below false true x y z n hx hy hz = hy
 chosen_below false false x y z n hx hy hz = hz
 
+-- one dot more
+pub with_more : (b : Best) (c : ℕ) (vs : List Float) (v : Float) → with_dots b c (vs ++ (v ∷ [])) ≡ better_of (with_dots b c vs) (c + length vs) v
+with_more b c [] v = let e : c + 0 ≡ c = omega arith in rw e
+with_more b c (w ∷ vs) v =
+    let e : suc c + length vs ≡ c + suc (length vs) = omega arith in
+    with_more (better_of b c w) (suc c) vs v ∙ rw e
+
 module _ (x centers : List Float) (d : ℕ) where
-  -- after the best of centres 0 to c, centre n, the next one, whose dot is v
-  best_next : (c n : ℕ) (b b' : Best) (v : Float) → n ≡ c + 1 → b ≡ best_to x centers d c → v ≡ dot_of x (row_of centers d n)
-      → b' ≡ better_of b n v → b' ≡ best_to x centers d n
+  -- after the best of centres 0 to c, n more
+  best_on : (c n : ℕ) → with_dots (best_to x centers d c) (c + 1) (row_dots x centers d (c + 1) n) ≡ best_to x centers d (c + n)
+  unfolding best_to tabulate
+  best_on c zero = let e : c + 0 ≡ c = omega arith in rw e
+  best_on c (suc n) =
+      let dots = row_dots x centers d (c + 1) n in
+      let v = dot_of x (row_of centers d (c + 1 + n)) in
+      let next : c + 1 + n ≡ suc (c + n) = omega arith in
+      let last : c + suc n ≡ suc (c + n) = omega arith in
+      let length-dots : length dots ≡ n = tabulate_length (λ (e : ℕ). dot_of x (row_of centers d (c + 1 + e))) n in
+      with_more (best_to x centers d c) (c + 1) dots v ∙ rw (length-dots, next, last, best_on c n)
+
+  -- n centres from c on, whose dots are f
+  pub best_block : (c n : ℕ) (b b' : Best) (f : List Float) → 0 < c → b ≡ best_to x centers d (c - 1) → f ≡ row_dots x centers d c n
+      → b' ≡ with_dots b c f → b' ≡ best_to x centers d (c + n - 1)
+  best_block c n b b' f h e dots g =
+      let p : c ≡ c - 1 + 1 = omega arith in
+      let q : c - 1 + n ≡ c + n - 1 = omega arith in
+      g ∙ rw (dots, e) (ap (λ (i : ℕ). with_dots (best_to x centers d (c - 1)) i (row_dots x centers d i n)) p) ∙ best_on (c - 1) n
+      ∙ ap (best_to x centers d) q
+
+  -- the first n centres, whose dots are f
+  pub best_first : (n : ℕ) (b' : Best) (f : List Float) → 0 < n → f ≡ row_dots x centers d 0 n
+      → b' ≡ with_dots (record { index = 0; dot = get_or f 0 nan; second = inf true }) 1 (drop 1 f) → b' ≡ best_to x centers d (n - 1)
   unfolding best_to
-  best_next c n b b' v h e f g = rw (g, f, h, add-one, e)
-
-  -- centre c, whose dot is v
-  pub best_turn : (c : ℕ) (b b' : Best) (v : Float) → 0 < c → b ≡ best_to x centers d (c - 1) → v ≡ dot_of x (row_of centers d c)
-      → b' ≡ better_of b c v → b' ≡ best_to x centers d (c + 1 - 1)
-  best_turn c b b' v h e f g =
-      let p : c ≡ c + 1 - 1 = omega arith in
-      best_next (c - 1) c b b' v (omega arith) e f g ∙ ap (best_to x centers d) p
-
-  -- centres c + 1 to c + 3, whose dots are the last three of f
-  pub best_three : (c : ℕ) (b b' : Best) (f : Four) → b ≡ best_to x centers d c → f ≡ row_dots x centers d c → b' ≡ with_three b c f
-      → b' ≡ best_to x centers d (c + 4 - 1)
-  best_three c b b' f e dots g =
-      let p : c + 3 ≡ c + 4 - 1 = omega arith in
-      let b₁ = better_of b (c + 1) f.x1 in
-      let b₂ = better_of b₁ (c + 2) f.x2 in
-      let t₁ = best_next c (c + 1) b b₁ f.x1 refl e (ap (λ (v : Four). v.x1) dots) refl in
-      let t₂ = best_next (c + 1) (c + 2) b₁ b₂ f.x2 (omega arith) t₁ (ap (λ (v : Four). v.x2) dots) refl in
-      best_next (c + 2) (c + 3) b₂ b' f.x3 (omega arith) t₂ (ap (λ (v : Four). v.x3) dots) g ∙ ap (best_to x centers d) p
-
-  -- centres c to c + 3, whose dots are f
-  pub best_four : (c : ℕ) (b b₁ b' : Best) (f : Four) → 0 < c → b ≡ best_to x centers d (c - 1) → f ≡ row_dots x centers d c
-      → b₁ ≡ better_of b c f.x0 → b' ≡ with_three b₁ c f → b' ≡ best_to x centers d (c + 4 - 1)
-  best_four c b b₁ b' f h e dots g₁ g =
-      best_three c b₁ b' f (best_next (c - 1) c b b₁ f.x0 (omega arith) e (ap (λ (v : Four). v.x0) dots) g₁) dots g
+  best_first zero b' f h dots g = absurd (omega arith)
+  best_first (suc n) b' f h dots g =
+      let dot = λ (e : ℕ). dot_of x (row_of centers d (0 + e)) in
+      let head : get_or f 0 nan ≡ dot 0 = rw dots (tabulate_at dot (suc n) 0 nan (omega arith)) in
+      let tail : drop 1 f ≡ row_dots x centers d 1 n =
+      rw dots (tabulate_tail dot n
+      ∙ tabulate_same (λ (i : ℕ). dot (suc i)) _ n (λ i l. let e : 0 + suc i ≡ 1 + i = omega arith in rw e)) in
+      let end : 0 + n ≡ suc n - 1 = omega arith in
+      g ∙ rw (head, tail) (best_on 0 n) ∙ ap (best_to x centers d) end
 
   -- the best of the centres 0 to c is one of them
   pub best_below : (c n : ℕ) → c < n → (best_to x centers d c).index < n

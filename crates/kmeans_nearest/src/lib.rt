@@ -3,10 +3,8 @@
 #![tactic(auto)]
 
 ghost use Rattle.std.specs.Prelude.{◌≡◌, ◌+◌, ◌*◌, ◌-◌, ◌<◌, ◌≤◌, length};
-ghost use Rattle.rows.specs.Rows.{row_of};
-ghost use Rattle.vector.specs.Vectors.{dot_of};
 ghost use Rattle.kmeans_nearest.specs.Nearest.{better_of, best_to};
-ghost use Rattle.kmeans_nearest.specs.Fours.{row_dots, with_three, Centers};
+ghost use Rattle.kmeans_nearest.specs.Blocks.{row_dots, with_dots, Centers};
 
 // A leaf's best centre, its dot, and the next best dot.
 #[derive(Clone, Copy)]
@@ -37,61 +35,64 @@ fn better(b: Best, c: usize, v: f64) -> Best
     b
 }
 
-// The dot with row c of the centres.
-fn row_dot(x: &[f64], centers: &[f64], c: usize, d: usize) -> f64
-    requires { c * d + d ≤ length centers.now }
-    ensures { result ≡ dot_of x.now (row_of centers.now d c) }
+// The dots with rows c to c + N - 1 of the centres.
+pub fn row_dots<const N: usize>(x: &[f64], centers: &[f64], c: usize, d: usize) -> [f64; N]
+    requires { (c + N) * d ≤ length centers.now }
+    ensures { result ≡ row_dots x.now centers.now d c N }
 {
     let at = c * d;
-    vector::dot(x, &centers[at..at + d])
+    vector::dots(x, &centers[at..at + N * d], d)
 }
 
-// The dots with rows c to c + 3.
-pub fn row_dots(x: &[f64], centers: &[f64], c: usize, d: usize) -> float::Four
-    requires { (c + 4) * d ≤ length centers.now }
-    ensures { result ≡ row_dots x.now centers.now d c }
+// With the centres from c on, whose dots are f.
+fn with_dots(b: Best, c: usize, f: &[f64]) -> Best
+    requires { c + length f.now ≤ 64 }
+    ensures { result ≡ with_dots b c f.now }
 {
-    let p = c * d;
-    let q = p + d;
-    let r = q + d;
-    let s = r + d;
-    vector::dot4(
-        x,
-        &centers[p..q],
-        &centers[q..r],
-        &centers[r..s],
-        &centers[s..s + d],
-    )
+    let mut b = b;
+    for i in 0..f.len() {
+        b = better(b, c + i, f[i]);
+    }
+    b
 }
 
-// With centres c + 1 to c + 3, whose dots are the last three of f.
-fn with_three(b: Best, c: usize, f: float::Four) -> Best
-    requires { c ≤ 64 }
-    ensures { result ≡ with_three b c f }
+// The best of the first N centres.
+fn best_of_first<const N: usize>(x: &[f64], centers: &[f64], d: usize) -> Best
+    requires { (0 < N) × (N ≤ 64) × (N * d ≤ length centers.now) }
+    ensures { result ≡ best_to x.now centers.now d (N - 1) }
 {
-    let b = better(b, c + 1, f.x1);
-    let b = better(b, c + 2, f.x2);
-    better(b, c + 3, f.x3)
+    let f = row_dots::<N>(x, centers, 0, d);
+    let v = &f[..];
+    let b = Best {
+        index: 0,
+        dot: v[0],
+        second: -1.0 / 0.0,
+    };
+    with_dots(b, 1, &v[1..])
 }
 
-// The best of k centres from the best of those before centre c: by fours, then singly.
+// The best of the centres before c + N from the best of those before c.
+fn best_through<const N: usize>(x: &[f64], centers: &[f64], b: Best, c: usize, d: usize) -> Best
+    requires centers { (c + N ≤ 64) × ((c + N) * d ≤ length centers.now) }
+    requires start { (0 < c) × (b ≡ best_to x.now centers.now d (c - 1)) }
+    ensures { result ≡ best_to x.now centers.now d (c + N - 1) }
+{
+    let f = row_dots::<N>(x, centers, c, d);
+    with_dots(b, c, &f)
+}
+
+// The best of k centres from the best of those before centre `at`: by fours, then singly.
 fn best_from(x: &[f64], centers: &[f64], start: Best, at: usize, k: usize, d: usize) -> Best
     requires centers { Centers (length centers.now) k d }
     requires at_nonzero { (0 < at) × (at ≤ k) × (start ≡ best_to x.now centers.now d (at - 1)) }
     ensures { result ≡ best_to x.now centers.now d (k - 1) }
 {
     let mut b = start;
-    let mut c = at;
-    while 4 <= k - c {
-        let f = row_dots(x, centers, c, d);
-        b = better(b, c, f.x0);
-        b = with_three(b, c, f);
-        c += 4;
+    for i in 0..(k - at) / 4 {
+        b = best_through::<4>(x, centers, b, at + 4 * i, d);
     }
-    while c < k {
-        let v = row_dot(x, centers, c, d);
-        b = better(b, c, v);
-        c += 1;
+    for c in k - (k - at) % 4..k {
+        b = best_through::<1>(x, centers, b, c, d);
     }
     b
 }
@@ -102,18 +103,8 @@ pub fn best_of(x: &[f64], centers: &[f64], k: usize, d: usize) -> Best
     ensures { result ≡ best_to x.now centers.now d (k - 1) }
 {
     if k < 4 {
-        let b = Best {
-            index: 0,
-            dot: row_dot(x, centers, 0, d),
-            second: -1.0 / 0.0,
-        };
-        return best_from(x, centers, b, 1, k, d);
+        best_from(x, centers, best_of_first::<1>(x, centers, d), 1, k, d)
+    } else {
+        best_from(x, centers, best_of_first::<4>(x, centers, d), 4, k, d)
     }
-    let f = row_dots(x, centers, 0, d);
-    let b = Best {
-        index: 0,
-        dot: f.x0,
-        second: -1.0 / 0.0,
-    };
-    best_from(x, centers, with_three(b, 0, f), 4, k, d)
 }

@@ -12,8 +12,9 @@ use lib.Seq.{take-suc, take_all, take_at, length-take-le}
 use lib.IntN.{ℤ}
 use lib.Ieee.{Float, nan, inf, fin, is_nan, binary64, sub, mul, lt}
 use Rattle.float.specs.Arithmetic.{number, minus_zero, plus_zero, max_of}
-use Rattle.float.specs.declared.Four.{Four}
 use Rattle.rows.specs.Rows.{put_part, row_of}
+use Rattle.rows.specs.Tabulate.{tabulate}
+use Rattle.rows.proofs.Tabulate.{tabulate_at, tabulate_length, tabulate_same}
 use Rattle.vector.specs.Vectors.{dot_of, unit_vector}
 use Rattle.rows.proofs.Rows.{row_within, length_part, part_put, row_cut}
 use Rattle.rows.proofs.Fills.{front_turn, front_next, front_end}
@@ -21,11 +22,11 @@ use Rattle.pick.specs.Pick.{pick_of}
 use Rattle.pick.specs.declared.Picked.{Picked}
 use Rattle.vector.proofs.Vectors.{dot_comm, unit_length}
 use Rattle.pick.proofs.Places.{pick_below}
-use Rattle.kmeans_nearest.specs.Fours.{row_dots}
+use Rattle.kmeans_nearest.specs.Blocks.{row_dots}
 use Rattle.kmeans_layout.specs.State.{State}
 use Rattle.kmeans_seeding.specs.Seeding.{cosine_distance, cosine_distances_up_to, lowered, chances, seed_row, seeds_up_to, seeds_of}
 use Rattle.kmeans_layout.specs.Areas.{Area, state_in, total, low_at, high_at}
-use Rattle.kmeans_seeding.specs.Distances.{put_low, put_high, put_center, four_cosine_distances, lower_at, lower_four}
+use Rattle.kmeans_seeding.specs.Distances.{put_low, put_high, put_center, cosine_distances, lower_at, lower_from}
 use Rattle.kmeans_seeding.specs.Distances.{first_distances, lowered_by, chanced, Seeding, SeededNext, next_pick}
 use Rattle.kmeans_layout.proofs.Regions.{with_low, with_high, put_low_all, high_are, length_centers, set_low, set_high, get_low}
 use Rattle.kmeans_layout.proofs.Regions.{row_centers, put_row_centers, length_low, length_high}
@@ -57,33 +58,34 @@ module _ (m k d : ℕ) (w : List Float) (u : List ℕ) (s : State) (p : List Flo
 
 -- ---- the distances
 
--- how far a leaf is from a centre, by rows as the code cuts them
-pub cosine_distance_done : (m k d : ℕ) (w coords : List Float) (u : List ℕ) (c i : ℕ) → c < k → (p r : Float)
-    → p ≡ dot_of (take (i * d + d - i * d) (drop (i * d) coords)) (take (c * d + d - c * d) (drop (c * d) w))
-    → r ≡ max_of (sub binary64 (number 1) p) plus_zero
-    → r ≡ cosine_distance (row_of coords d i) (row_of (state_in m k d w u).centers d c)
-cosine_distance_done m k d w coords u c i h p r e f = f ∙ rw (e, row_cut coords d i, row_cut w d c, row_centers m k d w u c h)
+-- how far n leaves are from a centre, the centre's row being the first of each dot
+module _ (m k d : ℕ) (w coords : List Float) (u : List ℕ) (c i n : ℕ) (h : c < k) where
+  pub distances_done : (f : List Float) → f ≡ row_dots (take (c * d + d - c * d) (drop (c * d) w)) coords d i n
+      → tabulate (λ (e : ℕ). max_of (sub binary64 (number 1) (get_or f e nan)) plus_zero) n
+      ≡ cosine_distances coords d (row_of (state_in m k d w u).centers d c) i n
+  distances_done f is =
+      let row = row_of (state_in m k d w u).centers d c in
+      let g : take (c * d + d - c * d) (drop (c * d) w) ≡ row = row_cut w d c ∙ row_centers m k d w u c h in
+      let dots : f ≡ row_dots row coords d i n = rw g at is in
+      tabulate_same (λ (e : ℕ). max_of (sub binary64 (number 1) (get_or f e nan)) plus_zero) _ n
+      (λ e l. let at : get_or f e nan ≡ dot_of row (row_of coords d (i + e)) =
+      rw dots (tabulate_at (λ (j : ℕ). dot_of row (row_of coords d (i + j))) n e nan l) in
+      rw (at, dot_comm minus_zero row (row_of coords d (i + e))))
 
--- four of them, the centre's row being the first of each dot
-pub four_done : (m k d : ℕ) (w coords : List Float) (u : List ℕ) (c i : ℕ) → c < k → (f : Four) (p q r t : Float)
-    → f ≡ row_dots (take (c * d + d - c * d) (drop (c * d) w)) coords d i → p ≡ max_of (sub binary64 (number 1) f.x0) plus_zero
-    → q ≡ max_of (sub binary64 (number 1) f.x1) plus_zero → r ≡ max_of (sub binary64 (number 1) f.x2) plus_zero
-    → t ≡ max_of (sub binary64 (number 1) f.x3) plus_zero
-    → ◌≡◌ {A = Four} (record { x0 = p; x1 = q; x2 = r; x3 = t })
-    (four_cosine_distances coords d (row_of (state_in m k d w u).centers d c) i)
-four_done m k d w coords u c i h f p q r t e ep eq er et =
-    let row = row_of (state_in m k d w u).centers d c in
-    let g : take (c * d + d - c * d) (drop (c * d) w) ≡ row = row_cut w d c ∙ row_centers m k d w u c h in
-    let dots : f ≡ row_dots row coords d i = rw g at e in
-    let turned : (n : ℕ) (x y : Float) → x ≡ max_of (sub binary64 (number 1) y) plus_zero → y ≡ dot_of row (row_of coords d n)
-    → x ≡ cosine_distance (row_of coords d n) row =
-    λ n x y ex ey. ex ∙ rw (ey, dot_comm minus_zero row (row_of coords d n)) in
-    rw (
-      turned i p f.x0 ep (ap (λ (v : Four). v.x0) dots),
-      turned (i + 1) q f.x1 eq (ap (λ (v : Four). v.x1) dots),
-      turned (i + 2) r f.x2 er (ap (λ (v : Four). v.x2) dots),
-      turned (i + 3) t f.x3 et (ap (λ (v : Four). v.x3) dots),
-    )
+-- one new distance more
+lower_more : (w : List Float) (at : ℕ) (vs : List Float) (v : Float)
+    → lower_from w at (vs ++ (v ∷ [])) ≡ lower_at (lower_from w at vs) (at + length vs) v
+lower_more w at [] v = let e : at + 0 ≡ at = omega arith in rw e
+lower_more w at (x ∷ vs) v =
+    let e : suc at + length vs ≡ at + suc (length vs) = omega arith in
+    lower_more (lower_at w at x) (suc at) vs v ∙ rw e
+
+-- with the first e, the next
+pub lower_turn : (w w' f : List Float) (at e : ℕ) → e < length f → w' ≡ lower_from w at (take e f)
+    → lower_at w' (at + e) (get_or f e nan) ≡ lower_from w at (take (e + 1) f)
+lower_turn w w' f at e h is =
+    let l : length (take e f) ≡ e = length-take-le e f (omega arith) in
+    rw (add-one, take-suc f e nan h, lower_more, l, is)
 
 -- the distances lowered where a further centre is nearer
 lowered_length : (coords : List Float) (d : ℕ) (row : List Float) (j : ℕ) (xs : List Float) → length (lowered coords d row j xs) ≡ length xs
@@ -107,12 +109,6 @@ pub lowering_start : (coords : List Float) (d c : ℕ) (s : State) → s ≡ low
 unfolding put_low
 lowering_start coords d c s = refl
 
--- what a loop over the leaves from i₀ to i does: where those before i₀ are lowered, those before i are
-abbrev pub LoweredFrom : (m k d : ℕ) → List Float → (c : ℕ) → List Float → (i₀ : ℕ) → List Float → (i : ℕ) → Type 0
-LoweredFrom m k d coords c w₀ i₀ w i =
-    (u : List ℕ) (s : State) → length s.low ≡ m → state_in m k d w₀ u ≡ lowering coords d c i₀ s
-    → state_in m k d w u ≡ lowering coords d c i s
-
 module _ (m k d : ℕ) (coords : List Float) (u : List ℕ) (c : ℕ) (s : State) (ls : length s.low ≡ m) where
   lowering_next : (w : List Float) (i at : ℕ) (v : Float) → i < m → at ≡ low_at m k d + i
       → v ≡ cosine_distance (row_of coords d i) (row_of s.centers d c)
@@ -131,35 +127,30 @@ module _ (m k d : ℕ) (coords : List Float) (u : List ℕ) (c : ℕ) (s : State
       let more : take i new ++ (x ∷ []) ≡ take (i + 1) new = rw (add-one, is) (sym (take-suc new i nan (omega arith))) in
       rw ea (low_turn m k d w u s (take i new) i x h lp ls f) ∙ ap (λ (r : List Float). put_low (r ++ drop (i + 1) s.low) s) more
 
-  -- a leaf, and four leaves, whose distances are taken from the area as it is
-  pub lowering_turn : (w : List Float) (low i : ℕ) (v : Float) → low ≡ low_at m k d → i < m
-      → v ≡ cosine_distance (row_of coords d i) (row_of (state_in m k d w u).centers d c)
-      → state_in m k d w u ≡ lowering coords d c i s → state_in m k d (lower_at w (low + i) v) u ≡ lowering coords d c (i + 1) s
-  unfolding put_low
-  lowering_turn w low i v el h e f =
-      lowering_next w i (low + i) v h (omega arith) (e ∙ ap (λ (t : State). cosine_distance (row_of coords d i) (row_of t.centers d c)) f) f
+  -- n leaves, whose distances are taken from the area as it is
+  lowering_on : (w : List Float) (low i n : ℕ) → low ≡ low_at m k d → i + n ≤ m → state_in m k d w u ≡ lowering coords d c i s
+      → state_in m k d (lower_from w (low + i) (cosine_distances coords d (row_of s.centers d c) i n)) u ≡ lowering coords d c (i + n) s
+  unfolding tabulate
+  lowering_on w low i zero el h g = let e : i + 0 ≡ i = omega arith in rw e g
+  lowering_on w low i (suc n) el h g =
+      let row = row_of s.centers d c in
+      let vs = cosine_distances coords d row i n in
+      let v = cosine_distance (row_of coords d (i + n)) row in
+      let w' = lower_from w (low + i) vs in
+      let l : length vs ≡ n = tabulate_length (λ (e : ℕ). cosine_distance (row_of coords d (i + e)) row) n in
+      let e : i + n + 1 ≡ i + suc n = omega arith in
+      let next =
+      lowering_next w' (i + n) (low + i + n) v (omega arith) (omega arith) refl (lowering_on w low i n el (omega arith) g) in
+      rw (lower_more w (low + i) vs v, l) (next ∙ ap (λ (j : ℕ). lowering coords d c j s) e)
 
-  pub lowering_four : (w : List Float) (low i : ℕ) (f : Four) → low ≡ low_at m k d → i + 4 ≤ m
-      → f ≡ four_cosine_distances coords d (row_of (state_in m k d w u).centers d c) i
-      → state_in m k d w u ≡ lowering coords d c i s → state_in m k d (lower_four w (low + i) f) u ≡ lowering coords d c (i + 4) s
+  pub lowering_block : (w : List Float) (low i n : ℕ) (f : List Float) → low ≡ low_at m k d → i + n ≤ m
+      → f ≡ cosine_distances coords d (row_of (state_in m k d w u).centers d c) i n
+      → state_in m k d w u ≡ lowering coords d c i s → state_in m k d (lower_from w (low + i) f) u ≡ lowering coords d c (i + n) s
   unfolding put_low
-  lowering_four w low i f el h e g =
-      let at = low + i in
-      let e' : f ≡ four_cosine_distances coords d (row_of s.centers d c) i =
-      e ∙ ap (λ (t : State). four_cosine_distances coords d (row_of t.centers d c) i) g in
-      let p₂ : i + 1 + 1 ≡ i + 2 = omega arith in
-      let p₃ : i + 2 + 1 ≡ i + 3 = omega arith in
-      let p₄ : i + 3 + 1 ≡ i + 4 = omega arith in
-      let w₁ = lower_at w at f.x0 in
-      let w₂ = lower_at w₁ (at + 1) f.x1 in
-      let w₃ = lower_at w₂ (at + 2) f.x2 in
-      let t₁ = lowering_next w i at f.x0 (omega arith) (omega arith) (ap (λ (v : Four). v.x0) e') g in
-      let t₂ = lowering_next w₁ (i + 1) (at + 1) f.x1 (omega arith) (omega arith) (ap (λ (v : Four). v.x1) e') t₁
-      ∙ ap (λ (n : ℕ). lowering coords d c n s) p₂ in
-      let t₃ = lowering_next w₂ (i + 2) (at + 2) f.x2 (omega arith) (omega arith) (ap (λ (v : Four). v.x2) e') t₂
-      ∙ ap (λ (n : ℕ). lowering coords d c n s) p₃ in
-      lowering_next w₃ (i + 3) (at + 3) f.x3 (omega arith) (omega arith) (ap (λ (v : Four). v.x3) e') t₃
-      ∙ ap (λ (n : ℕ). lowering coords d c n s) p₄
+  lowering_block w low i n f el h is g =
+      let e : f ≡ cosine_distances coords d (row_of s.centers d c) i n =
+      is ∙ ap (λ (t : State). cosine_distances coords d (row_of t.centers d c) i n) g in
+      rw e (lowering_on w low i n el h g)
 
   pub lowering_end : (w : List Float) (i : ℕ) → i ≡ m → state_in m k d w u ≡ lowering coords d c i s
       → state_in m k d w u ≡ lowered_by coords d c s

@@ -1,33 +1,28 @@
 -- How the seeding's distances and chances lie in the work area, and what its functions ask and promise. No definition
 -- of document 01 stands on this file.
-use Rattle.std.specs.Prelude.{◌≡◌, List, cond, ℕ, ◌+◌, ◌*◌, ◌≤◌, get_or, set, Float}
+use Rattle.std.specs.Prelude.{◌≡◌, List, [], ◌∷◌, cond, ℕ, suc, ◌+◌, ◌*◌, ◌≤◌, get_or, set, Float}
 use Rattle.std.specs.Float.{nan}
 use Rattle.std.specs.Float.Ieee.{lt}
 use Rattle.rows.specs.Rows.{put_part, row_of}
+use Rattle.rows.specs.Tabulate.{tabulate}
 use Rattle.limits.specs.Sizes.{Sizes}
 use Rattle.pick.specs.Pick.{pick_of}
 use Rattle.pick.specs.declared.Picked.{Picked}
-use Rattle.float.specs.declared.Four.{Four}
 use Rattle.kmeans_seeding.specs.Seeding.{cosine_distance, cosine_distances_up_to, lowered, chances, seed_row}
 use Rattle.kmeans_layout.specs.State.{State}
 use Rattle.kmeans_layout.specs.Areas.{total}
 
--- the cosine distances of leaves i to i + 3 from a centre
-abbrev pub four_cosine_distances : List Float → ℕ → List Float → ℕ → Four
-four_cosine_distances coords d c i =
-    record {
-      x0 = cosine_distance (row_of coords d i) c;
-      x1 = cosine_distance (row_of coords d (i + 1)) c;
-      x2 = cosine_distance (row_of coords d (i + 2)) c;
-      x3 = cosine_distance (row_of coords d (i + 3)) c;
-    }
+-- the cosine distances of n leaves from a centre, from leaf i on
+abbrev pub cosine_distances : List Float → ℕ → List Float → (i n : ℕ) → List Float
+cosine_distances coords d c i n = tabulate (λ e. cosine_distance (row_of coords d (i + e)) c) n
 
--- the element at a place lowered where v is below it, and four from it on
+-- the element at a place lowered where v is below it, and as many from it on as there are new ones
 unfoldable pub lower_at : List Float → ℕ → Float → List Float
 lower_at w at v = let held = get_or w at nan in set w at (cond (lt v held) v held)
 
-abbrev pub lower_four : List Float → ℕ → Four → List Float
-lower_four w at f = lower_at (lower_at (lower_at (lower_at w at f.x0) (at + 1) f.x1) (at + 2) f.x2) (at + 3) f.x3
+abbrev pub lower_from : List Float → ℕ → List Float → List Float
+lower_from w at [] = w
+lower_from w at (v ∷ vs) = lower_from (lower_at w at v) (suc at) vs
 
 -- ---- the state with other distances, with other chances, and with one centre more
 unfoldable pub put_low : List Float → State → State

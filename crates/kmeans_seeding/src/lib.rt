@@ -5,14 +5,14 @@
 ghost use Rattle.std.specs.Prelude.{◌≡◌, cond, List, ℕ, ◌+◌, ◌*◌, ◌<◌, ◌≤◌, length};
 ghost use Rattle.std.specs.Float.Ieee.{lt};
 ghost use Rattle.rows.specs.Rows.{row_of};
-ghost use Rattle.kmeans_seeding.specs.Seeding.{cosine_distance, seeds_of};
+ghost use Rattle.kmeans_seeding.specs.Seeding.{seeds_of};
 ghost use Rattle.vector.specs.Vectors.{unit_vector};
 ghost use Rattle.kmeans_layout.specs.Areas.{state_in, LeafOf, GroupOf, Area};
-ghost use Rattle.kmeans_seeding.specs.Distances.{put_center, four_cosine_distances, lower_at, lower_four};
+ghost use Rattle.kmeans_seeding.specs.Distances.{put_center, cosine_distances, lower_from};
 ghost use Rattle.kmeans_seeding.specs.Distances.{first_distances, lowered_by, chanced, Seeding, SeededNext};
 
-// The cosine distance of leaf i from centre c.
-fn cosine_distance(
+// The cosine distances of leaves i to i + N - 1 from centre c.
+fn cosine_distances<const N: usize>(
     work: &[f64],
     coords: &[f64],
     c: usize,
@@ -20,43 +20,18 @@ fn cosine_distance(
     m: usize,
     k: usize,
     d: usize,
-) -> f64
+) -> [f64; N]
     requires area { (Area (length work.now) m k d) × (length coords.now ≡ m * d) }
-    requires leaf_of { (LeafOf i m d) × (GroupOf c k d) }
-    ensures { (u : List ℕ) → result ≡ cosine_distance (row_of coords.now d i)
-        (row_of (state_in m k d work.now u).centers d c) }
-{
-    let at = i * d;
-    let row = c * d;
-    float::max(
-        1.0 - vector::dot(&coords[at..at + d], &work[row..row + d]),
-        0.0,
-    )
-}
-
-// The cosine distances of leaves i to i + 3 from centre c.
-fn four_cosine_distances(
-    work: &[f64],
-    coords: &[f64],
-    c: usize,
-    i: usize,
-    m: usize,
-    k: usize,
-    d: usize,
-) -> float::Four
-    requires area { (Area (length work.now) m k d) × (length coords.now ≡ m * d) }
-    requires d_bound { ((i + 4) * d ≤ m * d) × (GroupOf c k d) }
+    requires d_bound { ((i + N) * d ≤ m * d) × (GroupOf c k d) }
     ensures { (u : List ℕ) → result
-        ≡ four_cosine_distances coords.now d (row_of (state_in m k d work.now u).centers d c) i }
+        ≡ cosine_distances coords.now d (row_of (state_in m k d work.now u).centers d c) i N }
 {
     let row = c * d;
-    let f = kmeans_nearest::row_dots(&work[row..row + d], coords, i, d);
-    float::Four {
-        x0: float::max(1.0 - f.x0, 0.0),
-        x1: float::max(1.0 - f.x1, 0.0),
-        x2: float::max(1.0 - f.x2, 0.0),
-        x3: float::max(1.0 - f.x3, 0.0),
+    let mut f = kmeans_nearest::row_dots::<N>(&work[row..row + d], coords, i, d);
+    for e in 0..N {
+        f[e] = float::max(1.0 - f[e], 0.0);
     }
+    f
 }
 
 // The smaller of a distance and a new one.
@@ -66,23 +41,14 @@ fn nearer(v: f64, held: f64) -> f64
     if v < held { v } else { held }
 }
 
-// A distance lowered where the new one is smaller.
-fn lower_at(work: &mut [f64], at: usize, v: f64)
-    requires { at < length work.old }
-    ensures { work.new ≡ lower_at work.old at v }
+// The distances from place `at` on lowered where the new ones are smaller.
+fn lower_from<const N: usize>(work: &mut [f64], at: usize, f: [f64; N])
+    requires { at + N ≤ length work.old }
+    ensures { work.new ≡ lower_from work.old at f.entry }
 {
-    work[at] = nearer(v, work[at]);
-}
-
-// Four distances likewise.
-fn lower_four(work: &mut [f64], at: usize, f: float::Four)
-    requires { at + 4 ≤ length work.old }
-    ensures { work.new ≡ lower_four work.old at f }
-{
-    lower_at(work, at, f.x0);
-    lower_at(work, at + 1, f.x1);
-    lower_at(work, at + 2, f.x2);
-    lower_at(work, at + 3, f.x3);
+    for e in 0..N {
+        work[at + e] = nearer(f[e], work[at + e]);
+    }
 }
 
 // The distance of each leaf lowered where centre c is nearer: by fours, then singly.
@@ -93,16 +59,13 @@ fn lower_distances(work: &mut [f64], coords: &[f64], c: usize, m: usize, k: usiz
         ≡ lowered_by coords.now d c (state_in m k d work.old u) }
 {
     let low = kmeans_layout::low_at(m, k, d);
-    let mut i = 0;
-    while 4 <= m - i {
-        let f = four_cosine_distances(work, coords, c, i, m, k, d);
-        lower_four(work, low + i, f);
-        i += 4;
+    for b in 0..m / 4 {
+        let f = cosine_distances::<4>(work, coords, c, 4 * b, m, k, d);
+        lower_from(work, low + 4 * b, f);
     }
-    while i < m {
-        let v = cosine_distance(work, coords, c, i, m, k, d);
-        lower_at(work, low + i, v);
-        i += 1;
+    for i in m - m % 4..m {
+        let f = cosine_distances::<1>(work, coords, c, i, m, k, d);
+        lower_from(work, low + i, f);
     }
 }
 

@@ -2,19 +2,19 @@
 -- last region; those of the first i leaves stand before what the region held; the log-softmax of the rows are the responsibilities. By the
 -- laws of the regions and of joined rows. Assumes nothing.
 use mathlib.Core.Path.{◌≡◌, refl, ap, sym, ◌∙◌}
-use mathlib.Core.List.{List, ◌++◌}
+use mathlib.Core.List.{List, [], ◌∷◌, ◌++◌}
 use Prim.Native.Nat.{ℕ, zero, suc, ◌+◌, ◌*◌, ◌-◌, ◌≤◌, ◌<◌}
+use native.Mathlib.Numerals.{add-one}
 use native.Mathlib.Omega.{arith}
 use lib.ListN.{length, get_or, drop, set, take-append-drop}
 use lib.Ieee.{Float, nan, binary64, add, mul}
 use Rattle.float.specs.Arithmetic.{plus_zero}
-use Rattle.float.specs.declared.Four.{Four}
 use Rattle.rows.specs.Rows.{part, put_part, row_of}
 use Rattle.rows.specs.Tabulate.{tabulate}
 use Rattle.vector.specs.Vectors.{dot_of}
-use Rattle.kmeans_nearest.specs.Fours.{row_dots}
+use Rattle.kmeans_nearest.specs.Blocks.{row_dots}
 use Rattle.rows.proofs.Rows.{row_within, put_more, part_cut}
-use Rattle.rows.proofs.Tabulate.{tabulate_length, tabulate_turn}
+use Rattle.rows.proofs.Tabulate.{tabulate_length, tabulate_at, tabulate_turn, tabulate_same}
 use Rattle.mixture_softmax.specs.Softmax.{log_sum_exp}
 use Rattle.mixture_softmax.specs.Leaves.{log_sum_at, shares_at, joined, weighed, shares_up_to, logs_up_to}
 use Rattle.mixture_softmax.proofs.Softmax.{shares_length}
@@ -22,18 +22,18 @@ use Rattle.mixture_softmax.proofs.Joined.{joined_length, joined_row, joined_none
 use Rattle.rows.proofs.Fills.{front_end}
 use Rattle.mixture_run.specs.Mixture.{Model, Expected, log_density_at, log_densities, softmax, expect_up_to}
 use Rattle.mixture_run.specs.Areas.{Parts, parts_in, kappas_at, log_coefficients_at, responsibilities_at, total, model_of, with_resp}
-use Rattle.mixture_run.specs.Areas.{log_densities_by, four_log_densities}
+use Rattle.mixture_run.specs.Areas.{log_densities_from}
 use Rattle.mixture_run.proofs.Regions.{directions_r, kappas_r, log_coefficients_r, resp_r, set_in, get_in, part_in, whole_in}
 use Rattle.mixture_run.proofs.Regions.{put_whole_in, length_in}
 
 -- ---- what the parts of an area give
 
--- the log densities of leaf x: in group c, in four groups from c on, in all k
+-- the log densities of leaf x: in group c, in n groups from c on, in all k
 abbrev density_in : (d : ℕ) → Parts → (x : List Float) (c : ℕ) → Float
 density_in d p = log_density_at d p.log_coefficients (model_of p)
 
-abbrev four_in : (d : ℕ) → Parts → (x : List Float) (c : ℕ) → Four
-four_in d p = four_log_densities d p.log_coefficients (model_of p)
+abbrev densities_from : (d : ℕ) → Parts → (x : List Float) (c n : ℕ) → List Float
+densities_from d p = log_densities_from d p.log_coefficients (model_of p)
 
 abbrev densities_in : (k d : ℕ) → Parts → (x : List Float) → List Float
 densities_in k d p = log_densities k d p.log_coefficients (model_of p)
@@ -45,36 +45,31 @@ expected_in weights coords m k d p = expect_up_to weights coords k d p.log_coeff
 -- ---- the log densities of a leaf
 
 -- one of them, by what the code reads
-pub log_density_done : (m k d : ℕ) (w coords : List Float) (i c : ℕ) (v : Float) (coefficient kappa at n : ℕ)
-    → coefficient ≡ log_coefficients_at k d + c → kappa ≡ kappas_at k d + c
-    → at ≡ c * d → n ≡ d → c < k → v ≡ dot_of (part coords (i * d) (i * d + d - i * d)) (part w at n)
-    → add binary64 (get_or w coefficient nan) (mul binary64 (get_or w kappa nan) v)
-    ≡ density_in d (parts_in m k d w) (row_of coords d i) c
-log_density_done m k d w coords i c v coefficient kappa at n b q a f h e =
+log_density_done : (m k d : ℕ) (w x : List Float) (c : ℕ) (v : Float) (coefficient kappa : ℕ)
+    → coefficient ≡ log_coefficients_at k d + c → kappa ≡ kappas_at k d + c → c < k → v ≡ dot_of x (row_of w d c)
+    → add binary64 (get_or w coefficient nan) (mul binary64 (get_or w kappa nan) v) ≡ density_in d (parts_in m k d w) x c
+log_density_done m k d w x c v coefficient kappa b q h e =
     let coefficient-in = get_in log_coefficients_r m k d w coefficient c nan (omega arith) h in
     let kappa-in = get_in kappas_r m k d w kappa c nan (omega arith) h in
-    let row = part_in directions_r m k d w at (c * d) d (omega arith) (row_within c k d h) in
-    rw (coefficient-in, kappa-in, e, part_cut coords (i * d) d, f, row)
+    let row = part_in directions_r m k d w (c * d) (c * d) d (omega arith) (row_within c k d h) in
+    rw (coefficient-in, kappa-in, e, row)
 
--- four of them
-pub four_done : (m k d : ℕ) (w coords : List Float) (i c : ℕ) (f : Four) (coefficient kappa : ℕ)
-    → coefficient ≡ log_coefficients_at k d + c → kappa ≡ kappas_at k d + c → c + 4 ≤ k
-    → f ≡ row_dots (part coords (i * d) (i * d + d - i * d)) w d c
-    → ◌≡◌ {A = Four} (log_densities_by w coefficient kappa f)
-    (four_in d (parts_in m k d w) (row_of coords d i) c)
-four_done m k d w coords i c f coefficient kappa b q h is =
-    let one = log_density_done m k d w coords i in
-    let at_0 = one c f.x0 coefficient kappa (c * d) d b q refl refl (omega arith) (ap (λ (g : Four). g.x0) is) in
-    let at_1 =
-    one (c + 1) f.x1 (coefficient + 1) (kappa + 1) ((c + 1) * d) d (omega arith) (omega arith) refl refl (omega arith)
-    (ap (λ (g : Four). g.x1) is) in
-    let at_2 =
-    one (c + 2) f.x2 (coefficient + 2) (kappa + 2) ((c + 2) * d) d (omega arith) (omega arith) refl refl (omega arith)
-    (ap (λ (g : Four). g.x2) is) in
-    let at_3 =
-    one (c + 3) f.x3 (coefficient + 3) (kappa + 3) ((c + 3) * d) d (omega arith) (omega arith) refl refl (omega arith)
-    (ap (λ (g : Four). g.x3) is) in
-    rw (at_0, at_1, at_2, at_3)
+-- n of them, by the dots f
+abbrev pub density_by : (w : List Float) (coefficient kappa : ℕ) (f : List Float) (e : ℕ) → Float
+density_by w coefficient kappa f e =
+    add binary64 (get_or w (coefficient + e) nan) (mul binary64 (get_or w (kappa + e) nan) (get_or f e nan))
+
+pub densities_done : (m k d : ℕ) (w coords : List Float) (i c n : ℕ) (f : List Float) (coefficient kappa : ℕ)
+    → coefficient ≡ log_coefficients_at k d + c → kappa ≡ kappas_at k d + c → c + n ≤ k
+    → f ≡ row_dots (part coords (i * d) (i * d + d - i * d)) w d c n
+    → tabulate (density_by w coefficient kappa f) n ≡ densities_from d (parts_in m k d w) (row_of coords d i) c n
+densities_done m k d w coords i c n f coefficient kappa b q h is =
+    let x = row_of coords d i in
+    let dots : f ≡ row_dots x w d c n = rw (part_cut coords (i * d) d) at is in
+    tabulate_same (density_by w coefficient kappa f) _ n
+    (λ e l. let v : get_or f e nan ≡ dot_of x (row_of w d (c + e)) =
+    rw dots (tabulate_at (λ (j : ℕ). dot_of x (row_of w d (c + j))) n e nan l) in
+    log_density_done m k d w x (c + e) (get_or f e nan) (coefficient + e) (kappa + e) (omega arith) (omega arith) (omega arith) v)
 
 module _ (m k d : ℕ) (w₀ coords : List Float) (i : ℕ) where
   -- the first n, where the responsibilities will stand
@@ -110,28 +105,30 @@ module _ (m k d : ℕ) (w₀ coords : List Float) (i : ℕ) where
         row_store w at c (c + 1) v a refl h
         (e ∙ ap (λ (p : Parts). density_in d p (row_of coords d i) c) f) f
 
-    -- four stored
-    pub row_four : (w w' : List Float) (at c : ℕ) (v : Four) → at ≡ responsibilities_at k d + i * k + c → c + 4 ≤ k
-        → v ≡ four_in d (parts_in m k d w) (row_of coords d i) c
-        → w' ≡ set (set (set (set w at v.x0) (at + 1) v.x1) (at + 2) v.x2) (at + 3) v.x3 → parts_in m k d w ≡ row_done c
-        → parts_in m k d w' ≡ row_done (c + 4)
-    row_four w w' at c v a h e s f =
-        let is : v ≡ four_in d (parts_in m k d w₀) (row_of coords d i) c =
-        e ∙ ap (λ (p : Parts). four_in d p (row_of coords d i) c) f in
-        let w₁ = set w at v.x0 in
-        let w₂ = set w₁ (at + 1) v.x1 in
-        let w₃ = set w₂ (at + 2) v.x2 in
-        let f₁ = row_store w at c (c + 1) v.x0 a refl (omega arith) (ap (λ (g : Four). g.x0) is) f in
-        let f₂ = row_store w₁ (at + 1) (c + 1) (c + 2) v.x1 (omega arith) (omega arith) (omega arith) (ap (λ (g : Four). g.x1) is) f₁ in
-        let f₃ = row_store w₂ (at + 2) (c + 2) (c + 3) v.x2 (omega arith) (omega arith) (omega arith) (ap (λ (g : Four). g.x2) is) f₂ in
-        ap (parts_in m k d) s ∙ row_store w₃ (at + 3) (c + 3) (c + 4) v.x3 (omega arith) (omega arith) (omega arith)
-        (ap (λ (g : Four). g.x3) is) f₃
+    -- n stored
+    row_put : (w : List Float) (at c n : ℕ) → at ≡ responsibilities_at k d + i * k + c → c + n ≤ k → at + n ≤ length w
+        → parts_in m k d w ≡ row_done c
+        → parts_in m k d (put_part w at n (densities_from d (parts_in m k d w₀) (row_of coords d i) c n)) ≡ row_done (c + n)
+    unfolding tabulate
+    row_put w at c zero a h l f = let e : c + 0 ≡ c = omega arith in rw (take-append-drop at w, e) f
+    row_put w at c (suc n) a h l f =
+        let density = density_in d (parts_in m k d w₀) (row_of coords d i) in
+        let vs = densities_from d (parts_in m k d w₀) (row_of coords d i) c n in
+        let lv : length vs ≡ n = tabulate_length (λ (e : ℕ). density (c + e)) n in
+        let more : set (put_part w at n vs) (at + n) (density (c + n)) ≡ put_part w at (suc n) (vs ++ (density (c + n) ∷ [])) =
+        put_more w vs at n (density (c + n)) nan lv (omega arith)
+        ∙ ap (λ (j : ℕ). put_part w at j (vs ++ (density (c + n) ∷ []))) (add-one n) in
+        ap (parts_in m k d) (sym more)
+        ∙ row_store (put_part w at n vs) (at + n) (c + n) (c + suc n) (density (c + n)) (omega (arith, a)) (omega arith) (omega arith) refl
+        (row_put w at c n a (omega arith) (omega arith) f)
 
--- where the first c₀ of an area as long stand in u, the first n of it stand in w
-abbrev pub RowFrom : (m k d : ℕ) (u coords : List Float) (i c₀ : ℕ) (w : List Float) (n : ℕ) → Type 0
-RowFrom m k d u coords i c₀ w n =
-    (w₀ : List Float) → length u ≡ length w₀ → parts_in m k d u ≡ row_done m k d w₀ coords i c₀
-    → parts_in m k d w ≡ row_done m k d w₀ coords i n
+    pub row_block : (w : List Float) (at c n : ℕ) (v : List Float) → at ≡ responsibilities_at k d + i * k + c → c + n ≤ k → at + n ≤ length w
+        → v ≡ densities_from d (parts_in m k d w) (row_of coords d i) c n
+        → parts_in m k d w ≡ row_done c → parts_in m k d (put_part w at n v) ≡ row_done (c + n)
+    row_block w at c n v a h l e f =
+        let is : v ≡ densities_from d (parts_in m k d w₀) (row_of coords d i) c n =
+        e ∙ ap (λ (p : Parts). densities_from d p (row_of coords d i) c n) f in
+        rw is (row_put w at c n a h l f)
 
 -- ---- all leaves
 module _ (coords : List Float) (k d : ℕ) (coefficients : List Float) (p : Model) where

@@ -1,11 +1,9 @@
 -- How a run of the mixture lies in a lent work area, and what the functions on it ask.
 -- No definition of document 01 stands on this file.
 use Rattle.std.specs.Prelude.{◌≡◌, List, [], ◌∷◌, ℕ, ◌+◌, ◌*◌, ◌≤◌, ◌<◌, get_or, Float}
-use Rattle.std.specs.Float.{nan, binary64}
-use Rattle.std.specs.Float.Ieee.{add, mul}
-use Rattle.float.specs.declared.Four.{Four}
 use Rattle.counts.specs.Counts.{AtMost, of_runs}
 use Rattle.rows.specs.Rows.{cut}
+use Rattle.rows.specs.Tabulate.{tabulate}
 use Rattle.limits.specs.Sizes.{Sizes}
 use Rattle.kmeans_layout.specs.Areas as areas
 use Rattle.mixture_run.specs.Mixture.{Model, Statistics, Em, log_density_at}
@@ -117,25 +115,9 @@ with_statistics g p = with_totals g.totals (with_sums g.sums p)
 abbrev pub em_of : Parts → Float → Em
 em_of p loglik = record { resp = p.resp; model = model_of p; loglik = loglik }
 
--- what a dot comes to with the log coefficient at one place and the concentration at another; four dots from there on
-module _ (w : List Float) where
-  abbrev pub log_density_by : (coefficient kappa : ℕ) (dot : Float) → Float
-  log_density_by coefficient kappa dot = add binary64 (get_or w coefficient nan) (mul binary64 (get_or w kappa nan) dot)
-
-  abbrev pub log_densities_by : (coefficient kappa : ℕ) → Four → Four
-  log_densities_by coefficient kappa f =
-      record {
-        x0 = log_density_by coefficient kappa f.x0;
-        x1 = log_density_by (coefficient + 1) (kappa + 1) f.x1;
-        x2 = log_density_by (coefficient + 2) (kappa + 2) f.x2;
-        x3 = log_density_by (coefficient + 3) (kappa + 3) f.x3;
-      }
-
--- the log densities of a leaf in four groups, from c on
-abbrev pub four_log_densities : (d : ℕ) (coefficients : List Float) → Model → (x : List Float) (c : ℕ) → Four
-four_log_densities d coefficients p x c =
-    let at = log_density_at d coefficients p x in
-    record { x0 = at c; x1 = at (c + 1); x2 = at (c + 2); x3 = at (c + 3) }
+-- the log densities of a leaf in n groups, from c on
+abbrev pub log_densities_from : (d : ℕ) (coefficients : List Float) → Model → (x : List Float) (c n : ℕ) → List Float
+log_densities_from d coefficients p x c n = tabulate (λ e. log_density_at d coefficients p x (c + e)) n
 
 -- the length of an area: m leaves of d coordinates, k groups
 pub record Area (work m k d : ℕ) : Type 0 where

@@ -1,12 +1,12 @@
 // The E-step: the log coefficient of each group, the log densities of each leaf, the responsibilities, and the
 // log-likelihood.
-ghost use Rattle.std.specs.Prelude.{◌≡◌, ◌+◌, ◌*◌, ◌<◌, ◌≤◌, length, set};
+ghost use Rattle.std.specs.Prelude.{◌≡◌, ◌+◌, ◌*◌, ◌≤◌, length};
 ghost use Rattle.rows.specs.Rows.{put_part, row_of};
 ghost use Rattle.bessel.specs.Start.{StartOf};
 ghost use Rattle.mixture_kappa.specs.Groups.{log_norm_of};
-ghost use Rattle.mixture_run.specs.Mixture.{log_coefficients, log_density_at, log_densities, expect_up_to};
-ghost use Rattle.mixture_run.specs.Areas.{parts_in, model_of, with_log_coefficients, with_resp, log_density_by};
-ghost use Rattle.mixture_run.specs.Areas.{log_densities_by, four_log_densities, Area, Leaves, LeafOf, GroupOf};
+ghost use Rattle.mixture_run.specs.Mixture.{log_coefficients, log_densities, expect_up_to};
+ghost use Rattle.mixture_run.specs.Areas.{parts_in, model_of, with_log_coefficients, with_resp, log_densities_from};
+ghost use Rattle.mixture_run.specs.Areas.{Area, Leaves, LeafOf};
 
 use super::layout;
 
@@ -44,16 +44,8 @@ pub(crate) fn put_log_coefficients(work: &mut [f64], m: usize, k: usize, d: usiz
     }
 }
 
-// The log density that a dot gives, by the log coefficient at place `coefficient` and the concentration at `kappa`.
-fn log_density_by(work: &[f64], coefficient: usize, kappa: usize, v: f64) -> f64
-    requires { (coefficient < length work.now) × (kappa < length work.now) }
-    ensures { result ≡ log_density_by work.now coefficient kappa v }
-{
-    work[coefficient] + work[kappa] * v
-}
-
-// The log density of leaf i in group c.
-fn log_density(
+// The log densities of leaf i in groups c to c + N - 1.
+fn log_densities<const N: usize>(
     work: &[f64],
     coords: &[f64],
     i: usize,
@@ -61,66 +53,20 @@ fn log_density(
     m: usize,
     k: usize,
     d: usize,
-) -> f64
+) -> [f64; N]
     requires area { Area (length work.now) m k d }
-    requires coords_len { (length coords.now ≡ m * d) × (LeafOf i m k d) × (GroupOf c k d) }
+    requires coords_len { (length coords.now ≡ m * d) × (LeafOf i m k d) × (c + N ≤ k) × ((c + N) * d ≤ k * d) }
     ensures { let p = parts_in m k d work.now in
-        result ≡ log_density_at d p.log_coefficients (model_of p) (row_of coords.now d i) c }
+        result ≡ log_densities_from d p.log_coefficients (model_of p) (row_of coords.now d i) c N }
 {
     let coefficient = layout::log_coefficients_at(k, d) + c;
     let kappa = layout::kappas_at(k, d) + c;
     let at = i * d;
-    let row = c * d;
-    let v = vector::dot(&coords[at..at + d], &work[row..row + d]);
-    log_density_by(work, coefficient, kappa, v)
-}
-
-// The log densities that four dots give, by the four log coefficients from `coefficient` on and the four concentrations
-// from `kappa` on.
-fn log_densities_by(work: &[f64], coefficient: usize, kappa: usize, f: float::Four) -> float::Four
-    requires { (coefficient + 4 ≤ length work.now) × (kappa + 4 ≤ length work.now) }
-    ensures { result ≡ log_densities_by work.now coefficient kappa f }
-{
-    float::Four {
-        x0: log_density_by(work, coefficient, kappa, f.x0),
-        x1: log_density_by(work, coefficient + 1, kappa + 1, f.x1),
-        x2: log_density_by(work, coefficient + 2, kappa + 2, f.x2),
-        x3: log_density_by(work, coefficient + 3, kappa + 3, f.x3),
+    let mut f = kmeans_nearest::row_dots::<N>(&coords[at..at + d], work, c, d);
+    for e in 0..N {
+        f[e] = work[coefficient + e] + work[kappa + e] * f[e];
     }
-}
-
-// The log densities of leaf i in groups c to c + 3, by four dots at once.
-fn four_log_densities(
-    work: &[f64],
-    coords: &[f64],
-    i: usize,
-    c: usize,
-    m: usize,
-    k: usize,
-    d: usize,
-) -> float::Four
-    requires area { Area (length work.now) m k d }
-    requires coords_len { (length coords.now ≡ m * d) × (LeafOf i m k d) × (c + 4 ≤ k) × ((c + 4) * d ≤ k * d) }
-    ensures { let p = parts_in m k d work.now in
-        result ≡ four_log_densities d p.log_coefficients (model_of p) (row_of coords.now d i) c }
-{
-    let coefficient = layout::log_coefficients_at(k, d) + c;
-    let kappa = layout::kappas_at(k, d) + c;
-    let at = i * d;
-    let f = kmeans_nearest::row_dots(&coords[at..at + d], work, c, d);
-    log_densities_by(work, coefficient, kappa, f)
-}
-
-// Four numbers stand from place `at` on.
-fn put_four(work: &mut [f64], at: usize, f: float::Four)
-    requires { at + 4 ≤ length work.old }
-    ensures { let w = work.old in
-        work.new ≡ set (set (set (set w at f.x0) (at + 1) f.x1) (at + 2) f.x2) (at + 3) f.x3 }
-{
-    work[at] = f.x0;
-    work[at + 1] = f.x1;
-    work[at + 2] = f.x2;
-    work[at + 3] = f.x3;
+    f
 }
 
 // The log densities of leaf i stand where its responsibilities will: by fours, then singly.
@@ -133,16 +79,13 @@ fn put_log_densities(work: &mut [f64], coords: &[f64], i: usize, m: usize, k: us
         q ≡ with_resp (put_part p.resp (i * k) k (log_densities k d p.log_coefficients (model_of p) x)) p }
 {
     let row = layout::responsibilities_at(k, d) + i * k;
-    let mut c = 0;
-    while 4 <= k - c {
-        let f = four_log_densities(work, coords, i, c, m, k, d);
-        put_four(work, row + c, f);
-        c += 4;
+    for b in 0..k / 4 {
+        let f = log_densities::<4>(work, coords, i, 4 * b, m, k, d);
+        let to = row + 4 * b;
+        work[to..to + 4].copy_from_slice(&f);
     }
-    while c < k {
-        let v = log_density(work, coords, i, c, m, k, d);
-        work[row + c] = v;
-        c += 1;
+    for c in k - k % 4..k {
+        work[row + c] = log_densities::<1>(work, coords, i, c, m, k, d)[0];
     }
 }
 

@@ -3,7 +3,7 @@
 use mathlib.Core.Path.{◌≡◌, refl, ap, ◌∙◌}
 use mathlib.Core.List.{List, [], ◌∷◌, ◌++◌, append_assoc, append-nil}
 use Prim.Native.Nat.{ℕ, zero, suc, ◌+◌, ◌*◌, ◌-◌, ◌≤◌, ◌<◌}
-use native.Mathlib.Nat.{suc-mul, mul-le-mul_right}
+use native.Mathlib.Nat.{suc-mul, add-mul, mul-le-mul_right}
 use native.Mathlib.Numerals.{add-one}
 use native.Mathlib.Omega.{arith}
 use lib.ListN.{length, get_or, take, drop, set, drop_of_length-le, length-append, length-drop, take-append-drop}
@@ -135,6 +135,12 @@ module _ {A : Type 0} where
   part_take w zero (suc i) p h = absurd (omega arith)
   part_take [] (suc n) (suc i) p h = refl
   part_take (x ∷ w) (suc n) (suc i) p h = part_take w n i p (omega arith)
+
+  -- row e of the n rows from row c on
+  pub row_part : (l : List A) (d c n e : ℕ) → e < n → row_of (part l (c * d) (n * d)) d e ≡ row_of l d (c + e)
+  row_part l d c n e h =
+      let f : (c + e) * d ≡ c * d + e * d = add-mul c e d in
+      part_take (drop (c * d) l) (n * d) (e * d) d (row_within e n d h) ∙ rw (drop-drop (e * d) (c * d) l, f)
 
   pub cut_part : (ns : List ℕ) (w : List A) (r at i p : ℕ) → at ≡ start_of ns r + i → i + p ≤ get_or ns r 0
       → part w at p ≡ part (get_or (cut ns w) r []) i p

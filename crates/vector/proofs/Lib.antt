@@ -1,4 +1,4 @@
 -- Laws that other proofs cite, each file named after what it is about.
 pub mod Vectors
-pub mod Fours
+pub mod DotTurns
 pub mod Within

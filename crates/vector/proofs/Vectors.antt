@@ -1,4 +1,4 @@
--- Laws of the definitions of specs/Vectors.antt, one for a turn of the loop that computes each and one for its end. A sum and a dot product go by what is left of the
+-- Laws of the definitions of specs/Vectors.antt, one for a turn of the loop that computes each and one for its end. A dot product goes by what is left of the
 -- list, a store by what is done beside what is left. Assumes nothing.
 use mathlib.Core.Path.{◌≡◌, refl, ap, sym}
 use mathlib.Core.List.{List, [], ◌∷◌, ◌++◌, append_assoc, append-nil}
@@ -11,17 +11,9 @@ use native.Mathlib.Omega.{arith}
 use lib.ListN.{length, get_or, take, drop, set, drop_of_length-le, take-append-drop}
 use lib.Seq.{drop-cons, take-suc-set, drop-set-lt, take_all}
 use lib.Ieee.{Float, nan, inf, fin, unlike, up, down, binary64, add, mul, div, lt}
-use Rattle.float.specs.Arithmetic.{plus_zero, sum_from, dot_from}
+use Rattle.float.specs.Arithmetic.{plus_zero, dot_from}
 use Rattle.float.proofs.Order.{lt_or_ge}
 use Rattle.vector.specs.Vectors.{norm_of, divided_by, unit_vector, add_scaled}
-
--- sums
-module _ (s : Float) (v : List Float) (j : ℕ) where
-  pub sum_turn : j < length v → sum_from (add binary64 s (get_or v j nan)) (drop (j + 1) v) ≡ sum_from s (drop j v)
-  sum_turn h = rw (add-one, drop-cons v j nan)
-
-  pub sum_end : length v ≤ j → sum_from s (drop j v) ≡ s
-  sum_end h = rw (drop_of_length-le v h)
 
 -- dot products
 dot_nil : (s : Float) (a : List Float) → dot_from s a [] ≡ s

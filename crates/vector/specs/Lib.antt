@@ -1,2 +1,2 @@
 pub mod Vectors
-pub mod Fours
+pub mod Dots

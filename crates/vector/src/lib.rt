@@ -2,58 +2,36 @@
 // divided, scaled and added.
 #![tactic(auto)]
 
-ghost use Rattle.std.specs.Prelude.{◌≡◌, min};
+ghost use Rattle.std.specs.Prelude.{◌≡◌, ◌*◌, length};
+ghost use Rattle.std.specs.List.{fold};
+ghost use Rattle.std.specs.Float.{binary64};
+ghost use Rattle.std.specs.Float.Ieee.{add};
 ghost use Rattle.float.specs.Arithmetic.{minus_zero, plus_zero, sum_from};
 ghost use Rattle.rows.specs.Rows.{Alike};
-ghost use Rattle.vector.specs.Fours.{FourRows, dots_of};
+ghost use Rattle.vector.specs.Dots.{dots_of};
 ghost use Rattle.vector.specs.Vectors.{dot_of, norm_of, divided_by, unit_vector, add_scaled};
 
-// The shorter of two lengths.
-fn shorter(a: usize, b: usize) -> usize
-    ensures { result ≡ min a b }
+// The dots of x with N rows of d numbers that lie one after the other, side by side in N accumulators. Each is summed
+// from -0 in index order, to the end of the shorter vector.
+pub fn dots<const N: usize>(x: &[f64], rows: &[f64], d: usize) -> [f64; N]
+    requires { length rows.now ≡ N * d }
+    ensures { result ≡ dots_of x.now rows.now d N }
 {
-    if a < b { a } else { b }
+    let mut s = [-0.0; N];
+    for j in 0..x.len().min(d) {
+        let v = x[j];
+        for c in 0..N {
+            s[c] = s[c] + v * rows[c * d + j];
+        }
+    }
+    s
 }
 
 // The products summed from -0 in index order, to the end of the shorter vector.
 pub fn dot(a: &[f64], b: &[f64]) -> f64
     ensures { result ≡ dot_of a.now b.now }
 {
-    let n = shorter(a.len(), b.len());
-    let mut s = -0.0;
-    let mut j = 0;
-    while j < n {
-        s = s + a[j] * b[j];
-        j += 1;
-    }
-    s
-}
-
-// The dots of x with four vectors of one length, in four accumulators.
-pub fn dot4(x: &[f64], p: &[f64], q: &[f64], r: &[f64], s: &[f64]) -> float::Four
-    requires { FourRows p.now q.now r.now s.now }
-    ensures { result ≡ dots_of x.now p.now q.now r.now s.now }
-{
-    let n = shorter(x.len(), p.len());
-    let mut a = -0.0;
-    let mut b = -0.0;
-    let mut c = -0.0;
-    let mut e = -0.0;
-    let mut j = 0;
-    while j < n {
-        let v = x[j];
-        a = a + v * p[j];
-        b = b + v * q[j];
-        c = c + v * r[j];
-        e = e + v * s[j];
-        j += 1;
-    }
-    float::Four {
-        x0: a,
-        x1: b,
-        x2: c,
-        x3: e,
-    }
+    dots::<1>(a, b, b.len())[0]
 }
 
 // The root of the sum of the squares.
@@ -79,25 +57,17 @@ pub fn fold(v: &[f64]) -> f64
 
 // start, with each element added in order.
 fn accumulate(start: f64, v: &[f64]) -> f64
-    ensures { result ≡ sum_from start v.now }
+    ensures { result ≡ fold (add binary64) start v.now }
 {
-    let mut s = start;
-    let mut j = 0;
-    while j < v.len() {
-        s = s + v[j];
-        j += 1;
-    }
-    s
+    v.iter().fold(start, |s, x| s + *x)
 }
 
 // Every element is divided by n.
 pub fn divide_by(row: &mut [f64], n: f64)
     ensures { row.new ≡ divided_by n row.old }
 {
-    let mut j = 0;
-    while j < row.len() {
+    for j in 0..row.len() {
         row[j] = row[j] / n;
-        j += 1;
     }
 }
 
@@ -117,10 +87,7 @@ pub fn unit(to: &mut [f64], from: &[f64])
 pub fn add_scaled(row: &mut [f64], w: f64, x: &[f64])
     ensures { row.new ≡ add_scaled w row.old x.now }
 {
-    let n = shorter(row.len(), x.len());
-    let mut j = 0;
-    while j < n {
+    for j in 0..row.len().min(x.len()) {
         row[j] = row[j] + w * x[j];
-        j += 1;
     }
 }

@@ -1,23 +1,14 @@
--- `kmeans_lloyd::leaf_norms` meets its contract. The invariant of both loops: where the scales of the leaves before the loop's
--- first are their norms, those of the leaves before i are, the others as they were. Assumes nothing.
+-- `kmeans_lloyd::leaf_norms` meets its contract. The invariant of both loops: the scales of the leaves before the next one are their norms,
+-- the others as they were. Assumes nothing.
 use mathlib.Core.Path.{◌≡◌}
-use Prim.Native.Nat.{◌≤◌, ◌-◌}
-use lib.ListN.{length}
-use Rattle.kmeans_lloyd.proofs.Starts.{NormedFrom}
+use mathlib.Core.List.{List}
+use Prim.Native.Nat.{ℕ, ◌*◌}
+use Rattle.kmeans_layout.specs.Areas.{state_in}
+use Rattle.kmeans_lloyd.proofs.Starts.{normed}
 use Rattle.kmeans_lloyd.proofs.leaf_norms.Given as goal
 
+abbrev pub invariant-loop-b : goal.invariant-loop-b
+invariant-loop-b l = (u : List ℕ) → state_in l.m l.k l.d l.work u ≡ normed l.coords l.d (4 * l.b) (state_in l.m l.k l.d l.fn.work u)
+
 abbrev pub invariant-loop-i : goal.invariant-loop-i
-invariant-loop-i l =
-    (l.i ≤ l.m) × (length l.work ≡ length l.initial.work)
-    × NormedFrom l.m l.k l.d l.coords l.initial.work l.initial.i l.work l.i
-
-abbrev pub decreases-loop-i : goal.decreases-loop-i
-decreases-loop-i l = l.m - l.i
-
-abbrev pub invariant-loop-i-2 : goal.invariant-loop-i-2
-invariant-loop-i-2 l =
-    (l.i ≤ l.m) × (length l.work ≡ length l.initial.work)
-    × NormedFrom l.m l.k l.d l.coords l.initial.work l.initial.i l.work l.i
-
-abbrev pub decreases-loop-i-2 : goal.decreases-loop-i-2
-decreases-loop-i-2 l = l.m - l.i
+invariant-loop-i l = (u : List ℕ) → state_in l.m l.k l.d l.work u ≡ normed l.coords l.d l.i (state_in l.m l.k l.d l.fn.work u)

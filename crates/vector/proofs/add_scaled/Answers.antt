@@ -9,10 +9,10 @@ pub loop-j-preserved : goal.loop-j-preserved
 loop-j-preserved c =
     let l = c.loop-j in
     let x = c.args in
-    (simp length-set l.invariant.0, l.invariant.1, omega arith, add_scaled_turn x.w l.row x.x.now l.j (omega arith) (omega arith) ∙ l.invariant.3)
+    (simp length-set l.invariant.0, add_scaled_turn x.w l.row x.x.now l.j (omega arith) (omega arith) ∙ l.invariant.1)
 
 pub returns : goal.returns
 returns c =
     let l = c.loop-j in
     let x = c.args in
-    sym (add_scaled_end x.w l.row x.x.now l.j (omega arith)) ∙ l.invariant.3
+    sym (add_scaled_end x.w l.row x.x.now l.j (omega arith)) ∙ l.invariant.1

@@ -1,14 +1,10 @@
 -- `vector::add_scaled` meets its contract. The loop's invariant: the elements passed, then what is left of the row with w times what is left of x added, are
--- the whole result. The measure is what is left of the shorter. Assumes nothing.
+-- the whole result. Assumes nothing.
 use mathlib.Core.Path.{◌≡◌}
 use mathlib.Core.List.{◌++◌}
-use Prim.Native.Nat.{◌≤◌, ◌-◌, min}
 use lib.ListN.{length, take, drop}
 use Rattle.vector.specs.Vectors.{add_scaled}
 use Rattle.vector.proofs.add_scaled.Given as goal
 
 abbrev pub invariant-loop-j : goal.invariant-loop-j
-invariant-loop-j l = (length l.row ≡ length l.initial.row) × (l.n ≡ min (length l.initial.row) (length l.x)) × (l.j ≤ l.n) × (take l.j l.row ++ add_scaled l.w (drop l.j l.row) (drop l.j l.x) ≡ add_scaled l.w l.initial.row l.x)
-
-abbrev pub decreases-loop-j : goal.decreases-loop-j
-decreases-loop-j l = l.n - l.j
+invariant-loop-j l = (length l.row ≡ length l.initial.row) × (take l.j l.row ++ add_scaled l.w (drop l.j l.row) (drop l.j l.x) ≡ add_scaled l.w l.initial.row l.x)

@@ -1,19 +1,16 @@
 -- `vector::divide_by` meets its contract.
-use mathlib.Core.Path.{refl, sym, ◌∙◌}
+use mathlib.Core.Path.{sym, ◌∙◌}
 use native.Mathlib.Omega.{arith}
 use lib.ListN.{length-set}
 use Rattle.vector.proofs.Vectors.{divide_by_turn, divide_by_end}
 use Rattle.vector.proofs.divide_by.Goals as goal
 
-pub loop-j-init : goal.loop-j-init
-loop-j-init c = (refl, omega arith, refl)
-
 pub loop-j-preserved : goal.loop-j-preserved
 loop-j-preserved c =
     let l = c.loop-j in
-    (simp length-set l.invariant.0, omega arith, divide_by_turn c.args.n l.row l.j (omega arith) ∙ l.invariant.2)
+    (simp length-set l.invariant.0, divide_by_turn c.args.n l.row l.j (omega arith) ∙ l.invariant.1)
 
 pub returns : goal.returns
 returns c =
     let l = c.loop-j in
-    sym (divide_by_end c.args.n l.row l.j (omega arith)) ∙ l.invariant.2
+    sym (divide_by_end c.args.n l.row l.j (omega arith)) ∙ l.invariant.1

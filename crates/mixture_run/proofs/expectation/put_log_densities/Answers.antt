@@ -1,83 +1,43 @@
 -- `mixture_run::expectation::put_log_densities` meets its contract.
-use mathlib.Core.Path.{◌≡◌, refl, ap, ◌∙◌}
-use Prim.Native.Nat.{ℕ, ◌+◌, ◌*◌, ◌≤◌}
-use native.Mathlib.Nat.{mul-le-mul_right}
+use mathlib.Core.Path.{◌≡◌, ap, ◌∙◌}
+use Prim.Native.Nat.{ℕ, ◌+◌, ◌*◌, ◌-◌, ◌≤◌}
 use native.Mathlib.Omega.{arith}
-use lib.ListN.{length}
-use Rattle.mixture_run.proofs.Sizes.{area_of, group_of}
-use Rattle.mixture_run.proofs.Expected.{row_done, row_start, row_turn, row_four}
-use borrow.Author.Rules.{rules}
+use lib.ListN.{get_or}
+use lib.Ieee.{nan}
+use Rattle.rows.specs.Rows.{row_of}
+use Rattle.rows.specs.Tabulate.{tabulate}
+use Rattle.mixture_run.specs.Mixture.{log_density_at}
+use Rattle.mixture_run.specs.Areas.{parts_in, model_of}
+use Rattle.mixture_run.proofs.Expected.{row_done, row_start, row_turn, row_block}
 use Rattle.mixture_run.proofs.expectation.put_log_densities.Goals as goal
 
-pub loop-c-init : goal.loop-c-init
-loop-c-init c =
-    let a = c.args in
-    (search rules, refl, row_start a.m a.k a.d a.work.now a.coords.now a.i)
+pub loop-b-init : goal.loop-b-init
+loop-b-init c = let a = c.args in row_start a.m a.k a.d a.work.now a.coords.now a.i
 
-pub four_log_densities-f-requires : goal.four_log_densities-f-requires
-four_log_densities-f-requires c =
-    let l = c.loop-c in
+pub loop-b-preserved : goal.loop-b-preserved
+loop-b-preserved c =
+    let l = c.loop-b in
     let a = c.args in
-    let h : l.c + 4 ≤ a.k = omega (arith, c.loop-c-test.true, l.invariant.0) in record {
-      area = area_of (length a.work.now) (length l.work) a.m a.k a.d l.invariant.1 c.requires.area;
-      coords_len = (c.requires.coords_len.0, c.requires.coords_len.1, h, mul-le-mul_right a.d h);
-    }
-
-pub put_four-requires : goal.put_four-requires
-put_four-requires c =
-    let l = c.loop-c in
-    omega (
-      arith,
-      c.responsibilities_at.ensures,
-      c.loop-c-test.true,
-      l.invariant.0,
-      l.invariant.1,
-      c.requires.coords_len.1.shares,
-      c.requires.area.work_long,
-    )
+    let to = c.responsibilities_at.result + a.i * a.k + 4 * l.b in
+    let h : 4 * l.b + 4 ≤ a.k = omega arith in
+    let cut : to + 4 - to ≡ 4 = omega arith in
+    let next : 4 * l.b + 4 ≡ 4 * (l.b + 1) = omega arith in
+    rw (cut, c.copy_from_slice.ensures.after)
+    (row_block a.m a.k a.d a.work.now a.coords.now a.i c.requires.coords_len.1.shares c.requires.area.work_long l.work to (4 * l.b) 4
+    c.log_densities-f.result (omega (arith, c.responsibilities_at.ensures)) h
+    (omega (arith, c.responsibilities_at.ensures, c.requires.coords_len.1.shares, c.requires.area.work_long))
+    c.log_densities-f.ensures l.invariant)
+    ∙ ap (row_done a.m a.k a.d a.work.now a.coords.now a.i) next
 
 pub loop-c-preserved : goal.loop-c-preserved
+unfolding tabulate
 loop-c-preserved c =
     let l = c.loop-c in
     let a = c.args in
-    let h : l.c + 4 ≤ a.k = omega (arith, c.loop-c-test.true, l.invariant.0) in (
-      h,
-      c.put_four.auto.work ∙ l.invariant.1,
-      row_four a.m a.k a.d a.work.now a.coords.now a.i c.requires.coords_len.1.shares c.requires.area.work_long l.work
-          c.put_four.new.work (c.responsibilities_at.result + a.i * a.k + l.c) l.c c.four_log_densities-f.result
-          (omega (arith, c.responsibilities_at.ensures)) h c.four_log_densities-f.ensures c.put_four.ensures l.invariant.2,
-    )
-
-pub loop-c-2-init : goal.loop-c-2-init
-loop-c-2-init c =
-    (c.loop-c.invariant.0, refl, λ w₀ e f. f)
-
-pub log_density-v-requires : goal.log_density-v-requires
-log_density-v-requires c =
-    let l = c.loop-c-2 in
-    let a = c.args in record {
-      area = area_of (length a.work.now) (length l.work) a.m a.k a.d (l.invariant.1 ∙ c.loop-c.invariant.1) c.requires.area;
-      coords_len = (c.requires.coords_len.0, c.requires.coords_len.1, group_of l.c a.k a.d c.loop-c-2-test.true);
-    }
-
-pub loop-c-2-preserved : goal.loop-c-2-preserved
-loop-c-2-preserved c =
-    let l = c.loop-c-2 in
-    let u = c.loop-c in
-    let a = c.args in (
-      omega arith,
-      search rules,
-      λ w₀ e f. row_turn a.m a.k a.d w₀ a.coords.now a.i c.requires.coords_len.1.shares
-          (omega (arith, c.requires.area.work_long, u.invariant.1, e)) l.work (c.responsibilities_at.result + a.i * a.k + l.c) l.c
-          c.log_density-v.result (omega (arith, c.responsibilities_at.ensures)) (omega arith) c.log_density-v.ensures
-          (l.invariant.2 w₀ e f),
-    )
-
-pub returns : goal.returns
-returns c =
-    let l = c.loop-c-2 in
-    let u = c.loop-c in
-    let a = c.args in
-    let e : l.c ≡ a.k = omega arith in
-    l.invariant.2 a.work.now u.invariant.1 u.invariant.2
-    ∙ ap (λ (n : ℕ). row_done a.m a.k a.d a.work.now a.coords.now a.i n) e
+    let p = parts_in a.m a.k a.d l.work in
+    let first : l.c + 0 ≡ l.c = omega arith in
+    let v : get_or c.log_densities.result 0 nan ≡ log_density_at a.d p.log_coefficients (model_of p) (row_of a.coords.now a.d a.i) l.c =
+    rw (c.log_densities.ensures, first) in
+    row_turn a.m a.k a.d a.work.now a.coords.now a.i c.requires.coords_len.1.shares c.requires.area.work_long l.work
+    (c.responsibilities_at.result + a.i * a.k + l.c) l.c
+    (get_or c.log_densities.result 0 nan) (omega (arith, c.responsibilities_at.ensures)) (omega arith) v l.invariant
