@@ -25,7 +25,6 @@ cleared_at f =
 pub loop-i-init : goal.loop-i-init
 loop-i-init c =
     let a = c.args in (
-      omega arith,
       sized_of _ _ _ _ (length a.coords.now) a.m a.k a.d (search rules) (search rules) c.requires.sized,
       gathered_own a.weights.now a.coords.now a.m a.k a.d _ 0 _ _ (cleared_at (goal.at.loop-i-init c).After-fill_u32),
       refl,
@@ -36,8 +35,8 @@ pub gain-requires : goal.gain-requires
 gain-requires c =
     let l = c.loop-i in
     let a = c.args in record {
-      sized = l.invariant.1;
-      gains = gains_of a.weights.now a.coords.now a.m a.k a.d _ l.i l.work l.work_u32 l.invariant.2
+      sized = l.invariant.0;
+      gains = gains_of a.weights.now a.coords.now a.m a.k a.d _ l.i l.work l.work_u32 l.invariant.1
           (state_in a.m a.k a.d a.work.now a.work_u32.now) (cleared_at (goal.at.gain-requires c).After-fill_u32).state c.requires.weights_len.1
           c.loop-i-test.true c.requires.sized.sizes.m_small c.requires.weights_len.0;
     }
@@ -48,18 +47,17 @@ loop-i-preserved c =
     let a = c.args in
     let ew = c.gain.auto.work in
     let eu = c.gain.auto.work_u32 in (
-      omega (arith, c.loop-i-test.true),
-      sized_of _ _ _ _ (length a.coords.now) a.m a.k a.d ew eu l.invariant.1,
-      gather_turn a.weights.now a.coords.now a.m a.k a.d _ l.i l.work l.work_u32 l.invariant.2 _ _
+      sized_of _ _ _ _ (length a.coords.now) a.m a.k a.d ew eu l.invariant.0,
+      gather_turn a.weights.now a.coords.now a.m a.k a.d _ l.i l.work l.work_u32 l.invariant.1 _ _
           c.gain.ensures,
-      ew ∙ l.invariant.3,
-      eu ∙ l.invariant.4,
+      ew ∙ l.invariant.2,
+      eu ∙ l.invariant.3,
     )
 
 pub returns : goal.returns
 returns c =
     let l = c.loop-i in
     let a = c.args in
-    gather_end a.weights.now a.coords.now a.m a.k a.d _ l.i l.work l.work_u32 l.invariant.2 a.work.now
+    gather_end a.weights.now a.coords.now a.m a.k a.d _ l.i l.work l.work_u32 l.invariant.1 a.work.now
     a.work_u32.now (cleared_at (goal.at.returns c).After-fill_u32).state
     (omega (arith, c.loop-i-test.false))
