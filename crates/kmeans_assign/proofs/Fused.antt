@@ -11,6 +11,7 @@ use lib.Dec.{eqb, ltb}
 use lib.ListN.{length, get_or}
 use lib.Seq.{get_or-set_same, get_or-set_other, set-set, set_comm}
 use lib.Ieee.{Float, nan, lt}
+use Rattle.std.specs.Prelude.{Option, Some}
 use Rattle.float.specs.Arithmetic.{plus_zero}
 use Rattle.kmeans_bounds.specs.Shifts.{shifted_bounds, skips, other_than}
 use Rattle.kmeans_nearest.specs.declared.Best.{Best}
@@ -22,7 +23,6 @@ use Rattle.kmeans_assign.specs.Pass.{more_made, pass_leaf, pass_up_to}
 use Rattle.kmeans_layout.specs.Areas.{state_in, total, Labelled}
 use Rattle.kmeans_assign.specs.Turns.{Spent, LeafPlaced, LeafPassed, tallied, passed}
 use Rattle.kmeans_assign.specs.declared.Passed.{Passed}
-use Rattle.std.specs.Prelude.{Option, Some}
 use Rattle.kmeans_layout.proofs.Regions.{get_labels, length_low, length_high}
 use Rattle.kmeans_assign.proofs.Passes.{shift_labels, pass_turn, leaf_placed, labelled_after_pass}
 

@@ -225,9 +225,6 @@ module _ (coords : List Float) (m k d : ℕ) (w₀ w : List Float) (u : List ℕ
         rows = λ j h l. later j (omega arith) l ∙ done.rows j (omega arith) l;
       }
 
-  pub groups_end : c ≡ k → state_in m k d w u ≡ (up_to k).state
-  groups_end e = done.state ∙ ap (λ (n : ℕ). (up_to n).state) e
-
 -- the labels stay
 pub update_labels : (coords : List Float) (d : ℕ) (sums : List Float) (counts : List ℕ) (s : State) (c : ℕ)
     → (update_up_to coords d sums counts s c).state.labels ≡ s.labels

@@ -5,7 +5,6 @@ use native.Mathlib.Omega.{arith}
 use Rattle.counts.specs.Counts.{AtMost, of_round}
 use Rattle.kmeans_assign.specs.Pass.{pass_up_to}
 use Rattle.kmeans_layout.specs.Areas.{state_in}
-use Rattle.kmeans_layout.proofs.Sizes.{leaf_of}
 use Rattle.kmeans_assign.proofs.Passes.{pass_turn, pass_small}
 use Rattle.kmeans_assign.proofs.assign.Goals.{At-loop-i}
 use Rattle.kmeans_assign.proofs.assign.Goals as goal
@@ -13,9 +12,6 @@ use Rattle.kmeans_assign.proofs.assign.Goals as goal
 pub loop-i-init : goal.loop-i-init
 unfolding pass_up_to
 loop-i-init c = rw c.none.ensures
-
-pub assign_leaf-turn-requires-clause-leaf_of : goal.assign_leaf-turn-requires-clause-leaf_of
-assign_leaf-turn-requires-clause-leaf_of c = leaf_of c.loop-i.i c.args.m c.args.d c.loop-i-test.true
 
 -- what is counted so far is small
 small_at : (p : At-loop-i) → AtMost of_round p.loop-i.p.counts
