@@ -11,6 +11,7 @@ use lib.Dec.{eqb, ltb}
 use lib.ListN.{length, get_or}
 use lib.Seq.{get_or-set_same, get_or-set_other, set-set, set_comm}
 use lib.Ieee.{Float, nan, lt}
+use Rattle.std.specs.Prelude.{Option, Some}
 use Rattle.float.specs.Arithmetic.{plus_zero}
 use Rattle.kmeans_bounds.specs.Shifts.{shifted_bounds, skips, other_than}
 use Rattle.kmeans_nearest.specs.declared.Best.{Best}
@@ -22,7 +23,6 @@ use Rattle.kmeans_assign.specs.Pass.{more_made, pass_leaf, pass_up_to}
 use Rattle.kmeans_layout.specs.Areas.{state_in, total, Labelled}
 use Rattle.kmeans_assign.specs.Turns.{Spent, LeafPlaced, LeafPassed, tallied, passed}
 use Rattle.kmeans_assign.specs.declared.Passed.{Passed}
-use Rattle.kmeans_assign.specs.declared.Turn.{Turn}
 use Rattle.kmeans_layout.proofs.Regions.{get_labels, length_low, length_high}
 use Rattle.kmeans_assign.proofs.Passes.{shift_labels, pass_turn, leaf_placed, labelled_after_pass}
 
@@ -101,7 +101,7 @@ module _ (coords : List Float) (k d it : ℕ) (t : Slowest) (j : ℕ) where
   shift_late s (suc n) h = ap (pass_leaf coords k d it n) (shift_late s n (omega arith)) ∙ leaf_late n h (pass_up_to coords k d it s n)
 
 module _ (coords : List Float) (k d it : ℕ) (t : Slowest) (s : State) where
-  pub fused_turn : (n : ℕ) (x x' : State) (p p' : Passed) (r : Turn) → passed x p ≡ pass_up_to coords k d it (shift_up_to k t s n) n
+  pub fused_turn : (n : ℕ) (x x' : State) (p p' : Passed) (r : Option Bool) → passed x p ≡ pass_up_to coords k d it (shift_up_to k t s n) n
       → LeafPassed coords k d it n (shift_leaf k t n x) x' r → p' ≡ tallied p r k
       → passed x' p' ≡ pass_up_to coords k d it (shift_up_to k t s (n + 1)) (n + 1)
   unfolding shift_up_to
@@ -131,7 +131,7 @@ module _ (m k d : ℕ) (w : List Float) (u : List ℕ) (coords : List Float) (it
       → own ≡ get_or (state_in m k d w u).drift (get_or (state_in m k d w u).labels i 0) nan → other ≡ other_than t (get_or u i 0)
       → b ≡ bounds_at (state_in m k d w u) i → Spent k own other b
       → LeafPlaced coords k d i (state_in m k d w u) s' r
-      → LeafPassed coords k d it i (shift_leaf k t i (state_in m k d w u)) s' (record { skipped = false; changed = r })
+      → LeafPassed coords k d it i (shift_leaf k t i (state_in m k d w u)) s' (Some r)
   unfolding put_bounds
   leaf_anew s' own other b r g h eown eother eb spent l =
       let s = state_in m k d w u in

@@ -3,15 +3,15 @@
 -- done. Assumes nothing.
 use mathlib.Core.Path.{◌≡◌, refl, ap, sym, ◌∙◌}
 use mathlib.Core.List.{List, [], ◌∷◌}
-use mathlib.Core.Bool.{Bool, true, false, not, ◌&&◌, ◌||◌, cond}
+use mathlib.Core.Bool.{Bool, true, false, not, ◌||◌, cond}
 use Prim.Native.Nat.{ℕ, zero, suc, ◌+◌, ◌-◌, ◌*◌, ◌≤◌, ◌<◌}
 use native.Mathlib.Nat.{mul-le-mul_right}
 use native.Mathlib.Numerals.{add-one}
 use native.Mathlib.Omega.{arith}
-use borrow.Author.Tests.{lt-ltb, le-ltb}
 use lib.Dec.{eqb, ltb}
-use lib.ListN.{length, get_or, take, drop, set, length-set}
+use lib.ListN.{get_or, take, drop, set}
 use lib.Ieee.{Float, nan}
+use Rattle.std.specs.Prelude.{Option, None, Some}
 use Rattle.rows.specs.Rows.{row_of}
 use Rattle.counts.specs.Counts.{AtMost, of_round}
 use Rattle.kmeans_bounds.specs.Shifts.{shifted_bounds, skips, other_than, slowest_of}
@@ -23,10 +23,9 @@ use Rattle.kmeans_nearest.proofs.Nearest.{best_below}
 use Rattle.kmeans_layout.specs.State.{State}
 use Rattle.kmeans_assign.specs.Pass.{Pass, bounds_at, put_bounds, put_label, shift_leaf, shift_up_to, shifted_for, bounds_by, best_of}
 use Rattle.kmeans_assign.specs.Pass.{put_best, more_made, more_saved, pass_up_to, pass_of}
-use Rattle.kmeans_layout.specs.Areas.{state_in, drift_at, served_at, Area, Labelled}
+use Rattle.kmeans_layout.specs.Areas.{state_in, drift_at, served_at, Labelled}
 use Rattle.kmeans_assign.specs.Turns.{LeafPlaced, LeafPassed, tallied, passed}
 use Rattle.kmeans_assign.specs.declared.Passed.{Passed}
-use Rattle.kmeans_assign.specs.declared.Turn.{Turn}
 use Rattle.kmeans_layout.proofs.Regions.{get_labels, drift_are, centers_are}
 use Rattle.kmeans_assign.proofs.Cases.{either}
 use Rattle.kmeans_assign.proofs.Leaves.{put_label_done}
@@ -53,18 +52,7 @@ module _ (k : ℕ) (t : Slowest) (s : State) where
   shift_labels zero = refl
   shift_labels (suc n) = shift_labels n
 
--- the shift is made after the first round
-module _ (m k it : ℕ) (s : State) where
-  pub shift_made : 0 < it → shift_up_to k (slowest_of s.drift) s m ≡ shifted_for m k it s
-  shift_made h = rw (lt-ltb 0 it h)
-
-  pub shift_left : it ≤ 0 → s ≡ shifted_for m k it s
-  shift_left h = rw (le-ltb 0 it h)
-
 -- ---- a leaf given its best centre
-pub area_set : (w : List Float) (j m k d : ℕ) (x : Float) → Area (length w) m k d → Area (length (set w j x)) m k d
-area_set w j m k d x a = rw (length-set w j x) a
-
 module _ (m k d : ℕ) (w : List Float) (u : List ℕ) (coords : List Float) (i : ℕ) (b : Best) where
   pub best_is : b ≡ best_to (take (i * d + d - i * d) (drop (i * d) coords)) (take (k * d) w) d (k - 1)
       → b ≡ best_of coords k d (state_in m k d w u) i
@@ -86,31 +74,29 @@ module _ (m k d : ℕ) (w : List Float) (u : List ℕ) (coords : List Float) (i 
 
 -- ---- a leaf's turn in a pass
 module _ (coords : List Float) (k d it i : ℕ) (s s' : State) (b : Bounds) (t : Bool) where
-  pub leaf_skipped : b ≡ bounds_at s i → t ≡ skips it b → t ≡ true
-      → LeafPassed coords k d it i s s (record { skipped = true; changed = false })
-  leaf_skipped eb et e = record { skip = sym e ∙ et ∙ ap (skips it) eb; change = refl; state = refl }
-
   pub leaf_placed : b ≡ bounds_at s i → t ≡ skips it b → t ≡ false → (r : Bool) → LeafPlaced coords k d i s s' r
-      → LeafPassed coords k d it i s s' (record { skipped = false; changed = r })
-  leaf_placed eb et e r l = record { skip = sym e ∙ et ∙ ap (skips it) eb; change = l.change; state = l.state }
+      → LeafPassed coords k d it i s s' (Some r)
+  leaf_placed eb et e r l =
+      let h : skips it (bounds_at s i) ≡ false = ap (skips it) (sym eb) ∙ sym et ∙ e in
+      record { answer = rw h (ap Some l.change); state = rw h l.state }
 
 -- ---- the pass
 
-turn_by : (b c : Bool) (x y x' : State) (p : Passed) (t : Turn) (k : ℕ) → t.skipped ≡ b → t.changed ≡ not t.skipped && c
-    → x' ≡ cond t.skipped x y → passed x' (tallied p t k)
+turn_by : (b c : Bool) (x y x' : State) (p : Passed) (t : Option Bool) (k : ℕ) → t ≡ cond b None (Some c) → x' ≡ cond b x y
+    → passed x' (tallied p t k)
     ≡ cond b (record { state = x; changed = p.changed; counts = more_saved k p.counts })
     (record { state = y; changed = p.changed || c; counts = more_made k p.counts })
-turn_by true c x y x' p t k e f g = rw (g, e)
-turn_by false c x y x' p t k e f g = rw (f, g, e)
+turn_by true c x y x' p t k e f = rw (f, e)
+turn_by false c x y x' p t k e f = rw (f, e)
 
 module _ (coords : List Float) (k d it : ℕ) (s : State) where
-  pub pass_turn : (n : ℕ) (x x' : State) (p p' : Passed) (t : Turn) → passed x p ≡ pass_up_to coords k d it s n
+  pub pass_turn : (n : ℕ) (x x' : State) (p p' : Passed) (t : Option Bool) → passed x p ≡ pass_up_to coords k d it s n
       → LeafPassed coords k d it n x x' t → p' ≡ tallied p t k → passed x' p' ≡ pass_up_to coords k d it s (n + 1)
   unfolding pass_up_to
   pass_turn n x x' p p' t e l f =
       let best = best_of coords k d x n in
       let g = turn_by (skips it (bounds_at x n)) (not (eqb (get_or x.labels n 0) best.index)) x (put_best k n best x) x' p t k
-      l.skip l.change l.state in
+      l.answer l.state in
       ap (passed x') f ∙ g ∙ rw (add-one, ← e)
 
   -- a pass over 4,096 leaves and 64 groups at most

@@ -1,6 +1,6 @@
 -- What a leaf's turn in a pass does and how it is counted, as the functions of the pass promise it. No definition of
 -- document 01 stands on this file.
-use Rattle.std.specs.Prelude.{◌≡◌, List, Bool, true, not, ◌&&◌, ◌||◌, cond, ℕ, get_or, Float, eqb, ltb}
+use Rattle.std.specs.Prelude.{◌≡◌, List, Bool, true, not, ◌||◌, cond, Option, None, Some, ℕ, get_or, Float, eqb, ltb}
 use Rattle.std.specs.Float.Ieee.{lt}
 use Rattle.float.specs.Arithmetic.{plus_zero}
 use Rattle.kmeans_bounds.specs.declared.Bounds.{Bounds}
@@ -9,7 +9,6 @@ use Rattle.kmeans_bounds.specs.Products.{NeverSkipped}
 use Rattle.kmeans_layout.specs.State.{State}
 use Rattle.kmeans_assign.specs.Pass.{Pass, bounds_at, best_of, put_best, more_made, more_saved}
 use Rattle.kmeans_assign.specs.declared.Passed.{Passed}
-use Rattle.kmeans_assign.specs.declared.Turn.{Turn}
 
 -- a leaf that no pass skips once its bounds are shifted, and whose new bounds come from its dots alone
 pub record Spent (k : ℕ) (own other : Float) (b : Bounds) : Type 0 where
@@ -22,19 +21,16 @@ pub record LeafPlaced (coords : List Float) (k d i : ℕ) (s s' : State) (change
   pub change : changed ≡ not (eqb (get_or s.labels i 0) (best_of coords k d s i).index)
   pub state : s' ≡ put_best k i (best_of coords k d s i) s
 
--- leaf i in a pass of round `it`: skipped, or given its best centre
-pub record LeafPassed (coords : List Float) (k d it i : ℕ) (s s' : State) (t : Turn) : Type 0 where
-  pub skip : t.skipped ≡ skips it (bounds_at s i)
-  pub change : t.changed ≡ not t.skipped && not (eqb (get_or s.labels i 0) (best_of coords k d s i).index)
-  pub state : s' ≡ cond t.skipped s (put_best k i (best_of coords k d s i) s)
+-- leaf i in a pass of round `it`: skipped (none), or given its best centre (whether that is another one than before)
+pub record LeafPassed (coords : List Float) (k d it i : ℕ) (s s' : State) (turn : Option Bool) : Type 0 where
+  pub answer : turn
+      ≡ cond (skips it (bounds_at s i)) None (Some (not (eqb (get_or s.labels i 0) (best_of coords k d s i).index)))
+  pub state : s' ≡ cond (skips it (bounds_at s i)) s (put_best k i (best_of coords k d s i) s)
 
--- a turn counted
-
-abbrev pub tallied : Passed → Turn → ℕ → Passed
-tallied p t k =
-    cond t.skipped
-    (record { changed = p.changed; counts = more_saved k p.counts })
-    (record { changed = p.changed || t.changed; counts = more_made k p.counts })
+-- a turn counted: what a skipped leaf saves, or what one that got its best centre made
+abbrev pub tallied : Passed → Option Bool → ℕ → Passed
+tallied p None k = record { changed = p.changed; counts = more_saved k p.counts }
+tallied p (Some changed) k = record { changed = p.changed || changed; counts = more_made k p.counts }
 
 -- the pass of the definition that a state and an answer make
 abbrev pub passed : State → Passed → Pass

@@ -113,14 +113,7 @@ fn place_leaf(
     changed
 }
 
-// What a leaf's turn in a pass answers.
-#[derive(Clone, Copy)]
-pub struct Turn {
-    pub skipped: bool,
-    pub changed: bool,
-}
-
-// Leaf i in a pass of round `it`: skipped, or given its best centre.
+// Leaf i in a pass of round `it`: skipped (`None`), or given its best centre (whether its label changes).
 fn assign_leaf(
     work: &mut [f64],
     work_u32: &mut [u32],
@@ -130,7 +123,7 @@ fn assign_leaf(
     m: usize,
     k: usize,
     d: usize,
-) -> Turn
+) -> Option<bool>
     requires sized { Sized (length work.old) (length work_u32.old) (length coords.now) m k d }
     requires leaf_of { LeafOf i m d }
     ensures { LeafPassed coords.now k d it i
@@ -139,15 +132,9 @@ fn assign_leaf(
 {
     let b = bounds_at(work, i, m, k, d);
     if kmeans_bounds::is_skipped(b, it) {
-        return Turn {
-            skipped: true,
-            changed: false,
-        };
+        return None;
     }
-    Turn {
-        skipped: false,
-        changed: place_leaf(work, work_u32, coords, i, m, k, d),
-    }
+    Some(place_leaf(work, work_u32, coords, i, m, k, d))
 }
 
 // Leaf i in a pass after the first round: its bounds are shifted by how far the centres turned, unless it gets new ones
@@ -162,7 +149,7 @@ fn turn_leaf(
     m: usize,
     k: usize,
     d: usize,
-) -> Turn
+) -> Option<bool>
     requires sized { Sized (length work.old) (length work_u32.old) (length coords.now) m k d }
     requires leaf_of { (LeafOf i m d) × (get_or work_u32.old i 0 < k) }
     ensures { LeafPassed coords.now k d it i
@@ -175,10 +162,7 @@ fn turn_leaf(
     let other = other_drift(t, label);
     let b = bounds_at(work, i, m, k, d);
     if is_spent(b, own, other, k) {
-        return Turn {
-            skipped: false,
-            changed: place_leaf(work, work_u32, coords, i, m, k, d),
-        };
+        return Some(place_leaf(work, work_u32, coords, i, m, k, d));
     }
     let s = kmeans_bounds::shifted(b, own, other, k > 1);
     put_bounds(work, i, s, m, k, d);
@@ -193,26 +177,26 @@ pub struct Passed {
 }
 
 // With one leaf more.
-fn tally(p: Passed, t: Turn, k: usize) -> Passed
+fn tally(p: Passed, turn: Option<bool>, k: usize) -> Passed
     requires { (AtMost of_round p.counts) × (k ≤ 64) }
-    ensures { result ≡ tallied p t k }
+    ensures { result ≡ tallied p turn k }
 {
     let c = p.counts;
     let n = k as u64;
-    if t.skipped {
-        return Passed {
+    match turn {
+        None => Passed {
             changed: p.changed,
             counts: counts::Counts {
                 made: c.made,
                 saved: c.saved + n,
             },
-        };
-    }
-    Passed {
-        changed: p.changed | t.changed,
-        counts: counts::Counts {
-            made: c.made + n,
-            saved: c.saved,
+        },
+        Some(changed) => Passed {
+            changed: p.changed | changed,
+            counts: counts::Counts {
+                made: c.made + n,
+                saved: c.saved,
+            },
         },
     }
 }
@@ -236,11 +220,9 @@ fn assign(
         changed: false,
         counts: counts::none(),
     };
-    let mut i = 0;
-    while i < m {
-        let t = assign_leaf(work, work_u32, coords, it, i, m, k, d);
-        p = tally(p, t, k);
-        i += 1;
+    for i in 0..m {
+        let turn = assign_leaf(work, work_u32, coords, it, i, m, k, d);
+        p = tally(p, turn, k);
     }
     p
 }
@@ -269,11 +251,9 @@ fn shift_and_assign(
         changed: false,
         counts: counts::none(),
     };
-    let mut i = 0;
-    while i < m {
+    for i in 0..m {
         let turn = turn_leaf(work, work_u32, coords, t, it, i, m, k, d);
         p = tally(p, turn, k);
-        i += 1;
     }
     p
 }

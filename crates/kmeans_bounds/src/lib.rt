@@ -84,10 +84,8 @@ pub fn two_smallest(drift: &[f64]) -> Slowest
         least: most,
         next: most,
     };
-    let mut c = 0;
-    while c < drift.len() {
-        s = slower(s, c, drift[c]);
-        c += 1;
+    for (c, &p) in drift.iter().enumerate() {
+        s = slower(s, c, p);
     }
     s
 }

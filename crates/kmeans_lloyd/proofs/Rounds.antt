@@ -1,8 +1,8 @@
--- The rounds over plain lists: what the calls of a round ensure is its round, a round that is made is one round of the
--- definition's run, and labels stay below k. By the way each test went, and by recursion on the rounds. Assumes nothing.
-use mathlib.Core.Path.{◌≡◌, refl, ap, sym, ◌∙◌}
+-- The rounds over plain lists: a round that is made is one round of the definition's run, and labels stay below k. By the way each test
+-- went, and by recursion on the rounds. Assumes nothing.
+use mathlib.Core.Path.{◌≡◌, ap, sym, ◌∙◌}
 use mathlib.Core.List.{List}
-use mathlib.Core.Bool.{true, false, true≢false}
+use mathlib.Core.Bool.{true, false}
 use Prim.Native.Nat.{ℕ, zero, suc, ◌+◌, ◌*◌, ◌≤◌, ◌<◌}
 use native.Mathlib.Omega.{arith}
 use lib.Ieee.{Float}
@@ -10,42 +10,15 @@ use Rattle.counts.specs.declared.Counts.{Counts}
 use Rattle.counts.specs.Counts.{plus_of, AtMost, of_round}
 use Rattle.counts.proofs.Sums.{at_most_more, at_most_plus}
 use Rattle.kmeans_layout.specs.State.{State}
-use Rattle.kmeans_assign.specs.Pass.{Pass, pass_of}
+use Rattle.kmeans_assign.specs.Pass.{pass_of}
 use Rattle.kmeans_update.specs.Update.{update_of}
 use Rattle.kmeans_lloyd.specs.Lloyd.{Run, ends_at, after_pass, after_update, rounds_from}
 use Rattle.kmeans_layout.specs.Areas.{Labelled}
-use Rattle.kmeans_lloyd.specs.Runs.{RoundBy, RoundDone, RunSoFar}
-use Rattle.kmeans_assign.specs.Turns.{passed}
-use Rattle.kmeans_assign.specs.declared.Passed.{Passed}
+use Rattle.kmeans_lloyd.specs.Runs.{RoundDone, RunSoFar}
 use Rattle.kmeans_lloyd.specs.declared.Round.{Round}
 use Rattle.kmeans_assign.proofs.Cases.{either}
 use Rattle.kmeans_assign.proofs.Passes.{labelled_of_pass}
 use Rattle.kmeans_update.proofs.Whole.{labelled_of_update}
-
--- ---- a round, by its pass p
-module _ (weights coords : List Float) (m k d it : ℕ) (p : Pass) (x : State) (q : Passed) (is : passed x q ≡ p)
-    (few : AtMost of_round q.counts) where
-  pub round_ended : ends_at it (passed x q) ≡ true
-      → RoundBy weights coords m k d it p x (record { ended = true; counts = q.counts })
-  round_ended t =
-      rw (← is) (record {
-        ended = sym t;
-        counts = refl;
-        last = λ e. refl;
-        state = λ e. absurd (true≢false e);
-        small = few;
-      })
-
-  pub round_settled : (x' : State) → ends_at it (passed x q) ≡ false → x' ≡ (update_of weights coords m k d x).state
-      → RoundBy weights coords m k d it p x' (record { ended = false; counts = q.counts })
-  round_settled x' t g =
-      rw (← is) (record {
-        ended = sym t;
-        counts = refl;
-        last = λ e. absurd (true≢false (sym e));
-        state = λ e. g;
-        small = few;
-      })
 
 -- a run with one round more, n doubled by then
 abbrev counted : Run → State → Round → ℕ → Run

@@ -69,14 +69,12 @@ fn lloyd(
         (state_in m k d work.new work_u32.new) result }
 {
     let mut c = counts::none();
-    let mut it = 0;
-    while it < rounds {
+    for it in 0..rounds {
         let r = one_round(work, work_u32, weights, coords, it, m, k, d);
         c = counts::plus(c, r.counts);
         if r.ended {
             break;
         }
-        it += 1;
     }
     c
 }

@@ -124,10 +124,8 @@ pub fn run_all(
         held,
         generator: first.generator,
     };
-    let mut t = 1;
-    while t < restarts {
+    for _ in 1..restarts {
         h = restart(work, work_u32, weights, coords, h, m, k, d, rounds);
-        t += 1;
     }
     h
 }

@@ -88,10 +88,8 @@ fn put_chances(work: &mut [f64], weights: &[f64], m: usize, k: usize, d: usize)
 {
     let low = kmeans_layout::low_at(m, k, d);
     let high = kmeans_layout::high_at(m, k, d);
-    let mut i = 0;
-    while i < m {
+    for i in 0..m {
         work[high + i] = weights[i] * work[low + i];
-        i += 1;
     }
 }
 
@@ -153,10 +151,8 @@ pub fn seed(
     seed_center(work, coords, 0, i, m, k, d);
     first_distances(work, coords, m, k, d);
     let mut g = p.generator;
-    let mut c = 1;
-    while c < k {
+    for c in 1..k {
         g = seed_next(work, weights, coords, g, c, m, k, d);
-        c += 1;
     }
     g
 }

@@ -51,10 +51,8 @@ pub fn accumulate(
     let kd = k * d;
     kmeans_layout::fill_at(work, kd, kd, 0.0);
     rows::fill(&mut work_u32[m..m + k], 0);
-    let mut i = 0;
-    while i < m {
+    for i in 0..m {
         gain(work, work_u32, weights, coords, i, m, k, d);
-        i += 1;
     }
 }
 
@@ -65,11 +63,9 @@ fn add_norms(work: &[f64], m: usize, k: usize, d: usize) -> f64
 {
     let kd = k * d;
     let mut total = 0.0;
-    let mut c = 0;
-    while c < k {
+    for c in 0..k {
         let at = kd + c * d;
         total = total + vector::norm(&work[at..at + d]);
-        c += 1;
     }
     total
 }

@@ -3,26 +3,34 @@
 use mathlib.Core.Path.{◌≡◌, refl, ap, ◌∙◌}
 use mathlib.Core.List.{List, ◌++◌}
 use mathlib.Core.Bool.{Bool, ◌||◌}
-use Prim.Native.Nat.{ℕ, zero, suc, ◌+◌, ◌*◌, ◌-◌, ◌<◌}
+use Prim.Native.Nat.{ℕ, zero, suc, ◌+◌, ◌*◌, ◌-◌, ◌<◌, ◌≤◌}
 use native.Mathlib.Numerals.{add-one}
 use native.Mathlib.Omega.{arith}
 use lib.Dec.{eqb}
-use lib.ListN.{length, get_or, drop, set, length-append}
+use lib.ListN.{length, get_or, take, drop, set, length-append}
 use lib.Ieee.{Float, nan}
+use lib.Seq.{take-length}
+use Rattle.std.specs.List.{list_any}
+use Rattle.std.proofs.lemmas.List.Folds.{list_any_more}
 use Rattle.rows.specs.Rows.{part, row_of}
 use Rattle.rows.proofs.Fills.{front_turn, front_end}
 use Rattle.vector.specs.Vectors.{dot_of}
 use Rattle.kmeans_layout.specs.State.{State}
 use Rattle.kmeans_update.specs.Update.{empty_up_to, served_up_to, put_served}
-use Rattle.kmeans_layout.specs.Areas.{state_in, counts_in, served_at}
+use Rattle.kmeans_layout.specs.Areas.{state_in, served_at}
 use Rattle.kmeans_update.specs.Groups.{serve_leaf, serve_leaves}
-use Rattle.kmeans_layout.proofs.Regions.{set_served, get_counts, get_labels, row_centers}
+use Rattle.kmeans_layout.proofs.Regions.{set_served, get_labels, row_centers}
 
--- one group more
-pub empty_turn : (m k : ℕ) (u : List ℕ) (c : ℕ) (b : Bool) → c < k → b ≡ empty_up_to (counts_in m k u) c
-    → (b || eqb (get_or u (m + c) 0) 0) ≡ empty_up_to (counts_in m k u) (c + 1)
+-- whether a count is 0, of the first c and of all
+empty_first : (counts : List ℕ) (c : ℕ) → c ≤ length counts → list_any (λ y. eqb y 0) (take c counts) ≡ empty_up_to counts c
 unfolding empty_up_to
-empty_turn m k u c b h e = rw (add-one, e, get_counts m k u c 0 h)
+empty_first counts zero h = refl
+empty_first counts (suc c) h =
+    rw (← add-one) (list_any_more (λ y. eqb y 0) counts c 0 (omega arith))
+    ∙ ap (λ (b : Bool). b || eqb (get_or counts c 0) 0) (empty_first counts c (omega arith))
+
+pub empty_any : (counts : List ℕ) (k : ℕ) → length counts ≡ k → list_any (λ y. eqb y 0) counts ≡ empty_up_to counts k
+empty_any counts k e = rw (← e) (rw (take-length counts) at (empty_first counts (length counts) (omega arith)))
 
 -- a leaf served by the centre of its label
 pub serve_done : (coords : List Float) (i m k d : ℕ) (w : List Float) (u : List ℕ) (served : ℕ) (v : Float) → served ≡ served_at m k d

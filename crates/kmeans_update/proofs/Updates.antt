@@ -1,15 +1,13 @@
 -- The update over plain lists: what the stores of each of its functions do to the state and the sums, by the laws of the regions, and that
 -- group after group they make what the definition says. Assumes nothing.
-use mathlib.Core.Path.{◌≡◌, refl, ap, sym, ◌∙◌}
+use mathlib.Core.Path.{◌≡◌, refl, ap, ◌∙◌}
 use mathlib.Core.List.{List}
 use mathlib.Core.Bool.{Bool, true, false, cond}
 use Prim.Native.Nat.{ℕ, zero, suc, ◌+◌, ◌*◌, ◌-◌, ◌≤◌, ◌<◌}
 use native.Mathlib.Omega.{arith}
 use native.Mathlib.Numerals.{add-one}
 use lib.Dec.{eqb}
-use lib.ListN.{length, get_or, take, drop, set, length-set, length-append, length-drop}
-use lib.Seq.{length-take-le}
-use borrow.Author.Tests.{eq-eqb, ne_eqb}
+use lib.ListN.{length, get_or, take, drop, set, length-set}
 use lib.Ieee.{Float, lt}
 use Rattle.float.specs.Arithmetic.{plus_zero}
 use Rattle.rows.specs.Rows.{part, put_part, row_of}
@@ -26,7 +24,7 @@ use Rattle.kmeans_layout.specs.Areas.{state_in, sums_in, counts_in, total, sums_
 use Rattle.kmeans_update.specs.Groups.{LaterRows, keep_center}
 use Rattle.kmeans_layout.proofs.Regions.{with_centers, with_drift, set_drift, set_drift_sums, row_centers, row_sums, put_row_centers}
 use Rattle.kmeans_layout.proofs.Regions.{put_row_centers_sums}
-use Rattle.kmeans_layout.proofs.Regions.{put_row_sums, put_row_sums_state, length_sums, served_are, set_served, set_served_sums, get_counts}
+use Rattle.kmeans_layout.proofs.Regions.{put_row_sums, put_row_sums_state, length_sums, served_are, set_served, set_served_sums}
 use Rattle.kmeans_layout.proofs.Sizes.{leaf_of}
 
 -- what stands after a part that was replaced
@@ -117,13 +115,6 @@ module _ (m k d : ℕ) (w : List Float) (c : ℕ) (r : List Float) (group : Grou
       → (u : List ℕ) → state_in m k d w' u ≡ move_center d c r (state_in m k d w u)
   moved_row w' e u = e u ∙ rw (written_row, written_state u)
 
-  pub length_written : length written ≡ length w
-  length_written =
-      let at = k * d + c * d in
-      let f : at + d - at ≡ d = omega arith in
-      let g : length (drop d (drop at w)) ≡ length w - at - d = length-drop d (drop at w) ∙ rw length-drop in
-      rw (f, length-append, length-append, length-take-le at w (omega (arith, group.row)), full, g) (omega (arith, group.row))
-
 -- centre c by its sum, where the sum's norm is above 0 and where not
 module _ (m k d : ℕ) (w : List Float) (c : ℕ) (group : GroupOf c k d) (long : total m k d ≤ length w) where
   abbrev lent : List Float
@@ -197,25 +188,6 @@ module _ (m k d : ℕ) (coords w : List Float) (c worst : ℕ) (r w' : List Floa
   pub reseed_later : sums_in k d w' ≡ sums_in k d marked → LaterRows c k d w w'
   reseed_later e = later_of m k d w c r group long full w' (e ∙ marked_sums)
 
--- group c by the test of its count
-module _ (coords : List Float) (c m k d : ℕ) (w : List Float) (u : List ℕ) (s' : State) (below : c < k) where
-  abbrev state : State
-  state = state_in m k d w u
-
-  abbrev by : Bool → State
-  by empty =
-      (cond empty (reseed_from coords d c (argmin_of state.served) (fresh_update state))
-      (recenter d (sums_in k d w) c (fresh_update state))).state
-
-  abbrev updated : State
-  updated = (update_group coords d (sums_in k d w) (counts_in m k u) c (fresh_update state)).state
-
-  pub group_empty : get_or u (m + c) 0 ≡ 0 → s' ≡ reseeded coords d c (argmin_of state.served) state → s' ≡ updated
-  group_empty e g = g ∙ sym (ap by (eq-eqb (get_or (counts_in m k u) c 0) 0 (sym (get_counts m k u c 0 below) ∙ e)))
-
-  pub group_full : (get_or u (m + c) 0 ≡ 0 → ⊥) → s' ≡ recentered d (sums_in k d w) c state → s' ≡ updated
-  group_full n g = g ∙ sym (ap by (ne_eqb (get_or (counts_in m k u) c 0) 0 (λ e. n (get_counts m k u c 0 below ∙ e))))
-
 -- the areas after c groups: the definition's state, and the sums of the groups to come
 pub record UpdatedTo (coords : List Float) (m k d : ℕ) (w₀ w : List Float) (u : List ℕ) (c : ℕ) : Type 0 where
   pub state : state_in m k d w u ≡ (update_up_to coords d (sums_in k d w₀) (counts_in m k u) (state_in m k d w₀ u) c).state
@@ -252,9 +224,6 @@ module _ (coords : List Float) (m k d : ℕ) (w₀ w : List Float) (u : List ℕ
             (done.rows c (omega arith) below));
         rows = λ j h l. later j (omega arith) l ∙ done.rows j (omega arith) l;
       }
-
-  pub groups_end : c ≡ k → state_in m k d w u ≡ (up_to k).state
-  groups_end e = done.state ∙ ap (λ (n : ℕ). (up_to n).state) e
 
 -- the labels stay
 pub update_labels : (coords : List Float) (d : ℕ) (sums : List Float) (counts : List ℕ) (s : State) (c : ℕ)

@@ -19,13 +19,7 @@ fn has_empty(work_u32: &[u32], m: usize, k: usize) -> bool
     requires { (m ≤ 4096) × (k ≤ 64) × (m + k ≤ length work_u32.now) }
     ensures { result ≡ empty_up_to (counts_in m k work_u32.now) k }
 {
-    let mut found = false;
-    let mut c = 0;
-    while c < k {
-        found = found | (work_u32[m + c] == 0);
-        c += 1;
-    }
-    found
+    work_u32[m..m + k].contains(&0)
 }
 
 // Leaf i is served as well as the centre of its label serves it.
@@ -61,10 +55,8 @@ fn refresh(work: &mut [f64], work_u32: &[u32], coords: &[f64], m: usize, k: usiz
         ≡ serve_leaves coords.now d m (state_in m k d work.old work_u32.now) }
     ensures work_unchanged { sums_in k d work.new ≡ sums_in k d work.old }
 {
-    let mut i = 0;
-    while i < m {
+    for i in 0..m {
         refresh_leaf(work, work_u32, coords, i, m, k, d);
-        i += 1;
     }
 }
 
@@ -181,10 +173,8 @@ fn update_groups(work: &mut [f64], work_u32: &[u32], coords: &[f64], m: usize, k
         ≡ (update_up_to coords.now d (sums_in k d work.old) (counts_in m k work_u32.now)
         (state_in m k d work.old work_u32.now) k).state }
 {
-    let mut c = 0;
-    while c < k {
+    for c in 0..k {
         update_group(work, work_u32, coords, c, m, k, d);
-        c += 1;
     }
 }
 

@@ -1,19 +1,12 @@
--- `kmeans_assign::assign` meets its contract. The invariant: state and answer are the definition's pass over the leaves before i.
--- The measure is what is left of the leaves. Assumes nothing.
+-- `kmeans_assign::assign` meets its contract. The invariant: state and answer are the definition's pass over the leaves before i. Assumes
+-- nothing.
 use mathlib.Core.Path.{◌≡◌}
-use Prim.Native.Nat.{◌≤◌, ◌-◌}
-use lib.ListN.{length}
 use Rattle.kmeans_assign.specs.Pass.{pass_up_to}
 use Rattle.kmeans_assign.specs.Turns.{passed}
-use Rattle.kmeans_layout.specs.Areas.{Sized, state_in}
+use Rattle.kmeans_layout.specs.Areas.{state_in}
 use Rattle.kmeans_assign.proofs.assign.Given as goal
 
 abbrev pub invariant-loop-i : goal.invariant-loop-i
 invariant-loop-i l =
-    (l.i ≤ l.m) × Sized (length l.work) (length l.work_u32) (length l.coords) l.m l.k l.d
-    × (passed (state_in l.m l.k l.d l.work l.work_u32) l.p
-    ≡ pass_up_to l.coords l.k l.d l.it (state_in l.m l.k l.d l.initial.work l.initial.work_u32) l.i)
-    × (length l.work ≡ length l.initial.work) × (length l.work_u32 ≡ length l.initial.work_u32)
-
-abbrev pub decreases-loop-i : goal.decreases-loop-i
-decreases-loop-i l = l.m - l.i
+    passed (state_in l.m l.k l.d l.work l.work_u32) l.p
+    ≡ pass_up_to l.coords l.k l.d l.it (state_in l.m l.k l.d l.initial.work l.initial.work_u32) l.i

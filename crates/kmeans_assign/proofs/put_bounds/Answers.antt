@@ -1,14 +1,6 @@
 -- `kmeans_assign::put_bounds` meets its contract: the two stores are stores in the state's fields. Assumes nothing.
-use native.Mathlib.Omega.{arith}
-use lib.ListN.{length-set}
 use Rattle.kmeans_assign.proofs.Leaves.{put_bounds_done}
 use Rattle.kmeans_assign.proofs.put_bounds.Goals as goal
-
-pub bounds-work-high : goal.bounds-work-high
-bounds-work-high c = simp length-set (omega arith)
-
-pub shape_of-work : goal.shape_of-work
-shape_of-work c = simp length-set
 
 pub returns : goal.returns
 returns c u =

@@ -1,13 +1,12 @@
 -- `kmeans_assign::turn_leaf` meets its contract: the leaf's two ways, by whether it is given new bounds anyway. Assumes nothing.
-use mathlib.Core.Path.{◌≡◌, refl, subst}
+use mathlib.Core.Path.{◌≡◌, subst}
 use Prim.Native.Nat.{◌+◌}
-use lib.ListN.{length, get_or}
+use lib.ListN.{get_or}
 use lib.Ieee.{nan}
 use Rattle.kmeans_layout.specs.State.{State}
 use Rattle.kmeans_assign.specs.Pass.{shift_leaf}
 use Rattle.kmeans_layout.specs.Areas.{state_in}
 use Rattle.kmeans_assign.specs.Turns.{LeafPassed}
-use Rattle.kmeans_layout.proofs.Sizes.{sized_of}
 use Rattle.kmeans_assign.proofs.Leaves.{own_drift}
 use Rattle.kmeans_assign.proofs.Passes.{shift_done}
 use Rattle.kmeans_assign.proofs.Fused.{leaf_anew}
@@ -30,13 +29,6 @@ returns-then-is_spent c =
     c.requires.sized.work_long c.requires.leaf_of.0.below (own_at (goal.at.returns-then-is_spent c).After-drift_at-drift)
     c.other_drift-other.ensures (c.bounds_at-b.ensures a.work_u32.now) (c.is_spent.ensures c.if-is_spent.true)
     c.place_leaf.ensures
-
-pub assign_leaf-requires : goal.assign_leaf-requires
-assign_leaf-requires c =
-    let a = c.args in record {
-      sized = sized_of _ _ _ _ (length a.coords.now) a.m a.k a.d c.put_bounds.auto.work refl c.requires.sized;
-      leaf_of = c.requires.leaf_of.0;
-    }
 
 pub returns : goal.returns
 returns c =

@@ -7,16 +7,7 @@ use Rattle.kmeans_layout.specs.Areas.{state_in}
 use Rattle.kmeans_layout.proofs.Sizes.{sized_of}
 use Rattle.kmeans_layout.proofs.Sizes.{labelled_of}
 use Rattle.kmeans_assign.proofs.Passes.{labelled_of_pass}
-use Rattle.kmeans_lloyd.proofs.Rounds.{round_ended, round_settled}
 use Rattle.kmeans_lloyd.proofs.one_round.Goals as goal
-
-pub returns-then-p-it : goal.returns-then-p-it
-returns-then-p-it c =
-    let a = c.args in
-    let s = state_in a.m a.k a.d a.work.now a.work_u32.now in
-    let x = state_in a.m a.k a.d c.pass-p.new.work c.pass-p.new.work_u32 in
-    round_ended a.weights.now a.coords.now a.m a.k a.d a.it (pass_of a.coords.now a.m a.k a.d a.it s) x
-    c.pass-p.result c.pass-p.ensures.result_after c.pass-p.ensures.at_most c.if-p-it.true
 
 pub update-requires : goal.update-requires
 update-requires c =
@@ -31,13 +22,3 @@ update-requires c =
             (labelled_of_pass a.m a.k s a.coords.now a.d a.it c.requires.sized.sizes.k_some c.requires.weights_len.1),
       );
     }
-
-pub returns : goal.returns
-returns c =
-    let a = c.args in
-    let s = state_in a.m a.k a.d a.work.now a.work_u32.now in
-    let x = state_in a.m a.k a.d c.pass-p.new.work c.pass-p.new.work_u32 in
-    let x' = state_in a.m a.k a.d c.update.new.work c.update.new.work_u32 in
-    round_settled a.weights.now a.coords.now a.m a.k a.d a.it (pass_of a.coords.now a.m a.k a.d a.it s) x
-    c.pass-p.result c.pass-p.ensures.result_after
-    c.pass-p.ensures.at_most x' c.if-p-it.false c.update.ensures

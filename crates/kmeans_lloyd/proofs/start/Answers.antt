@@ -1,16 +1,10 @@
 -- `kmeans_lloyd::start` meets its contract: each region but the centres is written as a whole, and the literals compute to the
 -- infinities. Assumes nothing.
-use mathlib.Core.Path.{refl, sym, ◌∙◌}
-use native.Mathlib.Omega.{arith}
-use lib.Seq.{length-take-le}
+use mathlib.Core.Path.{refl, ◌∙◌}
 use lib.Ieee.{div, neg, of_bits, of_int}
 use Rattle.rows.specs.Rows.{put_part}
 use Rattle.kmeans_lloyd.proofs.Starts.{start_done}
 use Rattle.kmeans_lloyd.proofs.start.Goals as goal
-
-pub slice_bounds-fill-end-2 : goal.slice_bounds-fill-end-2
-slice_bounds-fill-end-2 c =
-    sym (length-take-le c.args.m c.args.work_u32.now (omega (arith, c.requires.work_u32_long)))
 
 pub returns : goal.returns
 unfolding div neg of_bits of_int
@@ -40,6 +34,3 @@ returns c =
     c.fill_at-4.ensures
     c.fill.ensures
     refl
-
-pub slice_bounds-fill-end : goal.slice_bounds-fill-end
-slice_bounds-fill-end c = omega (arith, c.requires.work_u32_long)

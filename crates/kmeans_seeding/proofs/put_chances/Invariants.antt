@@ -2,16 +2,11 @@
 -- they were. Assumes nothing.
 use mathlib.Core.Path.{◌≡◌}
 use mathlib.Core.List.{List}
-use Prim.Native.Nat.{ℕ, ◌≤◌, ◌-◌}
-use lib.ListN.{length}
+use Prim.Native.Nat.{ℕ}
 use Rattle.kmeans_layout.specs.Areas.{state_in}
 use Rattle.kmeans_seeding.proofs.Seeds.{chancing}
 use Rattle.kmeans_seeding.proofs.put_chances.Given as goal
 
 abbrev pub invariant-loop-i : goal.invariant-loop-i
 invariant-loop-i l =
-    (l.i ≤ l.m) × (length l.work ≡ length l.initial.work)
-    × ((u : List ℕ) → state_in l.m l.k l.d l.work u ≡ chancing l.weights l.i (state_in l.m l.k l.d l.initial.work u))
-
-abbrev pub decreases-loop-i : goal.decreases-loop-i
-decreases-loop-i l = l.m - l.i
+    (u : List ℕ) → state_in l.m l.k l.d l.work u ≡ chancing l.weights l.i (state_in l.m l.k l.d l.initial.work u)

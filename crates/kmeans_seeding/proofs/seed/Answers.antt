@@ -1,12 +1,12 @@
 -- `kmeans_seeding::seed` meets its contract.
-use mathlib.Core.Path.{refl, ◌∙◌}
+use mathlib.Core.Path.{refl}
 use Prim.Native.Nat.{◌≤◌}
 use native.Mathlib.Omega.{arith}
 use lib.ListN.{length}
 use Rattle.kmeans_layout.specs.Areas.{state_in, total}
 use Rattle.kmeans_layout.proofs.Regions.{length_centers, length_low}
 use Rattle.kmeans_layout.proofs.Sizes.{leaf_of, group_of}
-use Rattle.kmeans_seeding.proofs.Seeds.{seeding_kept, seeding_area, first_below, held_first, held_turn, held_end}
+use Rattle.kmeans_seeding.proofs.Seeds.{seeding_area, first_below, held_first, held_turn, held_end}
 use Rattle.kmeans_seeding.proofs.seed.Goals as goal
 
 pub seed_center-requires : goal.seed_center-requires
@@ -34,62 +34,41 @@ first_distances-requires c =
 pub loop-c-init : goal.loop-c-init
 loop-c-init c =
     let a = c.args in
-    let s = c.requires in (
-      omega arith,
-      s.sizes.k_some,
-      refl,
-      λ u. held_first a.weights.now a.coords.now a.m a.k a.d a.generator s.sizes.m_some s.weights_long
-          s.coords_long c.weighted_pick-p.result
-          (state_in a.m a.k a.d a.work.now u)
-          (state_in a.m a.k a.d c.seed_center.new.work u)
-          (state_in a.m a.k a.d c.first_distances.new.work u)
-          (length_centers a.m a.k a.d a.work.now u s.work_long)
-          c.weighted_pick-p.ensures
-          (c.seed_center.ensures u)
-          (c.first_distances.ensures u),
-    )
-
-pub seed_next-g-requires : goal.seed_next-g-requires
-seed_next-g-requires c =
-    let l = c.loop-c in
-    let a = c.args in
-    let long = l.invariant.2 ∙ c.first_distances.auto.work ∙ c.seed_center.auto.work in record {
-      seeding = seeding_kept (length a.work.now) (length l.work) (length a.weights.now) (length a.coords.now) a.m a.k
-          a.d long c.requires;
-      group_of = group_of l.c a.k a.d (omega arith);
-    }
+    let s = c.requires in
+    λ u. held_first a.weights.now a.coords.now a.m a.k a.d a.generator s.sizes.m_some s.weights_long
+    s.coords_long c.weighted_pick-p.result
+    (state_in a.m a.k a.d a.work.now u)
+    (state_in a.m a.k a.d c.seed_center.new.work u)
+    (state_in a.m a.k a.d c.first_distances.new.work u)
+    (length_centers a.m a.k a.d a.work.now u s.work_long)
+    c.weighted_pick-p.ensures
+    (c.seed_center.ensures u)
+    (c.first_distances.ensures u)
 
 pub loop-c-preserved : goal.loop-c-preserved
 loop-c-preserved c =
     let l = c.loop-c in
     let a = c.args in
     let s = c.requires in
-    let same = l.invariant.2 ∙ c.first_distances.auto.work ∙ c.seed_center.auto.work in
-    let long : total a.m a.k a.d ≤ length l.work = omega (arith, s.work_long, same) in (
-      omega arith,
-      omega arith,
-      c.seed_next-g.auto.work ∙ l.invariant.2,
-      λ u. held_turn a.weights.now a.coords.now a.m a.k a.d a.generator s.sizes.m_some s.weights_long
-          s.coords_long l.c l.g c.seed_next-g.result
-          (state_in a.m a.k a.d l.work u)
-          (state_in a.m a.k a.d c.seed_next-g.new.work u)
-          l.invariant.0
-          (omega arith)
-          (length_centers a.m a.k a.d l.work u long)
-          (length_low a.m a.k a.d l.work u long)
-          (l.invariant.3 u)
-          (c.seed_next-g.ensures u),
-    )
+    let long : total a.m a.k a.d ≤ length l.work = omega arith in
+    λ u. held_turn a.weights.now a.coords.now a.m a.k a.d a.generator s.sizes.m_some s.weights_long
+    s.coords_long l.c l.g c.seed_next-g.result
+    (state_in a.m a.k a.d l.work u)
+    (state_in a.m a.k a.d c.seed_next-g.new.work u)
+    (omega arith)
+    (omega arith)
+    (length_centers a.m a.k a.d l.work u long)
+    (length_low a.m a.k a.d l.work u long)
+    (l.invariant u)
+    (c.seed_next-g.ensures u)
 
 pub returns : goal.returns
 returns c =
     let l = c.loop-c in
     let a = c.args in
-    let s = c.requires in
-    let same = l.invariant.2 ∙ c.first_distances.auto.work ∙ c.seed_center.auto.work in
-    let long : total a.m a.k a.d ≤ length l.work = omega (arith, s.work_long, same) in
+    let long : total a.m a.k a.d ≤ length l.work = omega arith in
     λ u. held_end a.weights.now a.coords.now a.m a.k a.d a.generator l.c l.g
     (state_in a.m a.k a.d l.work u)
     (omega arith)
     (length_centers a.m a.k a.d l.work u long)
-    (l.invariant.3 u)
+    (l.invariant u)

@@ -1,14 +1,11 @@
 -- `kmeans_sums::accumulate` meets its contract.
-use mathlib.Core.Path.{refl, ◌∙◌}
 use Prim.Native.Nat.{◌+◌, ◌-◌}
 use native.Mathlib.Omega.{arith}
 use lib.ListN.{length}
 use lib.Ieee.{of_bits}
 use Rattle.rows.specs.Rows.{put_part}
 use Rattle.kmeans_layout.specs.Areas.{state_in}
-use Rattle.kmeans_layout.proofs.Sizes.{sized_of}
 use Rattle.kmeans_sums.proofs.Sums.{Gathered, cleared, gathered_own, gains_of, gather_turn, gather_end}
-use borrow.Author.Rules.{rules}
 use Rattle.kmeans_sums.proofs.accumulate.Goals.{After-fill}
 use Rattle.kmeans_sums.proofs.accumulate.Goals as goal
 
@@ -24,42 +21,26 @@ cleared_at f =
 
 pub loop-i-init : goal.loop-i-init
 loop-i-init c =
-    let a = c.args in (
-      omega arith,
-      sized_of _ _ _ _ (length a.coords.now) a.m a.k a.d (search rules) (search rules) c.requires.sized,
-      gathered_own a.weights.now a.coords.now a.m a.k a.d _ 0 _ _ (cleared_at (goal.at.loop-i-init c).After-fill),
-      refl,
-      refl,
-    )
+    let a = c.args in
+    gathered_own a.weights.now a.coords.now a.m a.k a.d _ 0 _ _ (cleared_at (goal.at.loop-i-init c).After-fill)
 
-pub gain-requires : goal.gain-requires
-gain-requires c =
+pub gain-requires-clause-gains : goal.gain-requires-clause-gains
+gain-requires-clause-gains c =
     let l = c.loop-i in
-    let a = c.args in record {
-      sized = l.invariant.1;
-      gains = gains_of a.weights.now a.coords.now a.m a.k a.d _ l.i l.work l.work_u32 l.invariant.2
-          (state_in a.m a.k a.d a.work.now a.work_u32.now) (cleared_at (goal.at.gain-requires c).After-fill).state c.requires.weights_len.1
-          c.loop-i-test.true c.requires.sized.sizes.m_small c.requires.weights_len.0;
-    }
+    let a = c.args in
+    gains_of a.weights.now a.coords.now a.m a.k a.d _ l.i l.work l.work_u32 l.invariant
+    (state_in a.m a.k a.d a.work.now a.work_u32.now) (cleared_at (goal.at.gain-requires-clause-gains c).After-fill).state
+    c.requires.weights_len.1 c.loop-i-test.true c.requires.sized.sizes.m_small c.requires.weights_len.0
 
 pub loop-i-preserved : goal.loop-i-preserved
 loop-i-preserved c =
     let l = c.loop-i in
     let a = c.args in
-    let ew = c.gain.auto.work in
-    let eu = c.gain.auto.work_u32 in (
-      omega (arith, c.loop-i-test.true),
-      sized_of _ _ _ _ (length a.coords.now) a.m a.k a.d ew eu l.invariant.1,
-      gather_turn a.weights.now a.coords.now a.m a.k a.d _ l.i l.work l.work_u32 l.invariant.2 _ _
-          c.gain.ensures,
-      ew ∙ l.invariant.3,
-      eu ∙ l.invariant.4,
-    )
+    gather_turn a.weights.now a.coords.now a.m a.k a.d _ l.i l.work l.work_u32 l.invariant _ _ c.gain.ensures
 
 pub returns : goal.returns
 returns c =
     let l = c.loop-i in
     let a = c.args in
-    gather_end a.weights.now a.coords.now a.m a.k a.d _ l.i l.work l.work_u32 l.invariant.2 a.work.now
-    a.work_u32.now (cleared_at (goal.at.returns c).After-fill).state
-    (omega (arith, c.loop-i-test.false))
+    gather_end a.weights.now a.coords.now a.m a.k a.d _ l.i l.work l.work_u32 l.invariant a.work.now a.work_u32.now
+    (cleared_at (goal.at.returns c).After-fill).state (omega arith)

@@ -1,13 +1,9 @@
 -- add_norms adds the norms of the rows of the sums: after c turns total is the sum of the first c. Assumes nothing.
 use mathlib.Core.Path.{◌≡◌}
-use Prim.Native.Nat.{◌-◌, ◌≤◌}
 use Rattle.float.specs.Arithmetic.{plus_zero, sum_from}
 use Rattle.kmeans_sums.specs.Sums.{norms_up_to}
 use Rattle.kmeans_layout.specs.Areas.{sums_in}
 use Rattle.kmeans_sums.proofs.add_norms.Given as goal
 
 abbrev pub invariant-loop-c : goal.invariant-loop-c
-invariant-loop-c l = (l.c ≤ l.k) × (l.total ≡ sum_from plus_zero (norms_up_to (sums_in l.k l.d l.work) l.d l.c))
-
-abbrev pub decreases-loop-c : goal.decreases-loop-c
-decreases-loop-c l = l.k - l.c
+invariant-loop-c l = l.total ≡ sum_from plus_zero (norms_up_to (sums_in l.k l.d l.work) l.d l.c)

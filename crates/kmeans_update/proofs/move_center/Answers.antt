@@ -1,19 +1,8 @@
 -- `kmeans_update::move_center` meets its contract, by what `turned` and `copy_within` ensure: each promise is a law over plain lists.
 -- Assumes nothing.
-use native.Mathlib.Omega.{arith}
-use lib.ListN.{length-set}
 use lib.Ieee.{of_bits, of_int}
 use Rattle.kmeans_update.proofs.Updates.{move_done, move_sums}
 use Rattle.kmeans_update.proofs.move_center.Goals as goal
-
-pub copy_within-requires : goal.copy_within-requires
-copy_within-requires c = record {
-  order = omega (arith, c.requires.group_of.row);
-  within = simp length-set (omega (arith, c.requires.area.work_long, c.requires.group_of.row));
-}
-
-pub shape_of-work : goal.shape_of-work
-shape_of-work c = simp length-set at c.copy_within.auto.w
 
 pub returns : goal.returns
 unfolding of_bits of_int
