@@ -27,10 +27,8 @@ fn greatest(row: &[f64]) -> f64
     ensures { result ≡ greatest_from (inf true) row.now }
 {
     let mut g = -1.0 / 0.0;
-    let mut j = 0;
-    while j < row.len() {
-        g = greater(g, row[j]);
-        j += 1;
+    for x in row {
+        g = greater(g, *x);
     }
     g
 }
@@ -40,10 +38,8 @@ fn less(e: &mut [f64], row: &[f64], g: f64)
     requires { Alike e.old row.now }
     ensures { e.new ≡ less_by g row.now }
 {
-    let mut j = 0;
-    while j < row.len() {
-        e[j] = row[j] - g;
-        j += 1;
+    for (j, x) in row.iter().enumerate() {
+        e[j] = x - g;
     }
 }
 
@@ -105,11 +101,9 @@ fn less_greatests(e: &mut [f64], rows: &[f64], m: usize, k: usize)
     requires { Beside (length e.old) (length rows.now) m k }
     ensures { e.new ≡ from_greatests k rows.now m ++ drop (m * k) e.old }
 {
-    let mut i = 0;
-    while i < m {
+    for i in 0..m {
         let at = i * k;
         less_greatest(&mut e[at..at + k], &rows[at..at + k]);
-        i += 1;
     }
 }
 
@@ -144,11 +138,8 @@ fn less_log_sums(e: &mut [f64], rows: &[f64], weights: &[f64], k: usize, l: f64)
 {
     let m = weights.len();
     let mut s = l;
-    let mut left = m;
-    while left > 0 {
-        let i = m - left;
+    for i in 0..m {
         s = s + weights[i] * leaf_log_sum(e, rows, i, m, k);
-        left -= 1;
     }
     s
 }

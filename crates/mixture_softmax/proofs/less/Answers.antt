@@ -6,13 +6,13 @@ use Rattle.mixture_softmax.proofs.Softmax.{less_turn, less_end}
 use Rattle.mixture_softmax.proofs.less.Goals as goal
 
 pub loop-j-init : goal.loop-j-init
-loop-j-init c = (c.requires.same, omega arith, refl)
+loop-j-init c = (c.requires.same, refl)
 
 pub loop-j-preserved : goal.loop-j-preserved
 loop-j-preserved c =
     let l = c.loop-j in
     let a = c.args in
-    (simp length-set l.invariant.0, omega arith, less_turn l.e a.row.now l.j a.g l.invariant.0 (omega arith) ∙ l.invariant.2)
+    (simp length-set l.invariant.0, less_turn l.e a.row.now l.j a.g l.invariant.0 (omega arith) ∙ l.invariant.1)
 
 pub shape_of-e : goal.shape_of-e
 shape_of-e c = c.loop-j.invariant.0 ∙ sym c.requires.same
@@ -21,4 +21,4 @@ pub returns : goal.returns
 returns c =
     let l = c.loop-j in
     let a = c.args in
-    sym (less_end l.e a.row.now l.j a.g l.invariant.0 (omega arith)) ∙ l.invariant.2
+    sym (less_end l.e a.row.now l.j a.g l.invariant.0 (omega arith)) ∙ l.invariant.1
