@@ -84,7 +84,7 @@ module _ (l e : List Float) (j : ℕ) (h : j ≤ length l) (is : e ≡ exps_to l
   front : length (map exp_of (take j l)) ≡ j
   front = map_length exp_of (take j l) ∙ length-take-le j l h
 
-  pub exps_turn : (n : ℕ) (v : List Float) → n ≡ 8 → v ≡ map exp_of (take n (drop j e)) → put_part e j n v ≡ exps_to l (j + 8)
+  exps_turn : (n : ℕ) (v : List Float) → n ≡ 8 → v ≡ map exp_of (take n (drop j e)) → put_part e j n v ≡ exps_to l (j + 8)
   exps_turn n v p q =
       let rest : drop j e ≡ drop j l = ap (drop j) is ∙ drop_at (map exp_of (take j l)) (drop j l) j front in
       let done : take j e ≡ map exp_of (take j l) = ap (take j) is ∙ take_at (map exp_of (take j l)) (drop j l) j front in
@@ -94,6 +94,15 @@ module _ (l e : List Float) (j : ℕ) (h : j ≤ length l) (is : e ≡ exps_to l
   exps_end n k =
       let within : n ≤ length (map exp_of (take j l)) = omega (arith, front) in
       rw (is, take-append-le n (map exp_of (take j l)) (drop j l) within, take_map, take-take n j l k)
+
+-- two calls of eight: sixteen elements more
+pub exps_twice : (l e : List Float) (j : ℕ) → j + 16 ≤ length l → e ≡ exps_to l j → (n m : ℕ) (v w : List Float) → n ≡ 8 → m ≡ 8
+    → v ≡ map exp_of (take n (drop j e)) → w ≡ map exp_of (take m (drop (j + 8) (put_part e j n v)))
+    → put_part (put_part e j n v) (j + 8) m w ≡ exps_to l (j + 16)
+exps_twice l e j h is n m v w p q r s =
+    let first : put_part e j n v ≡ exps_to l (j + 8) = exps_turn l e j (omega arith) is n v p r in
+    let e₈ : j + 8 + 8 ≡ j + 16 = omega arith in
+    exps_turn l (put_part e j n v) (j + 8) (omega arith) first m w q s ∙ ap (exps_to l) e₈
 
 -- ---- by the exponentials of a row less g: its sum of exponentials, its shares, its log-sum
 sum_over : (g s : Float) (row : List Float) → sum_from s (map exp_of (less_by g row)) ≡ exp_sum_from g s row

@@ -80,11 +80,9 @@ fn exp_front(e: &mut [f64], n: usize)
     requires { n + 15 ≤ length e.old }
     ensures { take n e.new ≡ map exp_of (take n e.old) }
 {
-    let mut j = 0;
-    while j < n {
+    for j in (0..n).step_by(16) {
         exp_eight(&mut e[j..j + 8]);
         exp_eight(&mut e[j + 8..j + 16]);
-        j += 16;
     }
 }
 
