@@ -159,19 +159,7 @@ fn log_softmax_block(rows: &mut [f64], weights: &[f64], k: usize, l: f64) -> f64
     s
 }
 
-// Where the block of leaves from leaf i on ends: within 256 elements.
-fn block_end(i: usize, m: usize, k: usize) -> usize
-    requires { (i < m) × (0 < k) × (k ≤ 64) }
-    ensures { (i < result) × (result ≤ m) × ((result - i) * k ≤ 256) }
-{
-    let most = 256 / k;
-    if m - i < most {
-        return m;
-    }
-    i + most
-}
-
-// The rows of log densities become the leaves' responsibilities; the log-likelihood.
+// The rows of log densities become the leaves' responsibilities; the log-likelihood. A block has 256 elements at most.
 pub fn log_softmax_rows(rows: &mut [f64], weights: &[f64], k: usize) -> f64
     requires { LeafRows (length rows.old) (length weights.now) k }
     ensures { let m = length weights.now in
@@ -179,12 +167,11 @@ pub fn log_softmax_rows(rows: &mut [f64], weights: &[f64], k: usize) -> f64
         × (rows.new ≡ shares_up_to k rows.old m) }
 {
     let m = weights.len();
+    let most = 256 / k;
     let mut l = 0.0;
-    let mut i = 0;
-    while i < m {
-        let end = block_end(i, m, k);
+    for i in (0..m).step_by(most) {
+        let end = m.min(i + most);
         l = log_softmax_block(&mut rows[i * k..end * k], &weights[i..end], k, l);
-        i = end;
     }
     l
 }

@@ -1,8 +1,7 @@
 -- `mixture_softmax::exp_front` meets its contract.
-use mathlib.Core.Path.{◌≡◌, refl, ◌∙◌}
-use Prim.Native.Nat.{◌+◌, ◌-◌, ◌≤◌}
+use mathlib.Core.Path.{◌≡◌, refl}
+use Prim.Native.Nat.{◌+◌, ◌-◌}
 use native.Mathlib.Omega.{arith}
-use lib.ListN.{length}
 use Rattle.rows.specs.Rows.{put_part}
 use Rattle.mixture_softmax.proofs.Softmax.{exps_to, exps_twice, exps_end}
 use Rattle.mixture_softmax.proofs.exp_front.Goals.{After-exp_eight-in-loop-j}
