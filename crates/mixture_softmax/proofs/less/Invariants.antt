@@ -7,4 +7,4 @@ use Rattle.mixture_softmax.specs.Blocks.{less_by}
 use Rattle.mixture_softmax.proofs.less.Given as goal
 
 abbrev pub invariant-loop-j : goal.invariant-loop-j
-invariant-loop-j l = (length l.e ≡ length l.row) × (take l.j l.e ++ less_by l.g (drop l.j l.row) ≡ less_by l.g l.row)
+invariant-loop-j l = take l.j l.e ++ less_by l.g (drop l.j l.row) ≡ less_by l.g l.row

@@ -15,7 +15,7 @@ use Rattle.mixture_softmax.proofs.less_greatests.Goals as goal
 pub loop-i-init : goal.loop-i-init
 loop-i-init c =
     let a = c.args in
-    (refl, joined_none (from_greatest_at a.k a.rows.now) a.k a.e.now)
+    joined_none (from_greatest_at a.k a.rows.now) a.k a.e.now
 
 -- row i lies within e and within the rows
 row_in : (c : In-loop-i) → let l = c.loop-i in
@@ -25,7 +25,7 @@ row_in c =
     let l = c.loop-i in
     let a = c.args in (
       omega (arith, row_within l.i a.m a.k c.loop-i-test.true, c.requires.rows_long),
-      omega (arith, l.invariant.0, c.requires.e_long),
+      omega (arith, l.auto.e, c.requires.e_long),
       c.requires.rows_small,
     )
 
@@ -55,19 +55,14 @@ pub loop-i-preserved : goal.loop-i-preserved
 loop-i-preserved c =
     let l = c.loop-i in
     let a = c.args in
-    let g = c.less_greatest in (
-      search rules,
+    let g = c.less_greatest in
       greatests_turn a.k a.rows.now a.m c.requires.rows_long a.e.now l.e g.new.e l.i
-          (l.i * a.k + a.k - l.i * a.k) c.loop-i-test.true (omega arith) l.invariant.1
-          g.ensures,
-    )
-
-pub shape_of-e : goal.shape_of-e
-shape_of-e c = c.loop-i.invariant.0
+          (l.i * a.k + a.k - l.i * a.k) c.loop-i-test.true (omega arith) l.invariant
+          g.ensures
 
 pub returns : goal.returns
 returns c =
     let l = c.loop-i in
     let a = c.args in
     let e : l.i ≡ a.m = omega arith in
-    l.invariant.1 ∙ ap (λ (n : ℕ). from_greatests a.k a.rows.now n ++ drop (n * a.k) a.e.now) e
+    l.invariant ∙ ap (λ (n : ℕ). from_greatests a.k a.rows.now n ++ drop (n * a.k) a.e.now) e

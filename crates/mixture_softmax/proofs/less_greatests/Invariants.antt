@@ -3,9 +3,9 @@
 use mathlib.Core.Path.{◌≡◌}
 use mathlib.Core.List.{◌++◌}
 use Prim.Native.Nat.{◌*◌}
-use lib.ListN.{length, drop}
+use lib.ListN.{drop}
 use Rattle.mixture_softmax.specs.Blocks.{from_greatests}
 use Rattle.mixture_softmax.proofs.less_greatests.Given as goal
 
 abbrev pub invariant-loop-i : goal.invariant-loop-i
-invariant-loop-i l = (length l.e ≡ length l.initial.e) × (l.e ≡ from_greatests l.k l.rows l.i ++ drop (l.i * l.k) l.initial.e)
+invariant-loop-i l = l.e ≡ from_greatests l.k l.rows l.i ++ drop (l.i * l.k) l.initial.e

@@ -13,7 +13,6 @@ use Rattle.mixture_softmax.proofs.less_log_sums.Goals as goal
 pub loop-i-init : goal.loop-i-init
 loop-i-init c =
     let a = c.args in (
-      refl,
       weighed_none (log_over_at a.k a.rows.now a.e.now) a.weights.now a.l,
       joined_none (from_log_at a.k a.rows.now a.e.now) a.k a.e.now,
     )
@@ -26,15 +25,11 @@ loop-i-preserved c =
     let m = length a.weights.now in
     let h = c.loop-i-test.true in
     let is : g.result ≡ log_over_at a.k a.rows.now a.e.now l.i =
-    log_row a.k a.rows.now m c.requires.rows_long a.e.now l.e l.i h l.invariant.2 g.result g.ensures.0 in (
-      search rules,
-      weighed_turn (log_over_at a.k a.rows.now a.e.now) a.weights.now a.l l.s g.result l.i l.invariant.1 is,
-      logs_turn a.k a.rows.now m c.requires.rows_long a.e.now l.e l.i h l.invariant.2 g.result g.ensures.0 g.new.e
+    log_row a.k a.rows.now m c.requires.rows_long a.e.now l.e l.i h l.invariant.1 g.result g.ensures.0 in (
+      weighed_turn (log_over_at a.k a.rows.now a.e.now) a.weights.now a.l l.s g.result l.i l.invariant.0 is,
+      logs_turn a.k a.rows.now m c.requires.rows_long a.e.now l.e l.i h l.invariant.1 g.result g.ensures.0 g.new.e
           g.ensures.1,
     )
-
-pub shape_of-e : goal.shape_of-e
-shape_of-e c = c.loop-i.invariant.0
 
 pub returns : goal.returns
 returns c =
@@ -42,6 +37,6 @@ returns c =
     let a = c.args in
     let m = length a.weights.now in
     let e : l.i ≡ m = omega arith in (
-      l.invariant.1 ∙ ap (logs_over a.k a.rows.now a.e.now a.weights.now a.l) e,
-      l.invariant.2 ∙ ap (λ (n : ℕ). from_logs a.k a.rows.now a.e.now n ++ drop (n * a.k) a.e.now) e,
+      l.invariant.0 ∙ ap (logs_over a.k a.rows.now a.e.now a.weights.now a.l) e,
+      l.invariant.1 ∙ ap (λ (n : ℕ). from_logs a.k a.rows.now a.e.now n ++ drop (n * a.k) a.e.now) e,
     )

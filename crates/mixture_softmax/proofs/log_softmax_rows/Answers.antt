@@ -33,7 +33,8 @@ ends c =
     let end = c.min-end.result in
     let k = c.args.k in
     let h : end - i ≤ 256 / k = omega (arith, c.min-end.ensures) in
-    (omega (arith, c.min-end.ensures, c.loop-i-test.true), omega (arith, c.min-end.ensures), le_trans (mul-le-mul_right k h) (div-mul-le_self 256 k))
+    let small : (end - i) * k ≤ 256 = le_trans (mul-le-mul_right k h) (div-mul-le_self 256 k) in
+    (omega (arith, c.min-end.ensures, c.loop-i-test.true), omega (arith, c.min-end.ensures), small)
 
 pub log_softmax_block-l-requires : goal.log_softmax_block-l-requires
 log_softmax_block-l-requires c =
