@@ -1,14 +1,11 @@
 -- `mixture_softmax::exp_front` meets its contract.
-use mathlib.Core.Path.{◌≡◌, refl}
+use mathlib.Core.Path.{◌≡◌}
 use Prim.Native.Nat.{◌+◌, ◌-◌}
 use native.Mathlib.Omega.{arith}
 use Rattle.rows.specs.Rows.{put_part}
 use Rattle.mixture_softmax.proofs.Softmax.{exps_to, exps_twice, exps_end}
 use Rattle.mixture_softmax.proofs.exp_front.Goals.{After-exp_eight-in-loop-j}
 use Rattle.mixture_softmax.proofs.exp_front.Goals as goal
-
-pub loop-j-init : goal.loop-j-init
-loop-j-init c = (omega arith, refl)
 
 -- what the two calls of a turn leave
 turn : (c : After-exp_eight-in-loop-j) → let l = c.loop-j in
@@ -26,12 +23,6 @@ turn c =
 
 pub loop-j-preserved : goal.loop-j-preserved
 loop-j-preserved c = (omega arith, turn (goal.at.loop-j-preserved c).After-exp_eight-in-loop-j)
-
-pub returns : goal.returns
-returns c =
-    let l = c.loop-j in
-    let a = c.args in
-    exps_end a.e.now l.e l.j (omega (arith, l.invariant.0, c.requires)) l.invariant.1 a.n (omega (arith, c.loop-j-test.false))
 
 pub returns-2 : goal.returns-2
 returns-2 c =

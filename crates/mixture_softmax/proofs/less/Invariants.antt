@@ -2,7 +2,7 @@
 -- less g. Assumes nothing.
 use mathlib.Core.Path.{◌≡◌}
 use mathlib.Core.List.{◌++◌}
-use lib.ListN.{length, take, drop}
+use lib.ListN.{take, drop}
 use Rattle.mixture_softmax.specs.Blocks.{less_by}
 use Rattle.mixture_softmax.proofs.less.Given as goal
 

@@ -71,17 +71,6 @@ loop-i-preserved c =
     let t = turn (goal.at.loop-i-preserved c).After-log_softmax_block-l n (omega (arith, c.min-end.ensures)) in
     (omega arith, t.0, t.1)
 
-pub returns : goal.returns
-returns c =
-    let l = c.loop-i in
-    let a = c.args in
-    let m = length a.weights.now in
-    let e : l.i ≡ m = omega (arith, c.loop-i-test.false, l.invariant.0) in (
-      l.invariant.1 ∙ ap (logs_up_to a.k a.rows.now a.weights.now plus_zero) e,
-      l.invariant.2 ∙ ap (λ (n : ℕ). shares_up_to a.k a.rows.now n ++ drop (n * a.k) a.rows.now) e
-          ∙ front_end (shares_up_to a.k a.rows.now m) a.rows.now (m * a.k) c.requires.rows_long,
-    )
-
 pub returns-2 : goal.returns-2
 returns-2 c =
     let a = c.args in
