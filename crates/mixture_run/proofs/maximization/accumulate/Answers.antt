@@ -32,13 +32,13 @@ loop-i-init c =
     let a = c.args in
     let p = parts_in a.m a.k a.d in
     let f = (goal.at.loop-i-init c).After-fill_at-2 in
-    (omega arith, refl, leaves_start a.weights.now a.coords.now a.k a.d (p a.work.now) (p (begun f)) (cleared_at f))
+    leaves_start a.weights.now a.coords.now a.k a.d (p a.work.now) (p (begun f)) (cleared_at f)
 
 pub accumulate_leaf-requires : goal.accumulate_leaf-requires
 accumulate_leaf-requires c =
     let l = c.loop-i in
     let a = c.args in record {
-      area = area_of _ _ a.m a.k a.d (l.invariant.1 ∙ same_at (goal.at.accumulate_leaf-requires c).After-fill_at-2) c.requires.area;
+      area = area_of _ _ a.m a.k a.d (l.auto.work ∙ same_at (goal.at.accumulate_leaf-requires c).After-fill_at-2) c.requires.area;
       leaves = (c.requires.leaves, leaf_of l.i a.m a.k a.d c.loop-i-test.true);
     }
 
@@ -47,15 +47,12 @@ loop-i-preserved c =
     let l = c.loop-i in
     let a = c.args in
     let p = parts_in a.m a.k a.d in
-    let f = (goal.at.loop-i-preserved c).After-fill_at-2 in (
-      omega (arith, c.loop-i-test.true),
-      c.accumulate_leaf.auto.work ∙ l.invariant.1,
-      leaves_turn a.weights.now a.coords.now a.k a.d (p (begun f)) (p l.work) (p c.accumulate_leaf.new.work) l.i
-          l.invariant.2 c.accumulate_leaf.ensures,
-    )
+    let f = (goal.at.loop-i-preserved c).After-fill_at-2 in
+    leaves_turn a.weights.now a.coords.now a.k a.d (p (begun f)) (p l.work) (p c.accumulate_leaf.new.work) l.i l.invariant
+    c.accumulate_leaf.ensures
 
 pub shape_of-work : goal.shape_of-work
-shape_of-work c = c.loop-i.invariant.1 ∙ same_at (goal.at.shape_of-work c).After-fill_at-2
+shape_of-work c = c.loop-i.auto.work ∙ same_at (goal.at.shape_of-work c).After-fill_at-2
 
 pub returns : goal.returns
 returns c =
@@ -64,4 +61,4 @@ returns c =
     let p = parts_in a.m a.k a.d in
     let f = (goal.at.returns c).After-fill_at-2 in
     leaves_end a.weights.now a.coords.now a.k a.d (p a.work.now) (p (begun f)) (cleared_at f) (p l.work) l.i a.m
-    (omega (arith, c.loop-i-test.false)) l.invariant.2
+    (omega (arith, c.loop-i-test.false)) l.invariant

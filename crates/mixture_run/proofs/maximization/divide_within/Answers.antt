@@ -11,21 +11,17 @@ use Rattle.mixture_run.proofs.maximization.divide_within.Goals as goal
 pub loop-j-init : goal.loop-j-init
 loop-j-init c =
     let a = c.args in
-    (search rules, refl, paste-zero a.w.now a.to (divided_by a.x (drop a.from a.w.now)))
+    paste-zero a.w.now a.to (divided_by a.x (drop a.from a.w.now))
 
 pub loop-j-preserved : goal.loop-j-preserved
 loop-j-preserved c =
     let l = c.loop-j in
-    let a = c.args in (
-      omega arith,
-      simp length-set l.invariant.1,
-      divide_turn a.w.now a.x a.to a.from a.n l.w l.j l.invariant.2 c.requires.order c.requires.within
-          c.loop-j-test.true,
-    )
+    let a = c.args in
+    divide_turn a.w.now a.x a.to a.from a.n l.w l.j l.invariant c.requires.order c.requires.within c.loop-j-test.true
 
 pub returns : goal.returns
 returns c =
     let l = c.loop-j in
     let a = c.args in
     let e : l.j ≡ a.n = omega arith in
-    rw (← divide_end, ← e) l.invariant.2
+    rw (← divide_end, ← e) l.invariant

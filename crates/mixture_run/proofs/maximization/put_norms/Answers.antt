@@ -15,7 +15,7 @@ row_of_law c = let a = c.args in row_within c.loop-c.c a.k a.d c.loop-c-test.tru
 pub loop-c-init : goal.loop-c-init
 loop-c-init c =
     let a = c.args in
-    (omega arith, refl, norms_start a.m a.k a.d a.work.now)
+    norms_start a.m a.k a.d a.work.now
 
 pub overflow_mul-at : goal.overflow_mul-at
 overflow_mul-at c = search (row_of_law c, rules)
@@ -34,15 +34,12 @@ loop-c-preserved c =
     let l = c.loop-c in
     let a = c.args in
     let h = c.loop-c-test.true in
-    let to = c.norms_at-norms.result + l.c in (
-      omega (arith, h),
-      search rules,
-      norms_turn a.m a.k a.d a.work.now l.work to l.c c.norm-v.result (omega (arith, c.norms_at-norms.ensures)) h
-          c.requires.work_long c.norm-v.ensures l.invariant.2,
-    )
+    let to = c.norms_at-norms.result + l.c in
+    norms_turn a.m a.k a.d a.work.now l.work to l.c c.norm-v.result (omega (arith, c.norms_at-norms.ensures)) h
+    c.requires.work_long c.norm-v.ensures l.invariant
 
 pub returns : goal.returns
 returns c =
     let l = c.loop-c in
     let a = c.args in
-    norms_end a.m a.k a.d a.work.now l.work l.c (omega (arith, c.loop-c-test.false)) c.requires.work_long l.invariant.2
+    norms_end a.m a.k a.d a.work.now l.work l.c (omega (arith, c.loop-c-test.false)) c.requires.work_long l.invariant

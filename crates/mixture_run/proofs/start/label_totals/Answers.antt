@@ -31,12 +31,8 @@ label_of c = c.requires.labels c.loop-i.i (omega arith)
 
 pub loop-i-init : goal.loop-i-init
 loop-i-init c =
-    let a = c.args in (
-      search rules,
-      refl,
-      totals_start a.m a.k a.d _ a.weights.now a.work_u32.now a.work.now
-          (cleared (goal.at.loop-i-init c).After-fill_at),
-    )
+    let a = c.args in
+    totals_start a.m a.k a.d _ a.weights.now a.work_u32.now a.work.now (cleared (goal.at.loop-i-init c).After-fill_at)
 
 pub overflow_cast-at : goal.overflow_cast-at
 overflow_cast-at c = search (label_of (goal.at.overflow_cast-at c).In-loop-i, rules)
@@ -59,16 +55,13 @@ bounds-work-at-in-loop-i c = search (label_of (goal.at.bounds-work-at-in-loop-i 
 pub loop-i-preserved : goal.loop-i-preserved
 loop-i-preserved c =
     let l = c.loop-i in
-    let a = c.args in (
-      omega arith,
-      search rules,
-      totals_turn a.m a.k a.d _ a.weights.now a.work_u32.now l.work _ l.i
-          (omega (arith, c.totals_at-totals.ensures)) (omega arith) (label_of (goal.at.loop-i-preserved c).In-loop-i) l.invariant.2,
-    )
+    let a = c.args in
+    totals_turn a.m a.k a.d _ a.weights.now a.work_u32.now l.work _ l.i (omega (arith, c.totals_at-totals.ensures)) (omega arith)
+    (label_of (goal.at.loop-i-preserved c).In-loop-i) l.invariant
 
 pub returns : goal.returns
 returns c =
     let l = c.loop-i in
     let a = c.args in
     totals_end a.m a.k a.d _ a.weights.now a.work_u32.now a.work.now l.work l.i (omega arith)
-    (cleared (goal.at.returns c).After-fill_at) l.invariant.2
+    (cleared (goal.at.returns c).After-fill_at) l.invariant
