@@ -1,23 +1,16 @@
 -- `mixture_run::em` meets its contract.
-use mathlib.Core.Path.{refl, sym, ◌∙◌}
+use mathlib.Core.Path.{sym, ◌∙◌}
 use Prim.Native.Nat.{◌+◌, ◌-◌}
 use native.Mathlib.Nat.{sub-zero}
 use native.Mathlib.Omega.{arith}
 use lib.Ieee.{div, neg, of_bits}
 use Rattle.mixture_run.specs.Areas.{parts_in, em_of}
-use Rattle.mixture_run.proofs.Sizes.{area_of}
 use Rattle.mixture_run.proofs.Rounds.{em_turn, em_stop, em_end}
 use Rattle.mixture_run.proofs.em.Goals as goal
 
 pub loop-it-init : goal.loop-it-init
 unfolding div neg of_bits
 loop-it-init c = rw sub-zero
-
-pub em_round-new-requires : goal.em_round-new-requires
-em_round-new-requires c = record {
-  area = area_of _ _ c.args.m c.args.k c.args.d c.loop-it.auto.work c.requires.area.0;
-  leaves = c.requires.leaves;
-}
 
 pub loop-it-preserved : goal.loop-it-preserved
 loop-it-preserved c =
@@ -31,9 +24,6 @@ loop-it-preserved c =
     (omega (arith, more)) r.ensures
     (sym c.stops_at-stops.ensures ∙ c.if-stops.false) ∙ l.invariant
 
-pub shape_of-work-after-loop-it : goal.shape_of-work-after-loop-it
-shape_of-work-after-loop-it c = c.loop-it.auto.work
-
 pub returns-after-loop-it : goal.returns-after-loop-it
 returns-after-loop-it c =
     let l = c.loop-it in
@@ -41,10 +31,6 @@ returns-after-loop-it c =
     em_end a.kappa a.weights.now a.coords.now a.m a.k a.d (a.rounds - l.it) l.it
     (em_of (parts_in a.m a.k a.d l.work) l.loglik)
     (omega (arith, c.loop-it-test.false)) ∙ l.invariant
-
-pub shape_of-work-then-stops : goal.shape_of-work-then-stops
-shape_of-work-then-stops c =
-    c.em_round-new.auto.work ∙ c.loop-it.auto.work
 
 pub returns-then-stops : goal.returns-then-stops
 returns-then-stops c =

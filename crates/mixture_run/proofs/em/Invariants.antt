@@ -2,8 +2,7 @@
 -- end as all rounds do from the start. Assumes nothing.
 use mathlib.Core.Path.{◌≡◌}
 use mathlib.Core.Bool.{true}
-use Prim.Native.Nat.{◌≤◌, ◌-◌}
-use lib.ListN.{length}
+use Prim.Native.Nat.{◌-◌}
 use lib.Ieee.{inf}
 use Rattle.mixture_run.specs.Mixture.{em_from}
 use Rattle.mixture_run.specs.Areas.{parts_in, em_of}

@@ -8,7 +8,6 @@ use Rattle.mixture_kappa.specs.Kappas.{mean_length, kappa_at}
 use Rattle.mixture_run.specs.Areas.{parts_in}
 use Rattle.mixture_run.proofs.Regions.{kappas_r, totals_r, norms_r}
 use Rattle.mixture_run.proofs.Groups.{written_start, written_read, written_turn, written_end}
-use borrow.Author.Rules.{rules}
 use Rattle.mixture_run.proofs.concentration.free_kappas.Goals as goal
 
 pub loop-c-init : goal.loop-c-init

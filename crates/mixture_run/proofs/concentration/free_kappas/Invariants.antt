@@ -1,6 +1,5 @@
 -- `mixture_run::concentration::free_kappas` meets its contract. The loop's invariant: the concentrations of the first c groups stand before
 -- what was there. Assumes nothing.
-use mathlib.Core.Path.{◌≡◌}
 use Rattle.mixture_kappa.specs.Kappas.{kappa_at}
 use Rattle.mixture_run.specs.Areas.{parts_in}
 use Rattle.mixture_run.proofs.Regions.{kappas_r}

@@ -10,7 +10,6 @@ use Rattle.mixture_run.specs.Mixture.{log_coefficient_at}
 use Rattle.mixture_run.specs.Areas.{parts_in, log_coefficients_at, model_of}
 use Rattle.mixture_run.proofs.Regions.{weights_r, kappas_r, log_coefficients_r}
 use Rattle.mixture_run.proofs.Groups.{written_start, written_read, written_turn, written_end}
-use borrow.Author.Rules.{rules}
 use Rattle.mixture_run.proofs.expectation.put_log_coefficients.Goals as goal
 
 pub loop-c-init : goal.loop-c-init

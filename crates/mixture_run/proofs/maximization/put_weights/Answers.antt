@@ -6,7 +6,6 @@ use Rattle.mixture_run.specs.Mixture.{weight_by, weight_at}
 use Rattle.mixture_run.specs.Areas.{parts_in}
 use Rattle.mixture_run.proofs.Regions.{weights_r, totals_r}
 use Rattle.mixture_run.proofs.Groups.{written_start, written_read, written_turn, written_end}
-use borrow.Author.Rules.{rules}
 use Rattle.mixture_run.proofs.maximization.put_weights.Goals as goal
 
 pub loop-c-init : goal.loop-c-init

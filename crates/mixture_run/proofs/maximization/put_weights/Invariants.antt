@@ -1,6 +1,5 @@
 -- `mixture_run::maximization::put_weights` meets its contract. The loop's invariant: the weights of the first c groups stand before what
 -- was there. Assumes nothing.
-use mathlib.Core.Path.{◌≡◌}
 use Rattle.mixture_run.specs.Mixture.{weight_at}
 use Rattle.mixture_run.specs.Areas.{parts_in}
 use Rattle.mixture_run.proofs.Regions.{weights_r}

@@ -9,7 +9,6 @@ use Rattle.mixture_run.specs.Areas.{parts_in, with_totals}
 use Rattle.mixture_run.proofs.Regions.{totals_r}
 use Rattle.mixture_run.proofs.Groups.{fill_in}
 use Rattle.mixture_run.proofs.LabelTotals.{totals_start, totals_turn, totals_end}
-use borrow.Author.Rules.{rules}
 use Rattle.mixture_run.proofs.start.label_totals.Goals.{After-fill_at, In-loop-i}
 use Rattle.mixture_run.proofs.start.label_totals.Goals as goal
 
@@ -33,24 +32,6 @@ pub loop-i-init : goal.loop-i-init
 loop-i-init c =
     let a = c.args in
     totals_start a.m a.k a.d _ a.weights.now a.work_u32.now a.work.now (cleared (goal.at.loop-i-init c).After-fill_at)
-
-pub overflow_cast-at : goal.overflow_cast-at
-overflow_cast-at c = search (label_of (goal.at.overflow_cast-at c).In-loop-i, rules)
-
-pub overflow_add-at : goal.overflow_add-at
-overflow_add-at c = search (label_of (goal.at.overflow_add-at c).In-loop-i, rules)
-
-pub offset_bounds-work-at : goal.offset_bounds-work-at
-offset_bounds-work-at c = search (label_of (goal.at.offset_bounds-work-at c).In-loop-i, rules)
-
-pub bounds-work-at : goal.bounds-work-at
-bounds-work-at c = search (label_of (goal.at.bounds-work-at c).In-loop-i, rules)
-
-pub offset_bounds-work-at-in-loop-i : goal.offset_bounds-work-at-in-loop-i
-offset_bounds-work-at-in-loop-i c = search (label_of (goal.at.offset_bounds-work-at-in-loop-i c).In-loop-i, rules)
-
-pub bounds-work-at-in-loop-i : goal.bounds-work-at-in-loop-i
-bounds-work-at-in-loop-i c = search (label_of (goal.at.bounds-work-at-in-loop-i c).In-loop-i, rules)
 
 pub loop-i-preserved : goal.loop-i-preserved
 loop-i-preserved c =
