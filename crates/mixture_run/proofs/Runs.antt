@@ -34,15 +34,6 @@ kappas_started kappa k d totals whole p₀ p₁ p₂ p₃ totalled normed summed
     (rw (concentrated, normed, totalled), rw (concentrated, normed, totalled, sum))
 
 -- ---- what the warm start asks, and what it leaves where the rounds begin
-pub warm_sized : (work workU32 weights coords m k d rounds : ℕ) → Runnable work workU32 weights coords m k d rounds
-    → lloyd.Runnable work workU32 weights coords m k d 50
-warm_sized work workU32 weights coords m k d rounds r =
-    record {
-      sized =
-          record { sizes = r.area.sizes; work_long = r.warm_long; work_u32_long = r.work_u32_long; coords_long = r.leaves.coords_long };
-      weights_long = r.leaves.weights_long;
-      rounds_small = omega arith;
-    }
 
 module _ (weights coords : List Float) (m k d : ℕ) (w : List Float) (u : List ℕ) where
   pub directions_warm : (warm : Result) → (state_in m k d w u).centers ≡ warm.centers → (parts_in m k d w).directions ≡ warm.centers
@@ -50,11 +41,6 @@ module _ (weights coords : List Float) (m k d : ℕ) (w : List Float) (u : List 
 
   pub labels_warm : RunLeft weights coords m k d w u → Labels m k u
   labels_warm l i h = rw (← get_or-take m u i 0 h, labels_are m k d w u) (l.labelled i h)
-
-  pub sums_warm : (warm : Result) → (state_in m k d w u).labels ≡ warm.labels → RunLeft weights coords m k d w u
-      → (parts_in m k d w).sums ≡ sums_up_to weights coords warm.labels k d m
-  sums_warm warm e l =
-      sym (whole_in sums_r m k d w (k * d) (k * d) (omega arith) refl) ∙ l.sums ∙ ap (λ (x : List ℕ). sums_up_to weights coords x k d m) e
 
 -- ---- a whole run
 pub run_done : (s : Settings) (weights coords : List Float) (m k d : ℕ) (w₁ w₂ w₃ w₄ : List Float) (u : List ℕ) (x : warm-end.RunEnd)
