@@ -9,10 +9,9 @@ use Rattle.float.specs.Arithmetic.{minus_zero, sum_from}
 use Rattle.rows.specs.Tabulate.{tabulate}
 use Rattle.kmeans_sums.specs.Sums.{norms_up_to}
 use Rattle.mixture_kappa.specs.Kappas.{kappas_of}
-use Rattle.mixture_run.specs.Mixture.{Statistics, Em, weight_at, directions_up_to, maximize, maximize_by, log_coefficients, expect_up_to}
-use Rattle.mixture_run.specs.Mixture.{statistics_up_to, em_round, stops_at, em_from}
-use Rattle.mixture_run.specs.Areas.{Parts, model_of, em_of, with_statistics, with_norms, with_weights, with_directions, with_kappas}
-use Rattle.mixture_run.specs.Areas.{with_log_coefficients, with_resp}
+use Rattle.mixture_run.specs.Mixture.{Statistics, Em, weight_at, directions_up_to, maximize, maximize_by}
+use Rattle.mixture_run.specs.Mixture.{em_round, stops_at, em_from}
+use Rattle.mixture_run.specs.Areas.{Parts, model_of, with_statistics, with_norms, with_weights, with_directions, with_kappas}
 use Rattle.mixture_kappa.specs.declared.Kappa.{Kappa}
 
 -- ---- the M-step

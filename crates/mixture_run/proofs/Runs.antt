@@ -18,7 +18,7 @@ use Rattle.kmeans_layout.proofs.Regions.{centers_are, labels_are}
 use Rattle.mixture_kappa.specs.Kappas.{kappas_of}
 use Rattle.mixture_run.specs.Mixture.{even_weight, em_from}
 use Rattle.mixture_run.specs.Fits.{label_totals_up_to, start_kappas_by, start_from, warm_of, once_of}
-use Rattle.mixture_run.specs.Areas.{Parts, parts_in, em_of, with_totals, with_norms, with_kappas, with_resp, with_weights, Labels, Runnable}
+use Rattle.mixture_run.specs.Areas.{Parts, parts_in, em_of, with_totals, with_norms, with_kappas, with_resp, with_weights, Labels}
 use Rattle.mixture_run.specs.Areas.{RunDone}
 use Rattle.mixture_kappa.specs.declared.Kappa.{Kappa}
 use Rattle.mixture_kappa.specs.declared.Settings.{Settings}
@@ -34,13 +34,17 @@ kappas_started kappa k d totals whole p₀ p₁ p₂ p₃ totalled normed summed
     (rw (concentrated, normed, totalled), rw (concentrated, normed, totalled, sum))
 
 -- ---- what the warm start asks, and what it leaves where the rounds begin
-
 module _ (weights coords : List Float) (m k d : ℕ) (w : List Float) (u : List ℕ) where
   pub directions_warm : (warm : Result) → (state_in m k d w u).centers ≡ warm.centers → (parts_in m k d w).directions ≡ warm.centers
   directions_warm warm e = sym (whole_in directions_r m k d w 0 (k * d) (omega arith) refl) ∙ centers_are m k d w u ∙ e
 
   pub labels_warm : RunLeft weights coords m k d w u → Labels m k u
   labels_warm l i h = rw (← get_or-take m u i 0 h, labels_are m k d w u) (l.labelled i h)
+
+  pub sums_warm : (warm : Result) → (state_in m k d w u).labels ≡ warm.labels → RunLeft weights coords m k d w u
+      → (parts_in m k d w).sums ≡ sums_up_to weights coords warm.labels k d m
+  sums_warm warm e l =
+      sym (whole_in sums_r m k d w (k * d) (k * d) (omega arith) refl) ∙ l.sums ∙ ap (λ (x : List ℕ). sums_up_to weights coords x k d m) e
 
 -- ---- a whole run
 pub run_done : (s : Settings) (weights coords : List Float) (m k d : ℕ) (w₁ w₂ w₃ w₄ : List Float) (u : List ℕ) (x : warm-end.RunEnd)

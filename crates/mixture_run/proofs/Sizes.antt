@@ -1,14 +1,8 @@
 -- What the functions on an area ask: of an area of the same length, and of each leaf and group. Assumes nothing.
-use mathlib.Core.Path.{◌≡◌, ap, ◌∙◌}
-use mathlib.Core.List.{List}
-use Prim.Native.Nat.{ℕ, ◌+◌, ◌-◌, ◌*◌, ◌<◌}
-use native.Mathlib.Omega.{arith}
-use lib.ListN.{length}
-use lib.Ieee.{Float}
-use Rattle.rows.specs.Rows.{part}
-use Rattle.rows.proofs.Rows.{row_within, length_part, part_cut}
-use Rattle.mixture_softmax.specs.Leaves.{LeafRows}
-use Rattle.mixture_run.specs.Areas.{responsibilities_at, Area, LeafOf, GroupOf}
+use mathlib.Core.Path.{◌≡◌}
+use Prim.Native.Nat.{ℕ, ◌<◌}
+use Rattle.rows.proofs.Rows.{row_within}
+use Rattle.mixture_run.specs.Areas.{Area, LeafOf, GroupOf}
 
 pub area_of : (work work' m k d : ℕ) → work' ≡ work → Area work m k d → Area work' m k d
 area_of work work' m k d e a = rw e a
