@@ -18,7 +18,7 @@ row_of_law c = let a = c.args in row_within c.loop-i.i a.m a.k (omega arith)
 
 pub loop-i-init : goal.loop-i-init
 unfolding tabulate
-loop-i-init c = (omega arith, refl, refl)
+loop-i-init c = refl
 
 pub overflow_mul-at : goal.overflow_mul-at
 overflow_mul-at c = search (row_of_law c, rules)
@@ -47,11 +47,11 @@ loop-i-preserved c =
     let a = c.args in
     let f : ℕ → ℕ = λ n. argmax_of (row_of a.resp.now a.k n) in
     let e : c.argmax.result ≡ f l.i = c.argmax.ensures ∙ ap argmax_of (row_cut a.resp.now a.k l.i) in
-    (omega arith, search rules, listed_turn f l.labels l.i c.argmax.result (omega arith) e l.invariant.2)
+    listed_turn f l.labels l.i c.argmax.result (omega arith) e l.invariant
 
 pub returns : goal.returns
 returns c =
     let l = c.loop-i in
     let a = c.args in
     let f : ℕ → ℕ = λ n. argmax_of (row_of a.resp.now a.k n) in
-    listed_end f l.labels l.i a.m (omega arith) (omega arith) l.invariant.2
+    listed_end f l.labels l.i a.m (omega arith) (omega arith) l.invariant

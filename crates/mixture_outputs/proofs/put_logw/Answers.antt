@@ -12,7 +12,7 @@ use Rattle.mixture_outputs.proofs.put_logw.Goals as goal
 
 pub loop-c-init : goal.loop-c-init
 unfolding tabulate
-loop-c-init c = (omega arith, refl, refl)
+loop-c-init c = refl
 
 pub loop-c-preserved : goal.loop-c-preserved
 loop-c-preserved c =
@@ -23,11 +23,11 @@ loop-c-preserved c =
     let h : l.c < a.k = omega arith in
     let e = logw_is a.m a.k a.d a.area.now l.c c.weights_at-weights.result c.kappas_at-kappas.result x.result
     c.log_norm.result h c.weights_at-weights.ensures c.kappas_at-kappas.ensures x.ensures c.log_norm.ensures in
-    (omega arith, search rules, listed_turn f l.logw l.c (add binary64 x.result c.log_norm.result) (omega arith) e l.invariant.2)
+    listed_turn f l.logw l.c (add binary64 x.result c.log_norm.result) (omega arith) e l.invariant
 
 pub returns : goal.returns
 returns c =
     let l = c.loop-c in
     let a = c.args in
     let f = logw_at a.d (model_of (parts_in a.m a.k a.d a.area.now)) in
-    listed_end f l.logw l.c a.k (omega arith) (omega arith) l.invariant.2
+    listed_end f l.logw l.c a.k (omega arith) (omega arith) l.invariant
