@@ -84,11 +84,9 @@ fn put_labels(labels: &mut [u32], resp: &[f64], m: usize, k: usize)
     requires { (length labels.old ≡ m) × (length resp.now ≡ m * k) × (m * k ≤ 262144) × (0 < k) × (k ≤ 64) }
     ensures { labels.new ≡ labels_of resp.now m k }
 {
-    let mut i = 0;
-    while i < m {
+    for i in 0..m {
         let at = i * k;
         labels[i] = pick::argmax(&resp[at..at + k]) as u32;
-        i += 1;
     }
 }
 
@@ -106,10 +104,8 @@ fn put_logw(logw: &mut [f64], area: &[f64], m: usize, k: usize, d: usize)
 {
     let weights = mixture_run::layout::weights_at(k, d);
     let kappas = mixture_run::layout::kappas_at(k, d);
-    let mut c = 0;
-    while c < k {
+    for c in 0..k {
         logw[c] = ln_weight(area[weights + c]) + mixture_kappa::log_norm(area[kappas + c], d);
-        c += 1;
     }
 }
 

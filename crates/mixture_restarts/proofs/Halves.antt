@@ -22,7 +22,7 @@ use Rattle.mixture_run.specs.Areas.{parts_in, em_of, Runnable as RunRunnable, Ru
 use Rattle.mixture_run.specs.declared.RunEnd.{RunEnd}
 use Rattle.mixture_kappa.specs.declared.Settings.{Settings}
 use Rattle.mixture_restarts.specs.Runs.{keep, run_of, runs_up_to}
-use Rattle.mixture_restarts.specs.Halves.{em_at, TwoHalves, Runnable, RunAt, Holds, Both, kept_part, kept_part_of, kept_em}
+use Rattle.mixture_restarts.specs.Halves.{em_at, TwoHalves, Runnable, RunAt, Holds, Both, kept_em}
 use Rattle.mixture_restarts.specs.declared.Runs.{Runs}
 
 -- ---- one run in one half
@@ -102,18 +102,6 @@ module _ (m k d : ℕ) (w w' : List Float) (run : Once) (r : RunEnd) where
         small = at_most_more (omega arith) (at_most_plus v.small x.small);
       }
 
-  -- the last run, which is not yet kept or left
-  pub both_done : (held : Once) (h : Held) → Holds held w m k d 3 h → RunAt run w w' (free_at h.second (half m k d)) m k d r
-      → Both held run w' m k d
-      (record { second = h.second; held = h.value; last = r.loglik; counts = plus_of h.counts r.counts })
-  both_done held h v x =
-      record {
-        there = still_there held.em h.second h.value v.there x;
-        beside = x.there;
-        counts = rw (v.counts, x.counts);
-        small = at_most_plus v.small x.small;
-      }
-
 kept_turn : (m k d t : ℕ) (w w' : List Float) (held run : Once) (h q : Held) (r : RunEnd) → Holds held w m k d t h
     → RunAt run w w' (free_at h.second (half m k d)) m k d r → q ≡ held_after h r.loglik r.counts
     → Holds (keep held run) w' m k d (t + 1) q
@@ -148,20 +136,6 @@ module _ (s : Settings) (weights coords : List Float) (m k d : ℕ) where
   runs_end t w h e v = rw e at v
 
 -- ---- the keeper
-
--- a half as the code cuts it is as long as it should be, and the kept part of two such is the keeper's
-pub parts_long : (n : ℕ) (w : List Float) (a : ℕ) → a + n ≤ length w → n ≤ length (take (a + n - a) (drop a w))
-parts_long n w a h =
-    let f : a + n - a ≡ n = omega arith in
-    rw f (omega (arith, length_part w a n h))
-
-pub part_kept : (m k d n : ℕ) (w q : List Float) (r : Runs) (a b : ℕ) → n ≡ half m k d → a ≡ held_at r.second n
-    → b ≡ free_at r.second n → q ≡ kept_part (take (a + n - a) (drop a w)) (take (b + n - b) (drop b w)) n r.held r.last
-    → q ≡ kept_part_of m k d w r
-part_kept m k d n w q r a b en ea eb e =
-    let f : a + n - a ≡ n = omega arith in
-    let g : b + n - b ≡ n = omega arith in
-    rw (← en, ← ea, ← eb) (e ∙ rw (f, g))
 
 module _ (m k d : ℕ) (w : List Float) (held last : Once) (r : Runs) (b : Both held last w m k d r) where
   abbrev held_part : List Float

@@ -83,12 +83,10 @@ fn first_runs(
         value: first.loglik,
         counts,
     };
-    let mut t = 1;
-    while t < 3 {
+    for t in 1..3 {
         let r = run_beside(work, work_u32, weights, coords, s, t, m, k, d, h.second);
         let more = r.counts;
         h = kmeans_layout::keep(h, r.loglik, more);
-        t += 1;
     }
     h
 }

@@ -1,4 +1,4 @@
--- The M-step and a round from their calls, and the rounds until the log-likelihood stands: the rounds that are left, from the parts as they
+-- The M-step from its calls, and the rounds until the log-likelihood stands: the rounds that are left, from the parts as they
 -- are, end as all of them do from the start. Over plain lists and parts. Assumes nothing.
 use mathlib.Core.Path.{◌≡◌, ap, sym, ◌∙◌}
 use mathlib.Core.List.{List}
@@ -9,19 +9,15 @@ use Rattle.float.specs.Arithmetic.{minus_zero, sum_from}
 use Rattle.rows.specs.Tabulate.{tabulate}
 use Rattle.kmeans_sums.specs.Sums.{norms_up_to}
 use Rattle.mixture_kappa.specs.Kappas.{kappas_of}
-use Rattle.mixture_run.specs.Mixture.{Statistics, Em, weight_at, directions_up_to, maximize, maximize_by, log_coefficients, expect_up_to}
-use Rattle.mixture_run.specs.Mixture.{statistics_up_to, em_round, stops_at, em_from}
-use Rattle.mixture_run.specs.Areas.{Parts, model_of, em_of, with_statistics, with_norms, with_weights, with_directions, with_kappas}
-use Rattle.mixture_run.specs.Areas.{with_log_coefficients, with_resp}
+use Rattle.mixture_run.specs.Mixture.{Statistics, Em, weight_at, directions_up_to, maximize, maximize_by}
+use Rattle.mixture_run.specs.Mixture.{em_round, stops_at, em_from}
+use Rattle.mixture_run.specs.Areas.{Parts, model_of, with_statistics, with_norms, with_weights, with_directions, with_kappas}
 use Rattle.mixture_kappa.specs.declared.Kappa.{Kappa}
 
 -- ---- the M-step
 module _ (kappa : Kappa) (k d : ℕ) (p₀ p₁ p₂ p₃ : Parts) (g : Statistics) (whole : Float) (accumulated : p₁ ≡ with_statistics g p₀)
     (normed : p₂ ≡ with_norms (norms_up_to p₁.sums d k) p₁)
     (weighed : p₃ ≡ with_weights (tabulate (weight_at k whole p₂.totals) k) p₂) where
-  pub norms_stay : p₃.norms ≡ norms_up_to p₃.sums d k
-  norms_stay = rw (weighed, normed)
-
   pub maximized : (p₄ p₅ : Parts) → whole ≡ sum_from minus_zero p₂.totals
       → p₄ ≡ with_directions (directions_up_to d p₃.sums p₃.directions k) p₃
       → p₅ ≡ with_kappas (kappas_of kappa k d p₄.norms p₄.totals whole) p₄
@@ -32,19 +28,6 @@ module _ (kappa : Kappa) (k d : ℕ) (p₀ p₁ p₂ p₃ : Parts) (g : Statisti
       (rw (concentrated, turned, weighed, normed, accumulated), by ∙ ap (maximize_by kappa k d (model_of p₀) g) sum)
 
 -- ---- a round
-pub round_done : (kappa : Kappa) (weights coords : List Float) (m k d : ℕ) (p₀ p₁ p₂ p₃ : Parts) (r : Float)
-    → p₁ ≡ with_log_coefficients (log_coefficients k d (model_of p₀)) p₀
-    → r ≡ (expect_up_to weights coords k d p₁.log_coefficients (model_of p₁) m).loglik
-    → p₂ ≡ with_resp (expect_up_to weights coords k d p₁.log_coefficients (model_of p₁) m).resp p₁ → p₃.resp ≡ p₂.resp
-    → model_of p₃ ≡ maximize kappa k d (model_of p₂) (statistics_up_to weights coords p₂.resp k d m)
-    → em_of p₃ r ≡ em_round kappa weights coords m k d (model_of p₀)
-round_done kappa weights coords m k d p₀ p₁ p₂ p₃ r placed likely expected kept maximal =
-    let e = expect_up_to weights coords k d (log_coefficients k d (model_of p₀)) (model_of p₀) m in
-    let er : r ≡ e.loglik = likely ∙ rw placed in
-    let ep : p₃.resp ≡ e.resp = kept ∙ rw (expected, placed) in
-    let em : model_of p₃ ≡ maximize kappa k d (model_of p₀) (statistics_up_to weights coords e.resp k d m) =
-    maximal ∙ rw (expected, placed) in
-    rw (ep, em, er)
 
 -- ---- the rounds
 module _ (kappa : Kappa) (weights coords : List Float) (m k d : ℕ) where

@@ -18,7 +18,7 @@ use Rattle.kmeans_layout.proofs.Regions.{centers_are, labels_are}
 use Rattle.mixture_kappa.specs.Kappas.{kappas_of}
 use Rattle.mixture_run.specs.Mixture.{even_weight, em_from}
 use Rattle.mixture_run.specs.Fits.{label_totals_up_to, start_kappas_by, start_from, warm_of, once_of}
-use Rattle.mixture_run.specs.Areas.{Parts, parts_in, em_of, with_totals, with_norms, with_kappas, with_resp, with_weights, Labels, Runnable}
+use Rattle.mixture_run.specs.Areas.{Parts, parts_in, em_of, with_totals, with_norms, with_kappas, with_resp, with_weights, Labels}
 use Rattle.mixture_run.specs.Areas.{RunDone}
 use Rattle.mixture_kappa.specs.declared.Kappa.{Kappa}
 use Rattle.mixture_kappa.specs.declared.Settings.{Settings}
@@ -34,16 +34,6 @@ kappas_started kappa k d totals whole p₀ p₁ p₂ p₃ totalled normed summed
     (rw (concentrated, normed, totalled), rw (concentrated, normed, totalled, sum))
 
 -- ---- what the warm start asks, and what it leaves where the rounds begin
-pub warm_sized : (work workU32 weights coords m k d rounds : ℕ) → Runnable work workU32 weights coords m k d rounds
-    → lloyd.Runnable work workU32 weights coords m k d 50
-warm_sized work workU32 weights coords m k d rounds r =
-    record {
-      sized =
-          record { sizes = r.area.sizes; work_long = r.warm_long; work_u32_long = r.work_u32_long; coords_long = r.leaves.coords_long };
-      weights_long = r.leaves.weights_long;
-      rounds_small = omega arith;
-    }
-
 module _ (weights coords : List Float) (m k d : ℕ) (w : List Float) (u : List ℕ) where
   pub directions_warm : (warm : Result) → (state_in m k d w u).centers ≡ warm.centers → (parts_in m k d w).directions ≡ warm.centers
   directions_warm warm e = sym (whole_in directions_r m k d w 0 (k * d) (omega arith) refl) ∙ centers_are m k d w u ∙ e

@@ -1,14 +1,8 @@
--- What the functions on an area ask: of an area of the same length, of each leaf and group, and of the responsibilities. Assumes nothing.
-use mathlib.Core.Path.{◌≡◌, ap, ◌∙◌}
-use mathlib.Core.List.{List}
-use Prim.Native.Nat.{ℕ, ◌+◌, ◌-◌, ◌*◌, ◌<◌}
-use native.Mathlib.Omega.{arith}
-use lib.ListN.{length}
-use lib.Ieee.{Float}
-use Rattle.rows.specs.Rows.{part}
-use Rattle.rows.proofs.Rows.{row_within, length_part, part_cut}
-use Rattle.mixture_softmax.specs.Leaves.{LeafRows}
-use Rattle.mixture_run.specs.Areas.{responsibilities_at, Area, LeafOf, GroupOf}
+-- What the functions on an area ask: of an area of the same length, and of each leaf and group. Assumes nothing.
+use mathlib.Core.Path.{◌≡◌}
+use Prim.Native.Nat.{ℕ, ◌<◌}
+use Rattle.rows.proofs.Rows.{row_within}
+use Rattle.mixture_run.specs.Areas.{Area, LeafOf, GroupOf}
 
 pub area_of : (work work' m k d : ℕ) → work' ≡ work → Area work m k d → Area work' m k d
 area_of work work' m k d e a = rw e a
@@ -18,16 +12,3 @@ leaf_of i m k d h = record { below = h; row = row_within i m d h; shares = row_w
 
 pub group_of : (c k d : ℕ) → c < k → GroupOf c k d
 group_of c k d h = record { below = h; row = row_within c k d h }
-
--- of the rows of log densities
-pub rows_of : (w weights : List Float) (m k d at : ℕ) → Area (length w) m k d → length weights ≡ m → at ≡ responsibilities_at k d
-    → LeafRows (length (part w at (at + m * k - at))) (length weights) k
-rows_of w weights m k d at a e start =
-    let n : length (part w at (at + m * k - at)) ≡ m * k =
-    ap length (part_cut w at (m * k)) ∙ length_part w at (m * k) (omega (arith, a.work_long)) in
-    record {
-      k_some = a.sizes.k_some;
-      k_small = a.sizes.k_small;
-      weights_small = omega (arith, a.sizes.m_small);
-      rows_long = rw (n, e);
-    }

@@ -2,7 +2,7 @@
 -- definition grows by one group or one leaf a turn. By the laws of the regions. Assumes nothing.
 use mathlib.Core.Path.{◌≡◌, refl, ap, sym, ◌∙◌}
 use mathlib.Core.List.{List}
-use Prim.Native.Nat.{ℕ, ◌+◌, ◌*◌, ◌-◌, ◌≤◌}
+use Prim.Native.Nat.{ℕ, ◌+◌, ◌*◌, ◌≤◌}
 use native.Mathlib.Numerals.{add-one}
 use native.Mathlib.Omega.{arith}
 use lib.ListN.{length, get_or, set, replicate, length-set}
@@ -18,15 +18,6 @@ use Rattle.mixture_run.specs.Areas.{Area, LeafOf, GroupOf, total}
 use Rattle.mixture_run.proofs.Regions.{sums_r, totals_r, resp_r, set_in, get_in, part_in, put_in, length_in}
 use Rattle.mixture_run.proofs.Groups.{fill_in}
 
--- a row added to another, as the code cuts them
-pub row_added : (w x r : List Float) (v : Float) (to from d : ℕ)
-    → r ≡ add_scaled v (part w to (to + d - to)) (part x from (from + d - from))
-    → put_part w to (to + d - to) r ≡ put_part w to d (add_scaled v (part w to d) (part x from d))
-row_added w x r v to from d e =
-    let f : to + d - to ≡ d = omega arith in
-    let g : from + d - from ≡ d = omega arith in
-    rw (e, f, g)
-
 -- ---- group c gains leaf i: its whole weight is stored, then its row of the sums
 module _ (m k d : ℕ) (w coords : List Float) (weight : Float) (i c : ℕ) (area : Area (length w) m k d) (leaf : LeafOf i m k d)
     (group : GroupOf c k d)
@@ -36,9 +27,6 @@ module _ (m k d : ℕ) (w coords : List Float) (weight : Float) (i c : ℕ) (are
 
   abbrev stored : List Float
   stored = set w totalAt (add binary64 (get_or w totalAt nan) gained)
-
-  pub group_length : (w' : List Float) → length w' ≡ length stored → length w' ≡ length w
-  group_length w' e = e ∙ length-set w totalAt (add binary64 (get_or w totalAt nan) gained)
 
   pub group_done : (w' : List Float)
       → w' ≡ put_part stored (k * d + c * d) d (add_scaled gained (part stored (k * d + c * d) d) (row_of coords d i))

@@ -29,10 +29,8 @@ fn free_kappas(work: &mut [f64], m: usize, k: usize, d: usize)
     let kappas = layout::kappas_at(k, d);
     let totals = layout::totals_at(k, d);
     let norms = layout::norms_at(k, d);
-    let mut c = 0;
-    while c < k {
+    for c in 0..k {
         work[kappas + c] = kappa_by(work[norms + c], work[totals + c], d);
-        c += 1;
     }
 }
 

@@ -34,13 +34,11 @@ pub(crate) fn put_log_coefficients(work: &mut [f64], m: usize, k: usize, d: usiz
     let coefficients = layout::log_coefficients_at(k, d);
     let mut last = work[kappas];
     let mut norm = mixture_kappa::log_norm_from(last, d, start);
-    let mut c = 0;
-    while c < k {
+    for c in 0..k {
         let kappa = work[kappas + c];
         norm = norm_for(kappa, last, norm, d, start);
         last = kappa;
         work[coefficients + c] = mixture_kappa::log_coefficient(work[weights + c], norm);
-        c += 1;
     }
 }
 
@@ -105,10 +103,8 @@ pub(crate) fn expect(
         let e = expect_up_to weights.now coords.now k d p.log_coefficients (model_of p) m in
         (result ≡ e.loglik) × (q ≡ with_resp e.resp p) }
 {
-    let mut i = 0;
-    while i < m {
+    for i in 0..m {
         put_log_densities(work, coords, i, m, k, d);
-        i += 1;
     }
     let resp = layout::responsibilities_at(k, d);
     mixture_softmax::log_softmax_rows(&mut work[resp..resp + m * k], weights, k)

@@ -62,15 +62,13 @@ fn em(
         em_of q result ≡ em_from kappa weights.now coords.now m k d rounds 0 (em_of p (inf true)) }
 {
     let mut loglik = -1.0 / 0.0;
-    let mut it = 0;
-    while it < rounds {
+    for it in 0..rounds {
         let new = em_round(work, weights, coords, kappa, m, k, d);
         let stops = stops_at(it, loglik, new);
         loglik = new;
         if stops {
             break;
         }
-        it += 1;
     }
     loglik
 }

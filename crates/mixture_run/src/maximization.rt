@@ -67,10 +67,8 @@ fn accumulate_leaf(
         q ≡ with_statistics (accumulate_leaf d w (row_of p.resp k i) x (statistics_of p) k) p }
 {
     let weight = weights[i];
-    let mut c = 0;
-    while c < k {
+    for c in 0..k {
         accumulate_group(work, coords, weight, i, c, m, k, d);
-        c += 1;
     }
 }
 
@@ -85,10 +83,8 @@ fn accumulate(work: &mut [f64], weights: &[f64], coords: &[f64], m: usize, k: us
     let kd = k * d;
     kmeans_layout::fill_at(work, kd, kd, 0.0);
     kmeans_layout::fill_at(work, layout::totals_at(k, d), k, 0.0);
-    let mut i = 0;
-    while i < m {
+    for i in 0..m {
         accumulate_leaf(work, weights, coords, i, m, k, d);
-        i += 1;
     }
 }
 
@@ -101,13 +97,11 @@ pub(crate) fn put_norms(work: &mut [f64], m: usize, k: usize, d: usize)
 {
     let sums = k * d;
     let norms = layout::norms_at(k, d);
-    let mut c = 0;
-    while c < k {
+    for c in 0..k {
         let at = sums + c * d;
         let s = &work[..];
         let v = vector::norm(&s[at..at + d]);
         work[norms + c] = v;
-        c += 1;
     }
 }
 
@@ -139,10 +133,8 @@ fn put_weights(work: &mut [f64], whole: f64, m: usize, k: usize, d: usize)
 {
     let weights = layout::weights_at(k, d);
     let totals = layout::totals_at(k, d);
-    let mut c = 0;
-    while c < k {
+    for c in 0..k {
         work[weights + c] = weight_by(work[totals + c], whole, k);
-        c += 1;
     }
 }
 
@@ -151,10 +143,8 @@ fn divide_within(w: &mut [f64], from: usize, to: usize, n: usize, x: f64)
     requires { Apart (length w.old) from to n }
     ensures { w.new ≡ put_part w.old to n (divided_by x (part w.old from n)) }
 {
-    let mut j = 0;
-    while j < n {
+    for j in 0..n {
         w[to + j] = w[from + j] / x;
-        j += 1;
     }
 }
 
@@ -168,14 +158,12 @@ fn redirect(work: &mut [f64], m: usize, k: usize, d: usize)
 {
     let sums = k * d;
     let norms = layout::norms_at(k, d);
-    let mut c = 0;
-    while c < k {
+    for c in 0..k {
         let n = work[norms + c];
         if n > 0.0 {
             let to = c * d;
             divide_within(work, sums + to, to, d, n);
         }
-        c += 1;
     }
 }
 

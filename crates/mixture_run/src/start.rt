@@ -17,11 +17,9 @@ fn label_totals(work: &mut [f64], work_u32: &[u32], weights: &[f64], m: usize, k
 {
     let totals = layout::totals_at(k, d);
     kmeans_layout::fill_at(work, totals, k, 0.0);
-    let mut i = 0;
-    while i < m {
+    for i in 0..m {
         let at = totals + work_u32[i] as usize;
         work[at] = work[at] + weights[i];
-        i += 1;
     }
 }
 

@@ -5,26 +5,19 @@ use mathlib.Core.List.{List, ◌++◌, map, append_assoc}
 use Prim.Native.Nat.{ℕ, ◌+◌, ◌-◌, ◌*◌, ◌≤◌, ◌<◌}
 use native.Mathlib.Nat.{add-mul, mul-le-mul_right}
 use native.Mathlib.Omega.{arith}
-use lib.ListN.{length, take, drop}
+use lib.ListN.{length, length-map, take, drop}
 use lib.Seq.{take_at, drop_at, drop-drop, get_or-take, get_or-drop}
 use lib.Ieee.{Float, nan}
 use Rattle.exponential.specs.Exponential.{exp_of}
-use Rattle.rows.specs.Rows.{part, put_part, row_of, Alike}
+use Rattle.rows.specs.Rows.{part, put_part, row_of}
 use Rattle.rows.proofs.Rows.{row_within, length_part, part_take}
 use Rattle.mixture_softmax.specs.Softmax.{shares_of, log_sum_exp}
 use Rattle.mixture_softmax.specs.Leaves.{joined, weighed, log_sum_at, shares_at, shares_up_to, logs_up_to}
 use Rattle.mixture_softmax.specs.Blocks.{less_by, from_greatest, from_greatest_at, from_greatests, log_sum_over, log_over_at, from_log_at}
 use Rattle.mixture_softmax.specs.Blocks.{from_logs, logs_over, Block}
-use Rattle.mixture_softmax.proofs.Softmax.{less_length, map_length, shares_length, shares_by, log_sum_over_law}
+use Rattle.mixture_softmax.proofs.Softmax.{less_length, shares_length, shares_by, log_sum_over_law}
 use Rattle.mixture_softmax.proofs.Joined.{joined_length, joined_row, joined_turn, joined_map, joined_same, joined_more, weighed_same}
 use Rattle.mixture_softmax.proofs.Joined.{weighed_more}
-
--- two parts of one length, as the code cuts them
-pub parts_alike : (a b : List Float) (at k : ℕ) → at + k ≤ length a → at + k ≤ length b
-    → Alike (part a at (at + k - at)) (part b at (at + k - at))
-parts_alike a b at k g h =
-    let e : at + k - at ≡ k = omega arith in
-    record { same = rw e (length_part a at k g ∙ sym (length_part b at k h)) }
 
 -- the softmax of a row where it stands, by what it is as the code cuts it
 pub leaf_done : (e rows v : List Float) (at k : ℕ) (r : Float) → r ≡ log_sum_over (part rows at (at + k - at)) (part e at (at + k - at))
@@ -77,7 +70,7 @@ module _ (k : ℕ) (rows : List Float) (m : ℕ) (long : length rows ≡ m * k) 
         rw long at second ∙ ap (λ (x : List Float). map exp_of (take (m * k) x)) first
         ∙ ap (map exp_of) (take_at (joined f m) (drop (m * k) e₀) (m * k) l) ∙ joined_map exp_of f m in
         sym (part_take e₂ (m * k) (i * k) k (row_within i m k h)) ∙ ap (λ (x : List Float). row_of x k i) all
-        ∙ joined_row (λ (j : ℕ). map exp_of (f j)) k m i (λ j g. map_length exp_of (f j) ∙ less_row _ j g) h
+        ∙ joined_row (λ (j : ℕ). map exp_of (f j)) k m i (λ j g. length-map (f j) exp_of ∙ less_row _ j g) h
 
     log_is : (i : ℕ) → i < m → log_over_at k rows e₂ i ≡ log_sum_at k rows i
     log_is i h = ap (log_sum_over (row_of rows k i)) (exps_row i h) ∙ log_sum_over_law (row_of rows k i)

@@ -1,41 +1,20 @@
--- Laws of one row (specs/Softmax.antt): for each loop a turn and its end; the sum and the shares of a row by the
--- exponentials of what it is less a number. Assumes nothing.
+-- Laws of one row (specs/Softmax.antt): its length; the elements passed replaced by their exponentials; the sum and the shares of a row by
+-- the exponentials of what it is less a number. Assumes nothing.
 use mathlib.Core.Path.{◌≡◌, refl, ap, ◌∙◌}
-use mathlib.Core.List.{List, [], ◌∷◌, ◌++◌, map, map-append, append_assoc, append-nil}
-use Prim.Native.Nat.{ℕ, zero, suc, ◌+◌, ◌≤◌, ◌<◌}
-use native.Mathlib.Numerals.{add-one}
+use mathlib.Core.List.{List, [], ◌∷◌, ◌++◌, map, map-append, append_assoc}
+use Prim.Native.Nat.{ℕ, suc, ◌+◌, ◌≤◌}
 use native.Mathlib.Omega.{arith}
-use lib.ListN.{length, get_or, take, drop, set, drop_of_length-le}
-use lib.Seq.{drop-cons, take-suc-set, take_all, take-add, take-take, take-append-le, take_at, drop_at, drop-drop, length-take-le}
-use lib.Ieee.{Float, nan, binary64, add, sub}
-use Rattle.float.specs.Arithmetic.{max_of, sum_from}
+use lib.ListN.{length, length-map, take, drop}
+use Rattle.std.proofs.lemmas.List.{take-map}
+use lib.Seq.{take-add, take-take, take-append-le, take_at, drop_at, drop-drop, length-take-le}
+use lib.Ieee.{Float, binary64, add, sub}
+use Rattle.float.specs.Arithmetic.{sum_from}
 use Rattle.exponential.specs.Exponential.{exp_of}
 use Rattle.rows.specs.Rows.{put_part}
-use Rattle.mixture_softmax.specs.Softmax.{greatest_from, exp_sum_from, shares_of, log_sum_exp}
+use Rattle.mixture_softmax.specs.Softmax.{exp_sum_from, shares_of, log_sum_exp}
 use Rattle.mixture_softmax.specs.Blocks.{less_by, log_sum_over, from_greatest}
 
--- ---- the greatest
-module _ (row : List Float) (j : ℕ) where
-  pub greatest_turn : (g v : Float) → j < length row → v ≡ max_of g (get_or row j nan)
-      → greatest_from v (drop (j + 1) row) ≡ greatest_from g (drop j row)
-  greatest_turn g v h e = rw (e, add-one, drop-cons row j nan)
-
-  pub greatest_end : (g : Float) → length row ≤ j → greatest_from g (drop j row) ≡ g
-  greatest_end g h = rw (drop_of_length-le row h)
-
--- ---- a row less g
-module _ (e row : List Float) (j : ℕ) (g : Float) (same : length e ≡ length row) where
-  pub less_turn : j < length row
-      → take (j + 1) (set e j (sub binary64 (get_or row j nan) g)) ++ less_by g (drop (j + 1) row) ≡ take j e ++ less_by g (drop j row)
-  less_turn h =
-      let k : j < length e = omega arith in
-      rw (add-one, take-suc-set, drop-cons row j nan, append_assoc)
-
-  pub less_end : length row ≤ j → take j e ++ less_by g (drop j row) ≡ e
-  less_end h =
-      let k : length e ≤ j = omega arith in
-      rw (drop_of_length-le row h, take_all, append-nil)
-
+-- ---- lengths
 pub less_length : (g : Float) (row : List Float) → length (less_by g row) ≡ length row
 less_length g [] = refl
 less_length g (x ∷ row) = ap suc (less_length g row)
@@ -45,24 +24,15 @@ shares_length lse [] = refl
 shares_length lse (x ∷ row) = ap suc (shares_length lse row)
 
 -- ---- exponentials
-pub map_length : (f : Float → Float) (l : List Float) → length (map f l) ≡ length l
-map_length f [] = refl
-map_length f (x ∷ l) = ap suc (map_length f l)
-
-take_map : (f : Float → Float) (n : ℕ) (l : List Float) → take n (map f l) ≡ map f (take n l)
-take_map f zero l = refl
-take_map f (suc n) [] = refl
-take_map f (suc n) (x ∷ l) = ap (λ (r : List Float). f x ∷ r) (take_map f n l)
-
 -- the first j elements replaced by their exponentials
 abbrev pub exps_to : List Float → ℕ → List Float
 exps_to l j = map exp_of (take j l) ++ drop j l
 
 module _ (l e : List Float) (j : ℕ) (h : j ≤ length l) (is : e ≡ exps_to l j) where
   front : length (map exp_of (take j l)) ≡ j
-  front = map_length exp_of (take j l) ∙ length-take-le j l h
+  front = length-map (take j l) exp_of ∙ length-take-le j l h
 
-  pub exps_turn : (n : ℕ) (v : List Float) → n ≡ 8 → v ≡ map exp_of (take n (drop j e)) → put_part e j n v ≡ exps_to l (j + 8)
+  exps_turn : (n : ℕ) (v : List Float) → n ≡ 8 → v ≡ map exp_of (take n (drop j e)) → put_part e j n v ≡ exps_to l (j + 8)
   exps_turn n v p q =
       let rest : drop j e ≡ drop j l = ap (drop j) is ∙ drop_at (map exp_of (take j l)) (drop j l) j front in
       let done : take j e ≡ map exp_of (take j l) = ap (take j) is ∙ take_at (map exp_of (take j l)) (drop j l) j front in
@@ -71,7 +41,16 @@ module _ (l e : List Float) (j : ℕ) (h : j ≤ length l) (is : e ≡ exps_to l
   pub exps_end : (n : ℕ) → n ≤ j → take n e ≡ map exp_of (take n l)
   exps_end n k =
       let within : n ≤ length (map exp_of (take j l)) = omega (arith, front) in
-      rw (is, take-append-le n (map exp_of (take j l)) (drop j l) within, take_map, take-take n j l k)
+      rw (is, take-append-le n (map exp_of (take j l)) (drop j l) within, take-map, take-take n j l k)
+
+-- two calls of eight: sixteen elements more
+pub exps_twice : (l e : List Float) (j : ℕ) → j + 16 ≤ length l → e ≡ exps_to l j → (n m : ℕ) (v w : List Float) → n ≡ 8 → m ≡ 8
+    → v ≡ map exp_of (take n (drop j e)) → w ≡ map exp_of (take m (drop (j + 8) (put_part e j n v)))
+    → put_part (put_part e j n v) (j + 8) m w ≡ exps_to l (j + 16)
+exps_twice l e j h is n m v w p q r s =
+    let first : put_part e j n v ≡ exps_to l (j + 8) = exps_turn l e j (omega arith) is n v p r in
+    let e₈ : j + 8 + 8 ≡ j + 16 = omega arith in
+    exps_turn l (put_part e j n v) (j + 8) (omega arith) first m w q s ∙ ap (exps_to l) e₈
 
 -- ---- by the exponentials of a row less g: its sum of exponentials, its shares, its log-sum
 sum_over : (g s : Float) (row : List Float) → sum_from s (map exp_of (less_by g row)) ≡ exp_sum_from g s row

@@ -27,10 +27,8 @@ fn greatest(row: &[f64]) -> f64
     ensures { result ≡ greatest_from (inf true) row.now }
 {
     let mut g = -1.0 / 0.0;
-    let mut j = 0;
-    while j < row.len() {
-        g = greater(g, row[j]);
-        j += 1;
+    for x in row {
+        g = greater(g, *x);
     }
     g
 }
@@ -40,10 +38,8 @@ fn less(e: &mut [f64], row: &[f64], g: f64)
     requires { Alike e.old row.now }
     ensures { e.new ≡ less_by g row.now }
 {
-    let mut j = 0;
-    while j < row.len() {
-        e[j] = row[j] - g;
-        j += 1;
+    for (j, x) in row.iter().enumerate() {
+        e[j] = x - g;
     }
 }
 
@@ -63,11 +59,9 @@ fn exp_front(e: &mut [f64], n: usize)
     requires { n + 15 ≤ length e.old }
     ensures { take n e.new ≡ map exp_of (take n e.old) }
 {
-    let mut j = 0;
-    while j < n {
+    for j in (0..n).step_by(16) {
         exp_eight(&mut e[j..j + 8]);
         exp_eight(&mut e[j + 8..j + 16]);
-        j += 16;
     }
 }
 
@@ -84,11 +78,9 @@ fn less_greatests(e: &mut [f64], rows: &[f64], m: usize, k: usize)
     requires { Beside (length e.old) (length rows.now) m k }
     ensures { e.new ≡ from_greatests k rows.now m ++ drop (m * k) e.old }
 {
-    let mut i = 0;
-    while i < m {
+    for i in 0..m {
         let at = i * k;
         less_greatest(&mut e[at..at + k], &rows[at..at + k]);
-        i += 1;
     }
 }
 
@@ -123,11 +115,8 @@ fn less_log_sums(e: &mut [f64], rows: &[f64], weights: &[f64], k: usize, l: f64)
 {
     let m = weights.len();
     let mut s = l;
-    let mut left = m;
-    while left > 0 {
-        let i = m - left;
+    for i in 0..m {
         s = s + weights[i] * leaf_log_sum(e, rows, i, m, k);
-        left -= 1;
     }
     s
 }
@@ -149,19 +138,7 @@ fn log_softmax_block(rows: &mut [f64], weights: &[f64], k: usize, l: f64) -> f64
     s
 }
 
-// Where the block of leaves from leaf i on ends: within 256 elements.
-fn block_end(i: usize, m: usize, k: usize) -> usize
-    requires { (i < m) × (0 < k) × (k ≤ 64) }
-    ensures { (i < result) × (result ≤ m) × ((result - i) * k ≤ 256) }
-{
-    let most = 256 / k;
-    if m - i < most {
-        return m;
-    }
-    i + most
-}
-
-// The rows of log densities become the leaves' responsibilities; the log-likelihood.
+// The rows of log densities become the leaves' responsibilities; the log-likelihood. A block has 256 elements at most.
 pub fn log_softmax_rows(rows: &mut [f64], weights: &[f64], k: usize) -> f64
     requires { LeafRows (length rows.old) (length weights.now) k }
     ensures { let m = length weights.now in
@@ -169,12 +146,11 @@ pub fn log_softmax_rows(rows: &mut [f64], weights: &[f64], k: usize) -> f64
         × (rows.new ≡ shares_up_to k rows.old m) }
 {
     let m = weights.len();
+    let most = 256 / k;
     let mut l = 0.0;
-    let mut i = 0;
-    while i < m {
-        let end = block_end(i, m, k);
+    for i in (0..m).step_by(most) {
+        let end = m.min(i + most);
         l = log_softmax_block(&mut rows[i * k..end * k], &weights[i..end], k, l);
-        i = end;
     }
     l
 }

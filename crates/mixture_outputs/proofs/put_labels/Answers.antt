@@ -6,8 +6,7 @@ use Rattle.rows.specs.Rows.{row_of}
 use Rattle.rows.specs.Tabulate.{tabulate}
 use Rattle.pick.specs.Places.{argmax_of}
 use Rattle.rows.proofs.Rows.{row_within, row_cut}
-use Rattle.mixture_outputs.proofs.Listed.{listed_turn, listed_end, label_below}
-use borrow.Author.Rules.{rules}
+use Rattle.mixture_outputs.proofs.Listed.{listed_turn, label_below}
 use Rattle.mixture_outputs.proofs.put_labels.Goals.{In-loop-i}
 use Rattle.mixture_outputs.proofs.put_labels.Goals as goal
 
@@ -18,16 +17,7 @@ row_of_law c = let a = c.args in row_within c.loop-i.i a.m a.k (omega arith)
 
 pub loop-i-init : goal.loop-i-init
 unfolding tabulate
-loop-i-init c = (omega arith, refl, refl)
-
-pub overflow_mul-at : goal.overflow_mul-at
-overflow_mul-at c = search (row_of_law c, rules)
-
-pub overflow_add-at : goal.overflow_add-at
-overflow_add-at c = search (row_of_law c, rules)
-
-pub offset_bounds-resp-at : goal.offset_bounds-resp-at
-offset_bounds-resp-at c = search (row_of_law c, rules)
+loop-i-init c = refl
 
 pub overflow_cast-labels : goal.overflow_cast-labels
 overflow_cast-labels c =
@@ -47,11 +37,4 @@ loop-i-preserved c =
     let a = c.args in
     let f : ℕ → ℕ = λ n. argmax_of (row_of a.resp.now a.k n) in
     let e : c.argmax.result ≡ f l.i = c.argmax.ensures ∙ ap argmax_of (row_cut a.resp.now a.k l.i) in
-    (omega arith, search rules, listed_turn f l.labels l.i c.argmax.result (omega arith) e l.invariant.2)
-
-pub returns : goal.returns
-returns c =
-    let l = c.loop-i in
-    let a = c.args in
-    let f : ℕ → ℕ = λ n. argmax_of (row_of a.resp.now a.k n) in
-    listed_end f l.labels l.i a.m (omega arith) (omega arith) l.invariant.2
+    listed_turn f l.labels l.i c.argmax.result (omega arith) e l.invariant

@@ -1,7 +1,7 @@
 -- `mixture_outputs::put_labels` meets its contract. The loop's invariant: the labels of the first i leaves are written. Assumes nothing.
 use mathlib.Core.Path.{◌≡◌}
-use Prim.Native.Nat.{ℕ, ◌-◌, ◌≤◌}
-use lib.ListN.{length, take}
+use Prim.Native.Nat.{ℕ}
+use lib.ListN.{take}
 use Rattle.rows.specs.Rows.{row_of}
 use Rattle.rows.specs.Tabulate.{tabulate}
 use Rattle.pick.specs.Places.{argmax_of}
@@ -9,8 +9,4 @@ use Rattle.mixture_outputs.proofs.put_labels.Given as goal
 
 abbrev pub invariant-loop-i : goal.invariant-loop-i
 invariant-loop-i l =
-    (l.i ≤ l.m) × (length l.labels ≡ length l.initial.labels)
-    × (take l.i l.labels ≡ tabulate (λ (n : ℕ). argmax_of (row_of l.resp l.k n)) l.i)
-
-abbrev pub decreases-loop-i : goal.decreases-loop-i
-decreases-loop-i l = l.m - l.i
+    take l.i l.labels ≡ tabulate (λ (n : ℕ). argmax_of (row_of l.resp l.k n)) l.i

@@ -1,31 +1,16 @@
 -- `mixture_run::em` meets its contract.
-use mathlib.Core.Path.{refl, sym, ◌∙◌}
+use mathlib.Core.Path.{sym, ◌∙◌}
 use Prim.Native.Nat.{◌+◌, ◌-◌}
 use native.Mathlib.Nat.{sub-zero}
 use native.Mathlib.Omega.{arith}
 use lib.Ieee.{div, neg, of_bits}
 use Rattle.mixture_run.specs.Areas.{parts_in, em_of}
-use Rattle.mixture_run.proofs.Sizes.{area_of}
 use Rattle.mixture_run.proofs.Rounds.{em_turn, em_stop, em_end}
 use Rattle.mixture_run.proofs.em.Goals as goal
 
 pub loop-it-init : goal.loop-it-init
 unfolding div neg of_bits
-loop-it-init c = (omega arith, refl, rw sub-zero)
-
-pub em_round-new-requires : goal.em_round-new-requires
-em_round-new-requires c = record {
-  area = area_of _ _ c.args.m c.args.k c.args.d c.loop-it.invariant.1 c.requires.area.0;
-  leaves = c.requires.leaves;
-}
-
-pub overflow_add-it : goal.overflow_add-it
-overflow_add-it c =
-    omega
-    (arith, c.loop-it-test.true, c.requires.area.1)
-
-pub loop-it-smaller : goal.loop-it-smaller
-loop-it-smaller c = omega (arith, c.loop-it-test.true)
+loop-it-init c = rw sub-zero
 
 pub loop-it-preserved : goal.loop-it-preserved
 loop-it-preserved c =
@@ -34,16 +19,10 @@ loop-it-preserved c =
     let r = c.em_round-new in
     let more = c.loop-it-test.true in
     let p = em_of (parts_in a.m a.k a.d l.work) l.loglik in
-    let q = em_of (parts_in a.m a.k a.d r.new.work) r.result in (
-      omega (arith, more),
-      r.auto.work ∙ l.invariant.1,
-      em_turn a.kappa a.weights.now a.coords.now a.m a.k a.d (a.rounds - l.it) (a.rounds - (l.it + 1)) l.it p q
-          (omega (arith, more)) r.ensures
-          (sym c.stops_at-stops.ensures ∙ c.if-stops.false) ∙ l.invariant.2,
-    )
-
-pub shape_of-work-after-loop-it : goal.shape_of-work-after-loop-it
-shape_of-work-after-loop-it c = c.loop-it.invariant.1
+    let q = em_of (parts_in a.m a.k a.d r.new.work) r.result in
+    em_turn a.kappa a.weights.now a.coords.now a.m a.k a.d (a.rounds - l.it) (a.rounds - (l.it + 1)) l.it p q
+    (omega (arith, more)) r.ensures
+    (sym c.stops_at-stops.ensures ∙ c.if-stops.false) ∙ l.invariant
 
 pub returns-after-loop-it : goal.returns-after-loop-it
 returns-after-loop-it c =
@@ -51,11 +30,7 @@ returns-after-loop-it c =
     let a = c.args in
     em_end a.kappa a.weights.now a.coords.now a.m a.k a.d (a.rounds - l.it) l.it
     (em_of (parts_in a.m a.k a.d l.work) l.loglik)
-    (omega (arith, c.loop-it-test.false)) ∙ l.invariant.2
-
-pub shape_of-work-then-stops : goal.shape_of-work-then-stops
-shape_of-work-then-stops c =
-    c.em_round-new.auto.work ∙ c.loop-it.invariant.1
+    (omega (arith, c.loop-it-test.false)) ∙ l.invariant
 
 pub returns-then-stops : goal.returns-then-stops
 returns-then-stops c =
@@ -66,4 +41,4 @@ returns-then-stops c =
     let q = em_of (parts_in a.m a.k a.d r.new.work) r.result in
     em_stop a.kappa a.weights.now a.coords.now a.m a.k a.d (a.rounds - l.it) (a.rounds - (l.it + 1)) l.it p q
     (omega (arith, c.loop-it-test.true)) r.ensures
-    (sym c.stops_at-stops.ensures ∙ c.if-stops.true) ∙ l.invariant.2
+    (sym c.stops_at-stops.ensures ∙ c.if-stops.true) ∙ l.invariant

@@ -1,9 +1,8 @@
 -- `mixture_run::em` meets its contract. The loop's invariant: the rounds that are left, from the parts and the log-likelihood as they are,
--- end as all rounds do from the start. The measure is what is left of the rounds. Assumes nothing.
+-- end as all rounds do from the start. Assumes nothing.
 use mathlib.Core.Path.{◌≡◌}
 use mathlib.Core.Bool.{true}
-use Prim.Native.Nat.{◌≤◌, ◌-◌}
-use lib.ListN.{length}
+use Prim.Native.Nat.{◌-◌}
 use lib.Ieee.{inf}
 use Rattle.mixture_run.specs.Mixture.{em_from}
 use Rattle.mixture_run.specs.Areas.{parts_in, em_of}
@@ -11,9 +10,5 @@ use Rattle.mixture_run.proofs.em.Given as goal
 
 abbrev pub invariant-loop-it : goal.invariant-loop-it
 invariant-loop-it l =
-    (l.it ≤ l.rounds) × (length l.work ≡ length l.initial.work)
-    × (em_from l.kappa l.weights l.coords l.m l.k l.d (l.rounds - l.it) l.it (em_of (parts_in l.m l.k l.d l.work) l.loglik)
-    ≡ em_from l.kappa l.weights l.coords l.m l.k l.d l.rounds 0 (em_of (parts_in l.m l.k l.d l.initial.work) (inf true)))
-
-abbrev pub decreases-loop-it : goal.decreases-loop-it
-decreases-loop-it l = l.rounds - l.it
+    em_from l.kappa l.weights l.coords l.m l.k l.d (l.rounds - l.it) l.it (em_of (parts_in l.m l.k l.d l.work) l.loglik)
+    ≡ em_from l.kappa l.weights l.coords l.m l.k l.d l.rounds 0 (em_of (parts_in l.m l.k l.d l.initial.work) (inf true))

@@ -1,37 +1,31 @@
 -- `mixture_softmax::exp_front` meets its contract.
-use mathlib.Core.Path.{◌≡◌, refl, ap, ◌∙◌}
-use Prim.Native.Nat.{◌+◌, ◌-◌, ◌≤◌}
+use mathlib.Core.Path.{◌≡◌}
+use Prim.Native.Nat.{◌+◌, ◌-◌}
 use native.Mathlib.Omega.{arith}
-use lib.ListN.{length}
-use Rattle.mixture_softmax.proofs.Softmax.{exps_to, exps_turn, exps_end}
-use borrow.Author.Rules.{rules}
+use Rattle.rows.specs.Rows.{put_part}
+use Rattle.mixture_softmax.proofs.Softmax.{exps_to, exps_twice, exps_end}
+use Rattle.mixture_softmax.proofs.exp_front.Goals.{After-exp_eight-in-loop-j}
 use Rattle.mixture_softmax.proofs.exp_front.Goals as goal
 
-pub loop-j-init : goal.loop-j-init
-loop-j-init c = (refl, omega arith, refl)
-
-pub loop-j-preserved : goal.loop-j-preserved
-loop-j-preserved c =
+-- what the two calls of a turn leave
+turn : (c : After-exp_eight-in-loop-j) → let l = c.loop-j in
+    let j = l.j in
+    let n = j + 8 - j in
+    let m = j + 16 - (j + 8) in
+    put_part (put_part l.e j n c.exp_eight.new.e) (j + 8) m c.exp_eight-in-loop-j.new.e ≡ exps_to c.args.e.now (j + 16)
+turn c =
+    let l = c.loop-j in
+    let j = l.j in
     let x = c.exp_eight in
     let y = c.exp_eight-in-loop-j in
-    let l = c.loop-j in
-    let a = c.args in
-    let h : l.j + 16 ≤ length a.e.now = omega (arith, c.loop-j-test.true, c.requires) in
-    let j = l.j + 8 in
-    let first = exps_turn a.e.now l.e l.j (omega arith) l.invariant.2 (j - l.j) x.new.e (omega arith) x.ensures in
-    let e : j + 8 ≡ l.j + 16 = omega arith in (
-      search rules,
-      omega arith,
-      exps_turn a.e.now _ j (omega arith) first (l.j + 16 - j) y.new.e (omega arith) y.ensures
-          ∙ ap (exps_to a.e.now) e,
-    )
+    exps_twice c.args.e.now l.e j (omega (arith, c.loop-j-test.true, c.requires)) l.invariant.1 (j + 8 - j) (j + 16 - (j + 8)) x.new.e
+    y.new.e (omega arith) (omega arith) x.ensures y.ensures
 
-pub shape_of-e : goal.shape_of-e
-shape_of-e c = c.loop-j.invariant.0
+pub loop-j-preserved : goal.loop-j-preserved
+loop-j-preserved c = (omega arith, turn (goal.at.loop-j-preserved c).After-exp_eight-in-loop-j)
 
-pub returns : goal.returns
-returns c =
-    let l = c.loop-j in
+pub returns-2 : goal.returns-2
+returns-2 c =
     let a = c.args in
-    let h : l.j ≤ length a.e.now = omega (arith, l.invariant.1, c.requires) in
-    exps_end a.e.now l.e l.j h l.invariant.2 a.n (omega arith)
+    exps_end a.e.now _ (c.loop-j.j + 16) (omega (arith, c.loop-j-test.true, c.requires))
+    (turn (goal.at.returns-2 c).After-exp_eight-in-loop-j) a.n (omega arith)

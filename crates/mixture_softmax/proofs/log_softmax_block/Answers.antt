@@ -1,16 +1,8 @@
 -- `mixture_softmax::log_softmax_block` meets its contract, by what its five calls ensure. Assumes nothing.
-use mathlib.Core.Path.{sym, ◌∙◌}
-use native.Mathlib.Omega.{arith}
+use mathlib.Core.Path.{◌∙◌}
 use lib.ListN.{length}
-use lib.Seq.{length-take-le}
 use Rattle.mixture_softmax.proofs.Blocks.{logs_done, shares_done}
 use Rattle.mixture_softmax.proofs.log_softmax_block.Goals as goal
-
-pub slice_bounds-copy-end : goal.slice_bounds-copy-end
-slice_bounds-copy-end c = sym (length-take-le _ c.exp_front-2.new.e (omega (arith, c.requires.rows_small)))
-
-pub copy-requires : goal.copy-requires
-copy-requires c = record { same = sym (length-take-le _ c.exp_front-2.new.e (omega (arith, c.requires.rows_small))) }
 
 pub returns : goal.returns
 returns c =

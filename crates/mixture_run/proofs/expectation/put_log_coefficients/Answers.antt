@@ -10,15 +10,12 @@ use Rattle.mixture_run.specs.Mixture.{log_coefficient_at}
 use Rattle.mixture_run.specs.Areas.{parts_in, log_coefficients_at, model_of}
 use Rattle.mixture_run.proofs.Regions.{weights_r, kappas_r, log_coefficients_r}
 use Rattle.mixture_run.proofs.Groups.{written_start, written_read, written_turn, written_end}
-use borrow.Author.Rules.{rules}
 use Rattle.mixture_run.proofs.expectation.put_log_coefficients.Goals as goal
 
 pub loop-c-init : goal.loop-c-init
 loop-c-init c =
     let a = c.args in
     let p = parts_in a.m a.k a.d a.work.now in (
-      omega arith,
-      refl,
       c.log_norm_from-norm.ensures,
       written_start log_coefficients_r (log_coefficient_at a.d (model_of p)) a.m a.k a.d a.work.now,
     )
@@ -34,7 +31,7 @@ loop-c-preserved c =
     let f = log_coefficient_at a.d (model_of (parts_in a.m a.k a.d old)) in
     let h : l.c < a.k = omega arith in
     let n = c.norm_for-norm in
-    let o = l.invariant.3 in
+    let o = l.invariant.1 in
     let read = written_read log_coefficients_r f a.m a.k a.d old in
     let r₁ = read weights_r (λ x p. refl) l.work (weight.result + l.c) l.c (omega (arith, weight.ensures)) h o in
     let r₂ = read kappas_r (λ x p. refl) l.work (kappa.result + l.c) l.c (omega (arith, kappa.ensures)) h o in
@@ -45,7 +42,7 @@ loop-c-preserved c =
     let more =
     written_turn log_coefficients_r f a.m a.k a.d old l.work (coefficient.result + l.c) l.c c.log_coefficient.result
     (omega (arith, at)) h long e o in
-    (omega arith, search rules, n.ensures, more)
+    (n.ensures, more)
 
 pub returns : goal.returns
 returns c =
@@ -53,4 +50,4 @@ returns c =
     let a = c.args in
     let old = a.work.now in
     let f = log_coefficient_at a.d (model_of (parts_in a.m a.k a.d old)) in
-    written_end log_coefficients_r f a.m a.k a.d old l.work l.c a.k (omega arith) refl c.requires.work_long l.invariant.3
+    written_end log_coefficients_r f a.m a.k a.d old l.work l.c a.k (omega arith) refl c.requires.work_long l.invariant.1

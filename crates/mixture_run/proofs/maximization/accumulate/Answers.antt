@@ -1,20 +1,15 @@
 -- `mixture_run::maximization::accumulate` meets its contract.
-use mathlib.Core.Path.{◌≡◌, refl, ◌∙◌}
+use mathlib.Core.Path.{◌≡◌}
 use mathlib.Core.List.{List}
 use native.Mathlib.Omega.{arith}
-use lib.ListN.{length}
 use lib.Ieee.{Float, of_bits}
 use Rattle.mixture_run.specs.Areas.{parts_in}
-use Rattle.mixture_run.proofs.Sizes.{area_of, leaf_of}
 use Rattle.mixture_run.proofs.Statistics.{leaves_done, cleared, leaves_start, leaves_turn, leaves_end}
 use Rattle.mixture_run.proofs.maximization.accumulate.Goals.{After-fill_at-2}
 use Rattle.mixture_run.proofs.maximization.accumulate.Goals as goal
 
 abbrev begun : After-fill_at-2 → List Float
 begun f = f.fill_at-2.new.work
-
-same_at : (f : After-fill_at-2) → length (begun f) ≡ length f.args.work.now
-same_at f = f.fill_at-2.auto.work ∙ f.fill_at.auto.work
 
 -- there the sums and the whole weights are cleared
 cleared_at : (f : After-fill_at-2) → let a = f.args in
@@ -32,30 +27,16 @@ loop-i-init c =
     let a = c.args in
     let p = parts_in a.m a.k a.d in
     let f = (goal.at.loop-i-init c).After-fill_at-2 in
-    (omega arith, refl, leaves_start a.weights.now a.coords.now a.k a.d (p a.work.now) (p (begun f)) (cleared_at f))
-
-pub accumulate_leaf-requires : goal.accumulate_leaf-requires
-accumulate_leaf-requires c =
-    let l = c.loop-i in
-    let a = c.args in record {
-      area = area_of _ _ a.m a.k a.d (l.invariant.1 ∙ same_at (goal.at.accumulate_leaf-requires c).After-fill_at-2) c.requires.area;
-      leaves = (c.requires.leaves, leaf_of l.i a.m a.k a.d c.loop-i-test.true);
-    }
+    leaves_start a.weights.now a.coords.now a.k a.d (p a.work.now) (p (begun f)) (cleared_at f)
 
 pub loop-i-preserved : goal.loop-i-preserved
 loop-i-preserved c =
     let l = c.loop-i in
     let a = c.args in
     let p = parts_in a.m a.k a.d in
-    let f = (goal.at.loop-i-preserved c).After-fill_at-2 in (
-      omega (arith, c.loop-i-test.true),
-      c.accumulate_leaf.auto.work ∙ l.invariant.1,
-      leaves_turn a.weights.now a.coords.now a.k a.d (p (begun f)) (p l.work) (p c.accumulate_leaf.new.work) l.i
-          l.invariant.2 c.accumulate_leaf.ensures,
-    )
-
-pub shape_of-work : goal.shape_of-work
-shape_of-work c = c.loop-i.invariant.1 ∙ same_at (goal.at.shape_of-work c).After-fill_at-2
+    let f = (goal.at.loop-i-preserved c).After-fill_at-2 in
+    leaves_turn a.weights.now a.coords.now a.k a.d (p (begun f)) (p l.work) (p c.accumulate_leaf.new.work) l.i l.invariant
+    c.accumulate_leaf.ensures
 
 pub returns : goal.returns
 returns c =
@@ -64,4 +45,4 @@ returns c =
     let p = parts_in a.m a.k a.d in
     let f = (goal.at.returns c).After-fill_at-2 in
     leaves_end a.weights.now a.coords.now a.k a.d (p a.work.now) (p (begun f)) (cleared_at f) (p l.work) l.i a.m
-    (omega (arith, c.loop-i-test.false)) l.invariant.2
+    (omega (arith, c.loop-i-test.false)) l.invariant

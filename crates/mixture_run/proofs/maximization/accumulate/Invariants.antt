@@ -1,16 +1,10 @@
 -- `mixture_run::maximization::accumulate` meets its contract. The sums and the whole weights are cleared; the loop's invariant: the parts
--- are those where the loop begins, with what the first i leaves gave. The measure is the leaves left. Assumes nothing.
+-- are those where the loop begins, with what the first i leaves gave. Assumes nothing.
 use mathlib.Core.Path.{◌≡◌}
-use Prim.Native.Nat.{◌≤◌, ◌-◌}
-use lib.ListN.{length}
 use Rattle.mixture_run.specs.Areas.{parts_in}
 use Rattle.mixture_run.proofs.Statistics.{leaves_done}
 use Rattle.mixture_run.proofs.maximization.accumulate.Given as goal
 
 abbrev pub invariant-loop-i : goal.invariant-loop-i
 invariant-loop-i l =
-    (l.i ≤ l.m) × (length l.work ≡ length l.initial.work)
-    × (parts_in l.m l.k l.d l.work ≡ leaves_done l.weights l.coords l.k l.d (parts_in l.m l.k l.d l.initial.work) l.i)
-
-abbrev pub decreases-loop-i : goal.decreases-loop-i
-decreases-loop-i l = l.m - l.i
+    parts_in l.m l.k l.d l.work ≡ leaves_done l.weights l.coords l.k l.d (parts_in l.m l.k l.d l.initial.work) l.i

@@ -2,23 +2,8 @@
 -- sums, by what add_row ensures. Assumes nothing.
 use Prim.Native.Nat.{◌+◌, ◌*◌}
 use native.Mathlib.Omega.{arith}
-use lib.ListN.{length-set}
-use Rattle.mixture_run.proofs.Statistics.{group_length, group_done}
+use Rattle.mixture_run.proofs.Statistics.{group_done}
 use Rattle.mixture_run.proofs.maximization.accumulate_group.Goals as goal
-
-pub add_row-requires : goal.add_row-requires
-add_row-requires c =
-    let n = c.requires.coords_len in
-    (simp length-set (omega (arith, c.requires.area.work_long, n.2.row)), omega (arith, n.0, n.1.row))
-
-pub shape_of-work : goal.shape_of-work
-shape_of-work c =
-    let a = c.args in
-    let total = c.totals_at in
-    let share = c.responsibilities_at in
-    group_length a.m a.k a.d a.work.now a.coords.now a.weight a.i a.c c.requires.area c.requires.coords_len.1 c.requires.coords_len.2
-    (total.result + a.c) (share.result + a.i * a.k + a.c) (omega (arith, total.ensures)) (omega (arith, share.ensures))
-    c.add_row.new.work c.add_row.auto.work
 
 pub returns : goal.returns
 returns c =

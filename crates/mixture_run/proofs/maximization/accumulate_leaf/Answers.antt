@@ -1,50 +1,21 @@
 -- `mixture_run::maximization::accumulate_leaf` meets its contract.
-use mathlib.Core.Path.{◌≡◌, refl, ap, ◌∙◌}
-use Prim.Native.Nat.{ℕ}
-use native.Mathlib.Omega.{arith}
 use lib.ListN.{get_or}
 use lib.Ieee.{nan}
 use Rattle.rows.specs.Rows.{row_of}
 use Rattle.mixture_run.specs.Areas.{parts_in}
-use Rattle.mixture_run.proofs.Sizes.{area_of, group_of}
-use Rattle.mixture_run.proofs.Statistics.{leaf_done, leaf_start, leaf_turn}
+use Rattle.mixture_run.proofs.Statistics.{leaf_start, leaf_turn}
 use Rattle.mixture_run.proofs.maximization.accumulate_leaf.Goals as goal
 
 pub loop-c-init : goal.loop-c-init
 loop-c-init c =
     let a = c.args in
-    let p = parts_in a.m a.k a.d in (
-      omega arith,
-      refl,
-      leaf_start a.k a.d a.i (get_or a.weights.now a.i nan) (row_of a.coords.now a.d a.i)
-          (p a.work.now),
-    )
-
-pub accumulate_group-requires : goal.accumulate_group-requires
-accumulate_group-requires c =
-    let l = c.loop-c in
-    let a = c.args in record {
-      area = area_of _ _ a.m a.k a.d l.invariant.1 c.requires.area;
-      coords_len = (c.requires.leaves.0.coords_long, c.requires.leaves.1, group_of l.c a.k a.d c.loop-c-test.true);
-    }
+    let p = parts_in a.m a.k a.d in
+    leaf_start a.k a.d a.i (get_or a.weights.now a.i nan) (row_of a.coords.now a.d a.i) (p a.work.now)
 
 pub loop-c-preserved : goal.loop-c-preserved
 loop-c-preserved c =
     let l = c.loop-c in
     let a = c.args in
-    let p = parts_in a.m a.k a.d in (
-      omega (arith, c.loop-c-test.true),
-      c.accumulate_group.auto.work ∙ l.invariant.1,
-      leaf_turn a.k a.d a.i (get_or a.weights.now a.i nan) (row_of a.coords.now a.d a.i) (p a.work.now)
-          (p l.work)
-          (p c.accumulate_group.new.work) l.c l.invariant.2 c.accumulate_group.ensures,
-    )
-
-pub returns : goal.returns
-returns c =
-    let l = c.loop-c in
-    let a = c.args in
-    let p = parts_in a.m a.k a.d a.work.now in
-    let e : l.c ≡ a.k = omega (arith, c.loop-c-test.false) in
-    l.invariant.2 ∙ ap (λ (n : ℕ). leaf_done a.k a.d a.i (get_or a.weights.now a.i nan) (row_of a.coords.now a.d a.i) p n)
-    e
+    let p = parts_in a.m a.k a.d in
+    leaf_turn a.k a.d a.i (get_or a.weights.now a.i nan) (row_of a.coords.now a.d a.i) (p a.work.now) (p l.work)
+    (p c.accumulate_group.new.work) l.c l.invariant c.accumulate_group.ensures

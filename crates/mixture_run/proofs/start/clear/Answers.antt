@@ -10,9 +10,6 @@ use Rattle.mixture_run.proofs.Regions.{weights_r, resp_r}
 use Rattle.mixture_run.proofs.Groups.{fill_in}
 use Rattle.mixture_run.proofs.start.clear.Goals as goal
 
-pub shape_of-work : goal.shape_of-work
-shape_of-work c = c.fill_at-2.auto.work ∙ c.fill_at.auto.work
-
 pub returns : goal.returns
 unfolding of_bits
 returns c =

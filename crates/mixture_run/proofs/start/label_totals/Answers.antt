@@ -9,7 +9,6 @@ use Rattle.mixture_run.specs.Areas.{parts_in, with_totals}
 use Rattle.mixture_run.proofs.Regions.{totals_r}
 use Rattle.mixture_run.proofs.Groups.{fill_in}
 use Rattle.mixture_run.proofs.LabelTotals.{totals_start, totals_turn, totals_end}
-use borrow.Author.Rules.{rules}
 use Rattle.mixture_run.proofs.start.label_totals.Goals.{After-fill_at, In-loop-i}
 use Rattle.mixture_run.proofs.start.label_totals.Goals as goal
 
@@ -31,44 +30,19 @@ label_of c = c.requires.labels c.loop-i.i (omega arith)
 
 pub loop-i-init : goal.loop-i-init
 loop-i-init c =
-    let a = c.args in (
-      search rules,
-      refl,
-      totals_start a.m a.k a.d _ a.weights.now a.work_u32.now a.work.now
-          (cleared (goal.at.loop-i-init c).After-fill_at),
-    )
-
-pub overflow_cast-at : goal.overflow_cast-at
-overflow_cast-at c = search (label_of (goal.at.overflow_cast-at c).In-loop-i, rules)
-
-pub overflow_add-at : goal.overflow_add-at
-overflow_add-at c = search (label_of (goal.at.overflow_add-at c).In-loop-i, rules)
-
-pub offset_bounds-work-at : goal.offset_bounds-work-at
-offset_bounds-work-at c = search (label_of (goal.at.offset_bounds-work-at c).In-loop-i, rules)
-
-pub bounds-work-at : goal.bounds-work-at
-bounds-work-at c = search (label_of (goal.at.bounds-work-at c).In-loop-i, rules)
-
-pub offset_bounds-work-at-in-loop-i : goal.offset_bounds-work-at-in-loop-i
-offset_bounds-work-at-in-loop-i c = search (label_of (goal.at.offset_bounds-work-at-in-loop-i c).In-loop-i, rules)
-
-pub bounds-work-at-in-loop-i : goal.bounds-work-at-in-loop-i
-bounds-work-at-in-loop-i c = search (label_of (goal.at.bounds-work-at-in-loop-i c).In-loop-i, rules)
+    let a = c.args in
+    totals_start a.m a.k a.d _ a.weights.now a.work_u32.now a.work.now (cleared (goal.at.loop-i-init c).After-fill_at)
 
 pub loop-i-preserved : goal.loop-i-preserved
 loop-i-preserved c =
     let l = c.loop-i in
-    let a = c.args in (
-      omega arith,
-      search rules,
-      totals_turn a.m a.k a.d _ a.weights.now a.work_u32.now l.work _ l.i
-          (omega (arith, c.totals_at-totals.ensures)) (omega arith) (label_of (goal.at.loop-i-preserved c).In-loop-i) l.invariant.2,
-    )
+    let a = c.args in
+    totals_turn a.m a.k a.d _ a.weights.now a.work_u32.now l.work _ l.i (omega (arith, c.totals_at-totals.ensures)) (omega arith)
+    (label_of (goal.at.loop-i-preserved c).In-loop-i) l.invariant
 
 pub returns : goal.returns
 returns c =
     let l = c.loop-i in
     let a = c.args in
     totals_end a.m a.k a.d _ a.weights.now a.work_u32.now a.work.now l.work l.i (omega arith)
-    (cleared (goal.at.returns c).After-fill_at) l.invariant.2
+    (cleared (goal.at.returns c).After-fill_at) l.invariant

@@ -1,16 +1,10 @@
 -- `mixture_run::start::label_totals` meets its contract. The loop's invariant: the totals are those of the first i leaves, beside the parts
 -- of the start. Assumes nothing.
 use mathlib.Core.Path.{◌≡◌}
-use Prim.Native.Nat.{◌≤◌, ◌-◌}
-use lib.ListN.{length}
 use Rattle.mixture_run.specs.Areas.{parts_in}
 use Rattle.mixture_run.proofs.LabelTotals.{totalled}
 use Rattle.mixture_run.proofs.start.label_totals.Given as goal
 
 abbrev pub invariant-loop-i : goal.invariant-loop-i
 invariant-loop-i l =
-    (l.i ≤ l.m) × (length l.work ≡ length l.initial.work)
-    × (parts_in l.m l.k l.d l.work ≡ totalled l.m l.k l.d l.initial.work l.weights l.work_u32 l.i)
-
-abbrev pub decreases-loop-i : goal.decreases-loop-i
-decreases-loop-i l = l.m - l.i
+    parts_in l.m l.k l.d l.work ≡ totalled l.m l.k l.d l.initial.work l.weights l.work_u32 l.i
