@@ -11,7 +11,11 @@ use lib.ListN.{length, get_or, drop, drop_of_length-le}
 use lib.Seq.{drop-cons}
 use lib.Ieee.{Float, nan}
 use borrow.Author.Tests.{leb-true, eqb-true}
-use Rattle.limits.specs.Limits.{need, every, sizes_ok, groups_ok}
+use Rattle.std.specs.Prelude.{Result, Ok, is_err, ⊤}
+use Rattle.limits.specs.Refusals.{need}
+use Rattle.limits.specs.declared.Refusal.{Refusal}
+use Rattle.limits.specs.declared.Refusal.TheVariants.{Sizes, Groups, Rounds, Arrays, Weight, Coordinate}
+use Rattle.limits.specs.Limits.{every, sizes_ok, groups_ok}
 
 -- ---- a list of which the first j elements are ok
 module _ (ok : Float → Bool) (xs : List Float) (j : ℕ) where
@@ -26,9 +30,9 @@ pub both : (a b : Bool) → (a && b) ≡ true → (a ≡ true) × (b ≡ true)
 both true b e = (refl, e)
 both false b e = absurd (subst T (sym e) tt)
 
-pub met : (t : Bool) (code rest : ℕ) → need t (suc code) rest ≡ 0 → (t ≡ true) × (rest ≡ 0)
-met true code rest e = (refl, e)
-met false code rest e = absurd (omega (arith, e))
+pub met : (t : Bool) (e : Refusal) (rest : Result ⊤ Refusal) → need t e rest ≡ Ok tt → (t ≡ true) × (rest ≡ Ok tt)
+met true e rest h = (refl, h)
+met false e rest h = absurd (subst (λ (r : Result ⊤ Refusal). T (is_err r)) h tt)
 
 -- the six tests that the entries share the order of, where nothing is refused
 pub record Admitted (sizes groups settings arrays weights coords : Bool) : Type 0 where
@@ -40,15 +44,16 @@ pub record Admitted (sizes groups settings arrays weights coords : Bool) : Type 
   pub coords_ok : coords ≡ true
 
 pub admitted : (sizes groups settings arrays weights coords : Bool)
-    → need sizes 1 (need groups 2 (need settings 3 (need arrays 4 (need weights 5 (need coords 6 0))))) ≡ 0
+    → need sizes Sizes (need groups Groups (need settings Rounds (need arrays Arrays (need weights Weight (need coords Coordinate (Ok tt))))))
+    ≡ Ok tt
     → Admitted sizes groups settings arrays weights coords
 admitted sizes groups settings arrays weights coords e =
-    let e1 = met sizes 0 _ e in
-    let e2 = met groups 1 _ e1.1 in
-    let e3 = met settings 2 _ e2.1 in
-    let e4 = met arrays 3 _ e3.1 in
-    let e5 = met weights 4 _ e4.1 in
-    let e6 = met coords 5 0 e5.1 in
+    let e1 = met sizes _ _ e in
+    let e2 = met groups _ _ e1.1 in
+    let e3 = met settings _ _ e2.1 in
+    let e4 = met arrays _ _ e3.1 in
+    let e5 = met weights _ _ e4.1 in
+    let e6 = met coords _ _ e5.1 in
     record { sizes_ok_law = e1.0; groups_ok_law = e2.0; settings_ok = e3.0; arrays_ok_law = e4.0; weights_ok = e5.0; coords_ok = e6.0 }
 
 pub sizes_met : (m d coords : ℕ) → sizes_ok m d coords ≡ true → (1 ≤ m) × (m ≤ 4096) × (1 ≤ d) × (d ≤ 256) × (coords ≡ m * d)
