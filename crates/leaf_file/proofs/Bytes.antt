@@ -9,6 +9,7 @@ use native.Mathlib.Omega.{arith}
 use lib.Dec.{leb, eqb}
 use borrow.Author.Tests.{le-leb, leb-true, eqb-true}
 use lib.ListN.{length, get_or}
+use Rattle.std.specs.Prelude.{Ok}
 use Rattle.limits.proofs.Limits.{both, met}
 use Rattle.leaf_file.specs.LeafFile.{whole_at, refusal_by, file_refusal}
 use Rattle.leaf_file.specs.Texts.{Sized}
@@ -45,13 +46,13 @@ unfolding file_refusal
 refused_by bytes m d p q h = rw (p, q, le-leb 8 (length bytes) h) refl
 
 -- what it says that nothing is refused
-pub sized : (bytes : List ℕ) (m d : ℕ) → m ≡ whole_at bytes 0 4 → d ≡ whole_at bytes 4 4 → file_refusal bytes ≡ 0
+pub sized : (bytes : List ℕ) (m d : ℕ) → m ≡ whole_at bytes 0 4 → d ≡ whole_at bytes 4 4 → file_refusal bytes ≡ Ok tt
     → (8 ≤ length bytes) × (Sized (length bytes) 64 1024 m d)
 unfolding file_refusal
 sized bytes m d p q e =
-    let e1 = met (leb 8 (length bytes)) 7 _ e in
-    let e2 = met (leb (whole_at bytes 0 4) 64 && leb (whole_at bytes 4 4) 16) 8 _ e1.1 in
-    let e3 = met (eqb (length bytes) (8 + 8 * whole_at bytes 0 4 + 8 * (whole_at bytes 0 4 * whole_at bytes 4 4))) 7 0 e2.1 in
+    let e1 = met (leb 8 (length bytes)) _ _ e in
+    let e2 = met (leb (whole_at bytes 0 4) 64 && leb (whole_at bytes 4 4) 16) _ _ e1.1 in
+    let e3 = met (eqb (length bytes) (8 + 8 * whole_at bytes 0 4 + 8 * (whole_at bytes 0 4 * whole_at bytes 4 4))) _ _ e2.1 in
     let b = both (leb (whole_at bytes 0 4) 64) (leb (whole_at bytes 4 4) 16) e2.0 in
     let few : m ≤ 64 = omega (arith, p, leb-true (whole_at bytes 0 4) 64 b.0) in
     let narrow : d ≤ 16 = omega (arith, q, leb-true (whole_at bytes 4 4) 16 b.1) in (

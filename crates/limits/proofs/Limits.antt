@@ -12,9 +12,10 @@ use lib.Seq.{drop-cons}
 use lib.Ieee.{Float, nan}
 use borrow.Author.Tests.{leb-true, eqb-true}
 use Rattle.std.specs.Prelude.{Result, Ok, is_err, ⊤}
-use Rattle.limits.specs.Refusals.{need}
+use Rattle.limits.specs.Refusals.{number_of, need}
 use Rattle.limits.specs.declared.Refusal.{Refusal}
 use Rattle.limits.specs.declared.Refusal.TheVariants.{Sizes, Groups, Rounds, Arrays, Weight, Coordinate}
+use Rattle.limits.specs.declared.Refusal.TheVariants.{FileLength, FileSizes, Kappa}
 use Rattle.limits.specs.Limits.{every, sizes_ok, groups_ok}
 
 -- ---- a list of which the first j elements are ok
@@ -33,6 +34,18 @@ both false b e = absurd (subst T (sym e) tt)
 pub met : (t : Bool) (e : Refusal) (rest : Result ⊤ Refusal) → need t e rest ≡ Ok tt → (t ≡ true) × (rest ≡ Ok tt)
 met true e rest h = (refl, h)
 met false e rest h = absurd (subst (λ (r : Result ⊤ Refusal). T (is_err r)) h tt)
+
+-- no refusal has the number 0
+pub numbered : (e : Refusal) → number_of e ≡ 0 → ⊥
+numbered Sizes h = omega (arith, h)
+numbered Groups h = omega (arith, h)
+numbered Rounds h = omega (arith, h)
+numbered Arrays h = omega (arith, h)
+numbered Weight h = omega (arith, h)
+numbered Coordinate h = omega (arith, h)
+numbered FileLength h = omega (arith, h)
+numbered FileSizes h = omega (arith, h)
+numbered Kappa h = omega (arith, h)
 
 -- the six tests that the entries share the order of, where nothing is refused
 pub record Admitted (sizes groups settings arrays weights coords : Bool) : Type 0 where

@@ -1,15 +1,17 @@
 -- What it says that a mixture fit is not refused: the leaves are within the limits, and the arrays are long enough for its runs
 -- and outputs. By cases on the Bools of the tests. Assumes nothing.
-use mathlib.Core.Path.{◌≡◌, refl}
+use mathlib.Core.Path.{◌≡◌, refl, sym, subst, ◌∙◌}
 use mathlib.Core.List.{List}
 use mathlib.Core.Bool.{Bool, true}
 use Prim.Native.Nat.{ℕ, ◌*◌, ◌≤◌}
 use native.Mathlib.Nat.{mul-le-mul}
 use native.Mathlib.Omega.{arith}
-use lib.Dec.{leb}
+use lib.Dec.{T, leb}
 use lib.ListN.{length}
 use lib.Ieee.{Float}
 use borrow.Author.Tests.{leb-true, le-leb}
+use Rattle.std.specs.Prelude.{Result, Ok, Err, is_err, ⊤}
+use Rattle.limits.specs.declared.Refusal.{Refusal}
 use Rattle.limits.specs.Limits.{every, weight_ok, coordinate_ok, sizes_ok, rounds_ok, work_length, work_u32_length, most_groups, LeavesOk}
 use Rattle.limits.proofs.Limits.{both, admitted, sizes_met}
 use Rattle.limits.proofs.Sizes.{sizes_of}
@@ -18,6 +20,10 @@ use Rattle.mixture_restarts.proofs.Halves.{halves_of}
 use Rattle.mixture_outputs.specs.Refusals.{outputs_ok, arrays_ok, fit_refusal}
 use Rattle.mixture_outputs.specs.Fillable.{LeavesFit, GroupsFit, Fillable, Fittable}
 use Rattle.mixture_outputs.specs.declared.Lengths.{Lengths}
+
+-- ---- a call is refused or it is not
+pub err_not_ok : (r : Result ⊤ Refusal) (e : Refusal) → r ≡ Err e → r ≡ Ok tt → ⊥
+err_not_ok r e h g = subst (λ (x : Result ⊤ Refusal). T (is_err x)) (sym h ∙ g) tt
 
 -- ---- the arrays are long enough for k groups
 record Arrays (m k d : ℕ) (l : Lengths) : Type 0 where
@@ -74,7 +80,7 @@ pub record Ready (groups : Bool) (weights coords : List Float) (d k rounds : ℕ
   pub leaves : LeavesOk weights coords d
 
 pub ready : (groups : Bool) (weights coords : List Float) (d k : ℕ) (s : Settings) (l : Lengths)
-    → (groups ≡ true → (1 ≤ k) × (k ≤ most_groups)) → fit_refusal groups weights coords d k s l ≡ 0
+    → (groups ≡ true → (1 ≤ k) × (k ≤ most_groups)) → fit_refusal groups weights coords d k s l ≡ Ok tt
     → Ready groups weights coords d k s.rounds l
 unfolding fit_refusal
 ready groups weights coords d k s l few none =
@@ -107,7 +113,7 @@ ready groups weights coords d k s l few none =
 
 -- a fit of hi groups that is not refused is not with fewer, if their number is admitted
 pub fewer_groups : (groups groups' : Bool) (weights coords : List Float) (d hi k : ℕ) (s : Settings) (l : Lengths) → groups' ≡ true
-    → k ≤ hi → fit_refusal groups weights coords d hi s l ≡ 0 → fit_refusal groups' weights coords d k s l ≡ 0
+    → k ≤ hi → fit_refusal groups weights coords d hi s l ≡ Ok tt → fit_refusal groups' weights coords d k s l ≡ Ok tt
 unfolding fit_refusal
 fewer_groups groups groups' weights coords d hi k s l ok most none =
     let m = length weights in
