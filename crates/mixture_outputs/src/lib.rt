@@ -53,6 +53,7 @@ fn arrays_ok(m: usize, k: usize, d: usize, l: Lengths) -> bool
 
 // The first refusal from 1 to 6 that holds, if any, of a fit of k groups, of the automatic fit up to k. Whether k is
 // admitted is the fit's to say.
+#[tactic(auto, unfolding(crate::specs::Refusals::fit_refusal))]
 pub fn check(
     weights: &[f64],
     coords: &[f64],
