@@ -23,18 +23,6 @@ some_at h = let a = h.args in highest_some a.k_max (length a.weights.now) _ h.hi
 pub check-requires : goal.check-requires
 check-requires c = λ e. leb-true _ _ e
 
-pub returns-in_err-check : goal.returns-in_err-check
-returns-in_err-check c =
-    let l = c.lowest_number-lo in
-    let h = c.highest_number-hi in
-    let o₀ = found (goal.at.returns-in_err-check c).Start in
-    let a = c.args in
-    let e = sym c.check.ensures ∙ c.in_err-check.was in record {
-      logw_after = ?;
-      answer_keeps_best = ?;
-      answer_labels_first = ?;
-    }
-
 pub fit_range-t-requires : goal.fit_range-t-requires
 fit_range-t-requires c =
     let l = c.lowest_number-lo in
