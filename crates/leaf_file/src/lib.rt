@@ -77,12 +77,13 @@ fn check_sizes(n: usize, m: u64, d: u64) -> Result<(), Refusal>
 
 // The sizes that a file says.
 #[derive(Clone, Copy)]
-pub struct Header {
-    pub m: usize,
-    pub d: usize,
+struct Header {
+    m: usize,
+    d: usize,
 }
 
 // The sizes that a file says, unless it is refused.
+#[tactic(auto, unfolding(crate::specs::LeafFile::file_refusal))]
 fn header_of(bytes: &[u8]) -> Result<Header, Refusal>
     ensures { result ≡ header_of bytes.now }
 {
