@@ -16,7 +16,7 @@ use Rattle.mixture_outputs.specs.Outputs.{Outputs, lengths_of}
 use Rattle.mixture_outputs.specs.declared.Lengths.{Lengths}
 use Rattle.mixture_restarts.proofs.Lengths.{fit_resp}
 use Rattle.mixture_outputs.specs.Labels.{LabelsFirst}
-use Rattle.mixture_outputs.proofs.Refusals.{Ready, ready, err_not_ok}
+use Rattle.mixture_outputs.proofs.Refusals.{Ready, ready}
 use Rattle.mixture_outputs.proofs.Labels.{written_first}
 use Rattle.std.specs.Prelude.{Some, None, Result, Ok, Err, ⊤}
 use Rattle.limits.specs.declared.Refusal.{Refusal}
@@ -68,19 +68,6 @@ module _ (o : Outputs) (weights coords : List Float) (d kMin kMax : ℕ) (s : Se
 
   in_range : outcome_in o weights coords d s lo hi work workU32 ≡ whole
   in_range = rw (el, eh)
-
-  pub refused : (e : Refusal) → code ≡ Err e → ◌≡◌ {A = Outcome} (record { answer = Err (Refused e); outputs = o }) whole
-  refused e h =
-      let f : ◌≡◌ {A = Outcome} (record { answer = Err (Refused e); outputs = o }) (outcome_in o weights coords d s lo hi work workU32) = rw h in
-      f ∙ in_range
-
-  -- a call that is refused has nothing to keep
-  pub refused_best : (e : Refusal) → code ≡ Err e → AnswerKeepsBest o weights coords d s kMin kMax work workU32 (Err (Refused e)) o
-  refused_best e h found z =
-      absurd (err_not_ok code e h (ap (λ (n : ℕ). refusal_of weights coords d n s (lengths_of o work workU32)) eh ∙ z))
-
-  pub refused_first : (e : Refusal) → AnswerLabelsFirst (length weights) (Err (Refused e)) o
-  refused_first e found z = absurd (numbered e z)
 
   module _ (t : Tally) (r : Result Chosen NotChosen) (o' : Outputs) (fit : Fitted weights coords d s o lo (hi + 1 - lo) t o') (er : r ≡ answer_of t) where
     done_in : ◌≡◌ {A = Outcome} (record { answer = r; outputs = o' }) (ended o weights coords d s lo hi)

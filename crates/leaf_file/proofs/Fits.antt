@@ -14,7 +14,6 @@ use Rattle.auto.specs.Outcome.{Outcome, outcome}
 use Rattle.auto.specs.Best.{AnswerKeepsBest}
 use Rattle.std.specs.Prelude.{Result, Ok, Err, ⊤}
 use Rattle.limits.specs.declared.Refusal.{Refusal}
-use Rattle.mixture_outputs.proofs.Refusals.{err_not_ok}
 use Rattle.auto.specs.declared.NotChosen.TheVariants.{Refused}
 use Rattle.leaf_file.specs.LeafFile.{Leaves, whole_at, f64s_at, leaves_of, leaves_in, file_refusal, settings, room}
 use Rattle.leaf_file.specs.LeafFile.{work_room, work_u32_room, leaves_fit, LeavesKeepBest, FileFit, file_fit_by, file_fit}
@@ -58,18 +57,3 @@ pub front_read : (f : ℕ → Float) (w v : List Float) (n : ℕ) → n ≤ leng
 front_read f w v n h e =
     let g : v ≡ tabulate f n = e ∙ ap (tabulate f) (length-take-le n w h) in
     take_at v (drop n w) n (ap length g ∙ tabulate_length f n) ∙ g
-
--- a file, once it is known whether it is refused
-pub file_refused : (bytes labels : List ℕ) (e : Refusal) → file_refusal bytes ≡ Err e
-    → (◌≡◌ {A = FileFit} (record { answer = Err (Refused e); labels = labels }) (file_fit bytes labels))
-    × (file_refusal bytes ≡ Ok tt → LeavesKeepBest (leaves_in bytes) labels (Err (Refused e)))
-file_refused bytes labels e h = (rw h refl, λ z. absurd (err_not_ok (file_refusal bytes) e h z))
-
-pub file_fitted : (bytes labels : List ℕ) (m d : ℕ) (x : FileFit) → m ≡ whole_at bytes 0 4 → d ≡ whole_at bytes 4 4 → file_refusal bytes ≡ Ok tt
-    → (x ≡ file_fit_by (Ok tt) (leaves_of bytes m d) labels) × (LeavesKeepBest (leaves_of bytes m d) labels x.answer)
-    → (x ≡ file_fit bytes labels) × (file_refusal bytes ≡ Ok tt → LeavesKeepBest (leaves_in bytes) labels x.answer)
-file_fitted bytes labels m d x p q e f =
-    let g : (x ≡ file_fit_by (Ok tt) (leaves_in bytes) labels) × (LeavesKeepBest (leaves_in bytes) labels x.answer) =
-    subst (λ (l : Leaves). (x ≡ file_fit_by (Ok tt) l labels) × (LeavesKeepBest l labels x.answer))
-    (ap₂ (λ (i j : ℕ). leaves_of bytes i j) p q) f in
-    (g.0 ∙ ap (λ (n : Result ⊤ Refusal). file_fit_by n (leaves_in bytes) labels) (sym e), λ z. g.1)

@@ -100,7 +100,12 @@ fn header_of(bytes: &[u8]) -> Result<Header, Refusal>
 // ---- the fit
 
 // The automatic fit of leaves: k 1 to 4, 100 rounds, seed 7, Free.
-fn fit_leaves(weights: &[f64], coords: &[f64], d: usize, labels: &mut [u32]) -> Result<Chosen, NotChosen>
+fn fit_leaves(
+    weights: &[f64],
+    coords: &[f64],
+    d: usize,
+    labels: &mut [u32],
+) -> Result<Chosen, NotChosen>
     ensures fact { ◌≡◌ {A = FileFit} (record { answer = result; labels = labels.new })
         (file_fit_by (Ok tt) (record { d = d; weights = weights.now; coords = coords.now })
         labels.old) }

@@ -1,30 +1,17 @@
 -- The limits: a list whose elements are tested one by one, and what each limit says where its tests are passed. By cases on the Bools of
 -- the tests. Assumes nothing.
 use mathlib.Core.Path.{◌≡◌, refl, sym, subst}
-use mathlib.Core.List.{List}
 use mathlib.Core.Bool.{Bool, true, false, ◌&&◌}
-use Prim.Native.Nat.{ℕ, suc, ◌+◌, ◌*◌, ◌≤◌, ◌<◌}
-use native.Mathlib.Numerals.{add-one}
+use Prim.Native.Nat.{ℕ, ◌*◌, ◌≤◌}
 use native.Mathlib.Omega.{arith}
 use lib.Dec.{T, eqb, leb}
-use lib.ListN.{length, get_or, drop, drop_of_length-le}
-use lib.Seq.{drop-cons}
-use lib.Ieee.{Float, nan}
 use borrow.Author.Tests.{leb-true, eqb-true}
 use Rattle.std.specs.Prelude.{Result, Ok, is_err, ⊤}
 use Rattle.limits.specs.Refusals.{number_of, need}
 use Rattle.limits.specs.declared.Refusal.{Refusal}
 use Rattle.limits.specs.declared.Refusal.TheVariants.{Sizes, Groups, Rounds, Arrays, Weight, Coordinate}
 use Rattle.limits.specs.declared.Refusal.TheVariants.{FileLength, FileSizes, Kappa}
-use Rattle.limits.specs.Limits.{every, sizes_ok, groups_ok}
-
--- ---- a list of which the first j elements are ok
-module _ (ok : Float → Bool) (xs : List Float) (j : ℕ) where
-  pub every_turn : j < length xs → (t : Bool) → t ≡ ok (get_or xs j nan) → every ok (drop j xs) ≡ (t && every ok (drop (j + 1) xs))
-  every_turn h t e = rw (e, add-one, drop-cons xs j nan)
-
-  pub every_end : length xs ≤ j → every ok (drop j xs) ≡ true
-  every_end h = rw (drop_of_length-le xs h)
+use Rattle.limits.specs.Limits.{sizes_ok, groups_ok}
 
 -- ---- what the tests say
 pub both : (a b : Bool) → (a && b) ≡ true → (a ≡ true) × (b ≡ true)

@@ -1,5 +1,5 @@
 -- Document 01, 'Leaves, settings, fit' and 'Refusals by call': the limits that the entries share. Definitions only.
-use Rattle.std.specs.Prelude.{◌≡◌, List, [], ◌∷◌, Bool, true, false, ◌&&◌, ℕ, ◌+◌, ◌*◌, eqb, leb, length, Float, Result, Ok, ⊤}
+use Rattle.std.specs.Prelude.{◌≡◌, List, [], ◌∷◌, Bool, true, ◌&&◌, ℕ, ◌+◌, ◌*◌, eqb, leb, length, Float, Result, Ok, ⊤}
 use Rattle.std.specs.Float.Ieee.{neg, le}
 use Rattle.float.specs.Arithmetic.{number, plus_zero}
 use Rattle.limits.specs.Refusals.{need}

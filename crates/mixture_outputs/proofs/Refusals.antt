@@ -21,10 +21,6 @@ use Rattle.mixture_outputs.specs.Refusals.{outputs_ok, arrays_ok, fit_refusal}
 use Rattle.mixture_outputs.specs.Fillable.{LeavesFit, GroupsFit, Fillable, Fittable}
 use Rattle.mixture_outputs.specs.declared.Lengths.{Lengths}
 
--- ---- a call is refused or it is not
-pub err_not_ok : (r : Result ⊤ Refusal) (e : Refusal) → r ≡ Err e → r ≡ Ok tt → ⊥
-err_not_ok r e h g = subst (λ (x : Result ⊤ Refusal). T (is_err x)) (sym h ∙ g) tt
-
 -- ---- the arrays are long enough for k groups
 record Arrays (m k d : ℕ) (l : Lengths) : Type 0 where
   leaves : LeavesFit l.labels l.responsibilities m k

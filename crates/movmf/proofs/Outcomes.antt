@@ -37,10 +37,6 @@ pub admitted : (weights coords : List Float) (d k : ℕ) (s : Settings) (l : Len
 admitted weights coords d k s l e = ready (groups_ok k (length weights)) weights coords d k s l (few k (length weights)) e
 
 module _ (o : Outputs) (weights coords : List Float) (d k : ℕ) (s : Settings) (work workU32 : ℕ) where
-  pub refused : (e : Refusal) → refusal_of weights coords d k s (lengths_of o work workU32) ≡ Err e
-      → ◌≡◌ {A = Outcome} (record { answer = Err e; outputs = o }) (outcome o weights coords d k s work workU32)
-  refused e h = rw h
-
   pub done : refusal_of weights coords d k s (lengths_of o work workU32) ≡ Ok tt
       → (w : List Float) (r : Runs) (loglik : Float) (o' : Outputs)
       → Both (runs_up_to s weights coords (length weights) k d 2) (run_of s weights coords (length weights) k d 3) w (length weights) k d r

@@ -38,11 +38,6 @@ module _ (weights coords : List Float) (d k rounds restarts labels directions wo
 
 -- the two ends
 module _ (ls : List ℕ) (ds weights coords : List Float) (d k rounds restarts seed work workU32 : ℕ) where
-  pub refused : (e : Refusal) → refusal_of weights coords d k rounds restarts (length ls) (length ds) work workU32 ≡ Err e
-      → ◌≡◌ {A = Outcome} (record { answer = Err e; labels = ls; directions = ds })
-      (outcome ls ds weights coords d k rounds restarts seed work workU32)
-  refused e h = rw h
-
   pub done : refusal_of weights coords d k rounds restarts (length ls) (length ds) work workU32 ≡ Ok tt
       → (w : List Float) (u : List ℕ) (h : Restarts) (ls' : List ℕ) (ds' : List Float)
       → Holds (kmeans_of weights coords (length weights) k d rounds restarts seed) w u (length weights) k d 64 h

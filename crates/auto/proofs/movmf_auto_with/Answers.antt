@@ -6,8 +6,8 @@ use lib.ListN.{length}
 use borrow.Author.Tests.{leb-true}
 use Rattle.logarithm.specs.Logarithm.{ln_of}
 use Rattle.mixture_outputs.specs.Outputs.{Outputs, arrays, lengths_of}
-use Rattle.auto.proofs.Outcomes.{highest_some, lowest_some, lowest_most, admitted, refused, refused_best}
-use Rattle.auto.proofs.Outcomes.{refused_first, done, done_best, done_first}
+use Rattle.auto.proofs.Outcomes.{highest_some, lowest_some, lowest_most, admitted}
+use Rattle.auto.proofs.Outcomes.{done, done_best, done_first}
 use Rattle.auto.proofs.movmf_auto_with.Goals.{After-highest_number-hi, Start}
 use Rattle.auto.proofs.movmf_auto_with.Goals as goal
 

@@ -9,7 +9,7 @@ use Rattle.mixture_outputs.specs.Fillable.{Fittable}
 use Rattle.mixture_outputs.proofs.Refusals.{fillable}
 use Rattle.std.specs.Prelude.{Ok}
 use Rattle.movmf.specs.Refusals.{refusal_of}
-use Rattle.movmf.proofs.Outcomes.{few, admitted, refused, done, number_is, first_is}
+use Rattle.movmf.proofs.Outcomes.{few, admitted, done, number_is, first_is}
 use Rattle.movmf.proofs.movmf_with.Goals.{In_ok-check, Start}
 use Rattle.movmf.proofs.movmf_with.Goals as goal
 

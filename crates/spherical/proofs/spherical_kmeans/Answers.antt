@@ -4,7 +4,7 @@ use mathlib.Core.Path.{sym, ◌∙◌}
 use lib.ListN.{length}
 use Rattle.spherical.proofs.Refusals.{Ready, ready}
 use Rattle.kmeans_restarts.proofs.Halves.{fillable_of}
-use Rattle.spherical.proofs.Outcomes.{entry_runnable, entry_fillable, refused, done, number_is}
+use Rattle.spherical.proofs.Outcomes.{entry_runnable, entry_fillable, done, number_is}
 use Rattle.spherical.proofs.Work.{work_is}
 use Rattle.spherical.proofs.spherical_kmeans.Goals.{In_ok-check}
 use Rattle.spherical.proofs.spherical_kmeans.Goals as goal
