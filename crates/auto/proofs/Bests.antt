@@ -12,9 +12,8 @@ use Rattle.counts.specs.Counts.{sum_over}
 use Rattle.counts.specs.declared.Counts.{Counts}
 use Rattle.mixture_kappa.specs.declared.Settings.{Settings}
 use Rattle.mixture_outputs.specs.Outputs.{Outputs}
-use Rattle.auto_choice.specs.Choice.{BestOf}
-use Rattle.auto_choice.specs.declared.Choice.{Choice}
-use Rattle.auto_choice.specs.declared.Choice.TheVariants.{Number, Nothing}
+use Rattle.std.specs.Prelude.{Some, None}
+use Rattle.auto_choice.specs.Choice.{Choice, BestOf}
 use Rattle.auto_choice.proofs.Choices.{Means, chosen_means, one_best}
 use Rattle.auto_tries.specs.Lone.{score, chosen_of, counts_of, written_by}
 use Rattle.auto.specs.Outcome.{answer_by, ended}
@@ -37,7 +36,7 @@ module _ (o : Outputs) (weights coords : List Float) (d : ℕ) (s : Settings) (l
 
   best_by : (c : Choice) → Means scores lo n c
       → Best weights coords d s lo hi (numbers_of found (answer_by weights coords d s counts c)) o (written_by weights coords d s c o)
-  best_by Nothing m =
+  best_by None m =
       record {
         kept_is_best = λ e. absurd (omega (arith, e));
         best_is_kept = λ k b. absurd (T_not (lt (scores k) (inf false)) (m k b.least (omega (arith, b.most))) b.below);
@@ -50,7 +49,8 @@ module _ (o : Outputs) (weights coords : List Float) (d : ℕ) (s : Settings) (l
         work = work_sum weights coords d s lo n;
         limit = limit;
       }
-  best_by (Number k x) m =
+  best_by (Some c) m =
+      let k = c.k in
       let best : BestOf scores lo hi k = subst (λ (i : ℕ). BestOf scores lo i k) (omega arith) m.1 in
       record {
         kept_is_best = λ e. best;

@@ -9,6 +9,7 @@ use lib.Dec.{leb}
 use lib.ListN.{length}
 use lib.Ieee.{Float}
 use borrow.Author.Tests.{le-leb, leb-true}
+use Rattle.std.specs.Prelude.{Ok}
 use Rattle.limits.specs.Limits.{groups_ok, most_groups}
 use Rattle.mixture_kappa.specs.declared.Settings.{Settings}
 use Rattle.mixture_outputs.specs.Outputs.{lengths_of}
@@ -29,7 +30,7 @@ in_leaves : (kMax m k : ℕ) → 1 ≤ m → k ≤ highest kMax m → k ≤ m
 in_leaves kMax m k h l = omega arith
 
 not_refused : (weights coords : List Float) (d kMax k : ℕ) (s : Settings) (l : Lengths) → 1 ≤ k → k ≤ highest kMax (length weights)
-    → refusal_of weights coords d (highest kMax (length weights)) s l ≡ 0 → movmf.refusal_of weights coords d k s l ≡ 0
+    → refusal_of weights coords d (highest kMax (length weights)) s l ≡ Ok tt → movmf.refusal_of weights coords d k s l ≡ Ok tt
 not_refused weights coords d kMax k s l some most e =
     let m = length weights in
     let hi = highest kMax m in

@@ -18,9 +18,10 @@ use Rattle.mixture_restarts.proofs.Lengths.{fit_resp}
 use Rattle.mixture_outputs.specs.Labels.{LabelsFirst}
 use Rattle.mixture_outputs.proofs.Refusals.{Ready, ready}
 use Rattle.mixture_outputs.proofs.Labels.{written_first}
-use Rattle.auto_choice.specs.Choice.{highest, lowest}
-use Rattle.auto_choice.specs.declared.Choice.{Choice}
-use Rattle.auto_choice.specs.declared.Choice.TheVariants.{Number, Nothing}
+use Rattle.std.specs.Prelude.{Some, None, Result, Ok, Err, ⊤}
+use Rattle.limits.specs.declared.Refusal.{Refusal}
+use Rattle.limits.proofs.Limits.{numbered}
+use Rattle.auto_choice.specs.Choice.{Choice, highest, lowest}
 use Rattle.auto_tries.specs.Lone.{lone, chosen_of, counts_of}
 use Rattle.auto_tries.specs.Tries.{loglik_by, Fitted}
 use Rattle.auto_tries.specs.declared.Tally.{Tally}
@@ -30,7 +31,8 @@ use Rattle.auto.specs.Answers.{Numbers, numbers_of, AnswerLabelsFirst}
 use Rattle.auto.specs.Best.{Best, AnswerKeepsBest}
 use Rattle.auto.specs.Tallied.{answer_of}
 use Rattle.auto.specs.declared.Chosen.{Chosen}
-use Rattle.auto.specs.declared.Chosen.TheVariants.{Refused}
+use Rattle.auto.specs.declared.NotChosen.{NotChosen}
+use Rattle.auto.specs.declared.NotChosen.TheVariants.{Refused}
 use Rattle.auto.proofs.Bests.{ended_best}
 
 -- ---- the range
@@ -44,7 +46,7 @@ pub lowest_most : (kMin hi lo : ℕ) → lo ≡ lowest kMin hi → lo ≤ hi
 lowest_most kMin hi lo e = omega arith
 
 -- where nothing is refused there is room for the greatest number of groups
-pub admitted : (weights coords : List Float) (d hi : ℕ) (s : Settings) (l : Lengths) → 1 ≤ hi → refusal_of weights coords d hi s l ≡ 0
+pub admitted : (weights coords : List Float) (d hi : ℕ) (s : Settings) (l : Lengths) → 1 ≤ hi → refusal_of weights coords d hi s l ≡ Ok tt
     → Ready (leb hi most_groups) weights coords d hi s.rounds l
 admitted weights coords d hi s l some e =
     ready (leb hi most_groups) weights coords d hi s l (λ (t : leb hi most_groups ≡ true). (some, leb-true hi most_groups t)) e
@@ -52,36 +54,22 @@ admitted weights coords d hi s l some e =
 -- ---- what the code answers after the last number is what goes with the choice
 tallied : (weights coords : List Float) (d : ℕ) (s : Settings) (counts : Counts) (c : Choice)
     → answer_of (record { choice = c; loglik = loglik_by weights coords d s c; counts = counts }) ≡ answer_by weights coords d s counts c
-tallied weights coords d s counts Nothing = refl
-tallied weights coords d s counts (Number k x) = refl
+tallied weights coords d s counts None = refl
+tallied weights coords d s counts (Some n) = refl
 
 -- ---- the ends, the range from lo to hi
 module _ (o : Outputs) (weights coords : List Float) (d kMin kMax : ℕ) (s : Settings) (work workU32 lo hi : ℕ)
-    (eh : hi ≡ highest kMax (length weights)) (el : lo ≡ lowest kMin hi) (code : ℕ)
-    (ec : code ≡ refusal_of weights coords d hi s (lengths_of o work workU32)) where
+    (eh : hi ≡ highest kMax (length weights)) (el : lo ≡ lowest kMin hi) where
+  abbrev code : Result ⊤ Refusal
+  code = refusal_of weights coords d hi s (lengths_of o work workU32)
+
   abbrev whole : Outcome
   whole = outcome o weights coords d s kMin kMax work workU32
 
   in_range : outcome_in o weights coords d s lo hi work workU32 ≡ whole
   in_range = rw (el, eh)
 
-  refused_in : (n : ℕ) → n ≡ refusal_of weights coords d hi s (lengths_of o work workU32) → (n ≡ 0 → ⊥)
-      → ◌≡◌ {A = Outcome} (record { answer = Refused n; outputs = o }) (outcome_in o weights coords d s lo hi work workU32)
-  refused_in zero e h = absurd (h refl)
-  refused_in (suc n) e h = rw (← e)
-
-  pub refused : (code ≡ 0 → ⊥) → ◌≡◌ {A = Outcome} (record { answer = Refused code; outputs = o }) whole
-  refused h = refused_in code ec h ∙ in_range
-
-  -- a call that is refused has nothing to keep
-  pub refused_best : (code ≡ 0 → ⊥) → AnswerKeepsBest o weights coords d s kMin kMax work workU32 (Refused code) o
-  refused_best h found z =
-      absurd (h (ec ∙ ap (λ (n : ℕ). refusal_of weights coords d n s (lengths_of o work workU32)) eh ∙ z))
-
-  pub refused_first : (code ≡ 0 → ⊥) → AnswerLabelsFirst (length weights) (Refused code) o
-  refused_first h found z = absurd (h z)
-
-  module _ (t : Tally) (r : Chosen) (o' : Outputs) (fit : Fitted weights coords d s o lo (hi + 1 - lo) t o') (er : r ≡ answer_of t) where
+  module _ (t : Tally) (r : Result Chosen NotChosen) (o' : Outputs) (fit : Fitted weights coords d s o lo (hi + 1 - lo) t o') (er : r ≡ answer_of t) where
     done_in : ◌≡◌ {A = Outcome} (record { answer = r; outputs = o' }) (ended o weights coords d s lo hi)
     done_in =
         let c = chosen_of weights coords d s lo (hi + 1 - lo) in
@@ -93,10 +81,10 @@ module _ (o : Outputs) (weights coords : List Float) (d kMin kMax : ℕ) (s : Se
         let is : r ≡ answer_by weights coords d s n c = er ∙ ap answer_of same ∙ tallied weights coords d s n c in
         rw (is, fit.outputs)
 
-    pub done : code ≡ 0 → ◌≡◌ {A = Outcome} (record { answer = r; outputs = o' }) whole
+    pub done : code ≡ Ok tt → ◌≡◌ {A = Outcome} (record { answer = r; outputs = o' }) whole
     done z =
         let f : ◌≡◌ {A = Outcome} (record { answer = r; outputs = o' }) (outcome_in o weights coords d s lo hi work workU32) =
-        rw (← ec, z) done_in in
+        rw z done_in in
         f ∙ in_range
 
     -- what holds of the best of the range holds of the call's own answer

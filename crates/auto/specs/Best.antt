@@ -1,7 +1,7 @@
 -- Document 01, 'Choosing the number of groups', and the mission's third demand: the automatic fit keeps exactly the
 -- best number of groups. What a call promises of its own answer's numbers and of its arrays, over the lone fits of the
 -- range. Definitions only.
-use Rattle.std.specs.Prelude.{◌≡◌, List, false, not, ℕ, ◌+◌, ◌-◌, ◌*◌, ◌≤◌, T, length, Float}
+use Rattle.std.specs.Prelude.{◌≡◌, List, false, not, ℕ, ◌+◌, ◌-◌, ◌*◌, ◌≤◌, T, length, Float, Result, Ok}
 use Rattle.std.specs.Float.{inf}
 use Rattle.std.specs.Float.Ieee.{lt}
 use Rattle.rng.specs.SplitMix.{restart_seed_of}
@@ -14,6 +14,7 @@ use Rattle.auto_tries.specs.Lone.{lone, score}
 use Rattle.auto.specs.Refusals.{refusal_of}
 use Rattle.auto.specs.Answers.{Numbers, numbers_of}
 use Rattle.auto.specs.declared.Chosen.{Chosen}
+use Rattle.auto.specs.declared.NotChosen.{NotChosen}
 
 module _ (weights coords : List Float) (d : ℕ) (s : Settings) where
   -- the rounds begun by the warm start of restart t of the lone fit of k
@@ -51,12 +52,12 @@ abbrev pub KeepsBest : (o : Outputs) (weights coords : List Float) (d : ℕ) (s 
     → Numbers → Outputs → Type 0
 KeepsBest o weights coords d s kMin kMax work workU32 n o' =
     let hi = highest kMax (length weights) in
-    refusal_of weights coords d hi s (lengths_of o work workU32) ≡ 0
+    refusal_of weights coords d hi s (lengths_of o work workU32) ≡ Ok tt
     → Best weights coords d s (lowest kMin hi) hi n o o'
 
 -- of its answer, whatever was found where the numbers are put
 abbrev pub AnswerKeepsBest : (o : Outputs) (weights coords : List Float) (d : ℕ) (s : Settings)
     (kMin kMax work workU32 : ℕ)
-    → Chosen → Outputs → Type 0
+    → Result Chosen NotChosen → Outputs → Type 0
 AnswerKeepsBest o weights coords d s kMin kMax work workU32 answer o' =
     (found : Numbers) → KeepsBest o weights coords d s kMin kMax work workU32 (numbers_of found answer) o'

@@ -1,6 +1,6 @@
 -- Document 01's count doubled, of the automatic fit, and document 02, #110, as a caller of `movmf_auto_with` reads it.
 -- Definitions only.
-use Rattle.std.specs.Prelude.{◌≡◌, List, ℕ, ◌+◌, ◌-◌, length, Float}
+use Rattle.std.specs.Prelude.{◌≡◌, List, ℕ, ◌+◌, ◌-◌, length, Float, Ok}
 use Rattle.mixture_kappa.specs.declared.Settings.{Settings}
 use Rattle.mixture_outputs.specs.declared.Lengths.{Lengths}
 use Rattle.counts.specs.Counts.{sum_over}
@@ -18,5 +18,5 @@ abbrev pub CallsNeverDoubled : Type 0
 CallsNeverDoubled =
     (weights coords : List Float) (d kMin kMax : ℕ) (s : Settings) (l : Lengths)
     → let hi = highest kMax (length weights) in
-    refusal_of weights coords d hi s l ≡ 0
+    refusal_of weights coords d hi s l ≡ Ok tt
     → doubled_in_range s weights coords (length weights) d (lowest kMin hi) hi ≡ 0

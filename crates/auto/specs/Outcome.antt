@@ -1,29 +1,30 @@
 -- Document 01, 'Choosing the number of groups': what a call of `movmf_auto_with` answers, and what the output arrays
 -- hold after it. Definitions only.
-use Rattle.std.specs.Prelude.{List, ℕ, zero, suc, ◌+◌, ◌-◌, length, Float}
+use Rattle.std.specs.Prelude.{List, ℕ, ◌+◌, ◌-◌, length, Float, Some, None, Result, Ok, Err, ⊤}
+use Rattle.limits.specs.declared.Refusal.{Refusal}
 use Rattle.counts.specs.declared.Counts.{Counts}
 use Rattle.mixture_kappa.specs.declared.Settings.{Settings}
 use Rattle.mixture_outputs.specs.Outputs.{Outputs, lengths_of}
-use Rattle.auto_choice.specs.Choice.{highest, lowest}
-use Rattle.auto_choice.specs.declared.Choice.{Choice}
-use Rattle.auto_choice.specs.declared.Choice.TheVariants.{Number, Nothing}
+use Rattle.auto_choice.specs.Choice.{highest, lowest, Choice}
 use Rattle.auto_tries.specs.Lone.{lone, chosen_of, counts_of, written_by}
 use Rattle.auto.specs.Refusals.{refusal_of}
 use Rattle.auto.specs.declared.Chosen.{Chosen}
-use Rattle.auto.specs.declared.Chosen.TheVariants.{Refused, Unscored, Done}
+use Rattle.auto.specs.declared.NotChosen.{NotChosen}
+use Rattle.auto.specs.declared.NotChosen.TheVariants.{Refused, Unscored}
 
 pub record Outcome : Type 0 where
-  pub answer : Chosen
+  pub answer : Result Chosen NotChosen
   pub outputs : Outputs
 
-abbrev pub answered : Chosen → Outputs → Outcome
+abbrev pub answered : Result Chosen NotChosen → Outputs → Outcome
 answered answer outputs = record { answer = answer; outputs = outputs }
 
 -- by the choice among the lone scores: none is 7; a number is answered with its lone fit's log-likelihood, and its
 -- score
-abbrev pub answer_by : List Float → List Float → ℕ → Settings → Counts → Choice → Chosen
-answer_by weights coords d s counts Nothing = Unscored counts
-answer_by weights coords d s counts (Number k x) = Done k (lone weights coords d s k).em.loglik x counts
+abbrev pub answer_by : List Float → List Float → ℕ → Settings → Counts → Choice → Result Chosen NotChosen
+answer_by weights coords d s counts None = Err (Unscored counts)
+answer_by weights coords d s counts (Some n) =
+    Ok (record { k = n.k; loglik = (lone weights coords d s n.k).em.loglik; score = n.score; counts = counts })
 
 -- the arrays as found, the leaves and the settings
 module _ (o : Outputs) (weights coords : List Float) (d : ℕ) (s : Settings) where
@@ -38,9 +39,9 @@ module _ (o : Outputs) (weights coords : List Float) (d : ℕ) (s : Settings) wh
       }
 
   -- a refusal changes no output array
-  abbrev pub outcome_by : (lo hi code : ℕ) → Outcome
-  outcome_by lo hi zero = ended lo hi
-  outcome_by lo hi (suc code) = record { answer = Refused (suc code); outputs = o }
+  abbrev pub outcome_by : (lo hi : ℕ) → Result ⊤ Refusal → Outcome
+  outcome_by lo hi (Ok x) = ended lo hi
+  outcome_by lo hi (Err e) = record { answer = Err (Refused e); outputs = o }
 
   abbrev pub outcome_in : (lo hi work workU32 : ℕ) → Outcome
   outcome_in lo hi work workU32 = outcome_by lo hi (refusal_of weights coords d hi s (lengths_of o work workU32))

@@ -7,40 +7,60 @@ ghost use Rattle.std.specs.Prelude.{◌≡◌, length};
 ghost use Rattle.mixture_kappa.specs.declared.Kappa.TheVariants.{Free};
 ghost use Rattle.mixture_outputs.specs.Outputs.{arrays};
 ghost use Rattle.auto.specs.Outcome.{answered, outcome};
-ghost use Rattle.auto.specs.Answers.{AnswerLabelsFirst};
+ghost use Rattle.auto.specs.Answers.{number_of_none, AnswerLabelsFirst};
 ghost use Rattle.auto.specs.Best.{AnswerKeepsBest};
 ghost use Rattle.auto.specs.Tallied.{answer_of};
+ghost use Rattle.auto.specs.declared.NotChosen.TheVariants.{Refused};
 
-// What a call answers: the number of the refusal; 7, with the counts; or the number kept, its log-likelihood and score,
-// and the counts.
+use limits::Refusal;
+
+// What a call finds: the number kept, its log-likelihood and score, and the counts.
 #[derive(Clone, Copy)]
-pub enum Chosen {
-    Refused(u32),
-    Unscored {
-        counts: counts::Counts,
-    },
-    Done {
-        k: usize,
-        loglik: f64,
-        score: f64,
-        counts: counts::Counts,
-    },
+pub struct Chosen {
+    pub k: usize,
+    pub loglik: f64,
+    pub score: f64,
+    pub counts: counts::Counts,
+}
+
+// Why a call keeps no number: the refusal; or no score lies below +infinity, which is 7 and comes with the counts.
+#[derive(Clone, Copy)]
+pub enum NotChosen {
+    Refused(Refusal),
+    Unscored(counts::Counts),
+}
+
+impl From<Refusal> for NotChosen {
+    ghost from_gives = { λ r e. e ≡ Refused r };
+
+    fn from(r: Refusal) -> NotChosen {
+        NotChosen::Refused(r)
+    }
+}
+
+impl From<NotChosen> for u32 {
+    ghost from_gives = { λ e n. n ≡ number_of_none e };
+
+    fn from(e: NotChosen) -> u32 {
+        match e {
+            NotChosen::Refused(r) => u32::from(r),
+            NotChosen::Unscored(_) => 7,
+        }
+    }
 }
 
 // The answer after the last number.
-fn answer(t: auto_tries::Tally) -> Chosen
+fn answer(t: auto_tries::Tally) -> Result<Chosen, NotChosen>
     ensures { result ≡ answer_of t }
 {
-    let choice = t.choice;
-    let counts = t.counts;
-    match choice {
-        auto_choice::Choice::Number(k, score) => Chosen::Done {
-            k,
+    match t.choice {
+        Some(n) => Ok(Chosen {
+            k: n.k,
             loglik: t.loglik,
-            score,
-            counts,
-        },
-        auto_choice::Choice::Nothing => Chosen::Unscored { counts },
+            score: n.score,
+            counts: t.counts,
+        }),
+        None => Err(NotChosen::Unscored(t.counts)),
     }
 }
 
@@ -62,7 +82,7 @@ pub fn movmf_auto_with(
     logw: &mut [f64],
     work: &mut [f64],
     work_u32: &mut [u32],
-) -> Chosen
+) -> Result<Chosen, NotChosen>
     ensures logw_after { answered result (arrays labels.new responsibilities.new
         group_weights.new directions.new concentrations.new logw.new)
         ≡ outcome (arrays labels.old responsibilities.old group_weights.old
@@ -93,10 +113,7 @@ pub fn movmf_auto_with(
         work_u32: work_u32.len(),
     };
     let groups = hi <= limits::MOST_GROUPS;
-    let code = mixture_outputs::refusal(weights, coords, d, hi, groups, s, l);
-    if code != 0 {
-        return Chosen::Refused(code);
-    }
+    mixture_outputs::check(weights, coords, d, hi, groups, s, l)?;
     let ln_total = logarithm::ln(vector::sum(weights));
     let t = auto_tries::fit_range(
         weights,
@@ -135,7 +152,7 @@ pub fn movmf_auto(
     logw: &mut [f64],
     work: &mut [f64],
     work_u32: &mut [u32],
-) -> Chosen
+) -> Result<Chosen, NotChosen>
     ensures logw_after { answered result (arrays labels.new responsibilities.new
         group_weights.new directions.new concentrations.new logw.new)
         ≡ outcome (arrays labels.old responsibilities.old group_weights.old

@@ -8,9 +8,8 @@ use native.Mathlib.Omega.{arith}
 use lib.Dec.{T, T_not, not_T}
 use lib.Ieee.{Float, inf, lt, le, is_nan}
 use Rattle.float.proofs.Order.{lt_or_ge, nan_below, lt_irrefl, lt_trans, lt_splits, le_of_nlt, nlt_of_le}
-use Rattle.auto_choice.specs.Choice.{held_score, choose_by, choose, chosen, BestOf}
-use Rattle.auto_choice.specs.declared.Choice.{Choice}
-use Rattle.auto_choice.specs.declared.Choice.TheVariants.{Number, Nothing}
+use Rattle.std.specs.Prelude.{Some, None}
+use Rattle.auto_choice.specs.Choice.{Choice, number_with, held_score, choose_by, choose, chosen, BestOf}
 
 either : (b : Bool) → T b ⊎ T (not b)
 either true = inl tt
@@ -24,13 +23,14 @@ not_less x y h g =
 module _ (f : ℕ → Float) (lo : ℕ) where
   -- what a choice among the first n numbers means
   abbrev pub Means : ℕ → Choice → Type 0
-  Means n Nothing = (j : ℕ) → lo ≤ j → j < lo + n → T (not (lt (f j) (inf false)))
-  Means n (Number k x) = (x ≡ f k) × BestOf f lo (lo + n - 1) k
+  Means n None = (j : ℕ) → lo ≤ j → j < lo + n → T (not (lt (f j) (inf false)))
+  Means n (Some c) = (c.score ≡ f c.k) × BestOf f lo (lo + n - 1) c.k
 
   -- none of the first n scores is below the one held
   none_below : (n : ℕ) (c : Choice) → Means n c → (j : ℕ) → lo ≤ j → j < lo + n → T (lt (f j) (held_score c)) → ⊥
-  none_below n Nothing m j p q h = T_not (lt (f j) (inf false)) (m j p q) h
-  none_below n (Number k x) m j p q h =
+  none_below n None m j p q h = T_not (lt (f j) (inf false)) (m j p q) h
+  none_below n (Some c) m j p q h =
+      let k = c.k in
       let g : T (lt (f j) (f k)) = subst (λ (y : Float). T (lt (f j) y)) m.0 h in
       ⊎_elim
       (λ l. ⊎_elim (λ r. nan_below (f j) (f k) r g) (λ r. lt_irrefl (f k) (lt_trans (f k) (f j) (f k) r g)) (m.1.smaller j p l))
@@ -41,8 +41,8 @@ module _ (f : ℕ → Float) (lo : ℕ) where
       (lt_or_ge j k)
 
   below_top : (n : ℕ) (c : Choice) → Means n c → (x : Float) → T (lt x (held_score c)) → T (lt x (inf false))
-  below_top n Nothing m x h = h
-  below_top n (Number k y) m x h = lt_trans x (f k) (inf false) (subst (λ (z : Float). T (lt x z)) m.0 h) m.1.below
+  below_top n None m x h = h
+  below_top n (Some c) m x h = lt_trans x (f c.k) (inf false) (subst (λ (z : Float). T (lt x z)) m.0 h) m.1.below
 
   -- the next number is kept
   kept : (n : ℕ) (c : Choice) → Means n c → T (lt (f (lo + n)) (held_score c)) → BestOf f lo (lo + suc n - 1) (lo + n)
@@ -59,9 +59,10 @@ module _ (f : ℕ → Float) (lo : ℕ) where
 
   -- it is not
   left : (n : ℕ) (c : Choice) → Means n c → T (not (lt (f (lo + n)) (held_score c))) → Means (suc n) c
-  left n Nothing m h = λ j p q. ⊎_elim (λ l. m j p l) (λ l. subst (λ (i : ℕ). T (not (lt (f i) (inf false)))) (omega arith) h)
+  left n None m h = λ j p q. ⊎_elim (λ l. m j p l) (λ l. subst (λ (i : ℕ). T (not (lt (f i) (inf false)))) (omega arith) h)
       (lt_or_ge j (lo + n))
-  left n (Number k x) m h =
+  left n (Some c) m h =
+      let k = c.k in
       let b = m.1 in (
         m.0,
         record {
@@ -79,7 +80,7 @@ module _ (f : ℕ → Float) (lo : ℕ) where
   next n c m = go (lt (f (lo + n)) (held_score c)) (λ t. t) (λ t. t)
     where
       go : (b : Bool) → (T b → T (lt (f (lo + n)) (held_score c))) → (T (not b) → T (not (lt (f (lo + n)) (held_score c))))
-          → Means (suc n) (choose_by b (Number (lo + n) (f (lo + n))) c)
+          → Means (suc n) (choose_by b (number_with (lo + n) (f (lo + n))) c)
       go true h g = (refl, kept n c m (h tt))
       go false h g = left n c m (g tt)
 

@@ -1,13 +1,12 @@
 -- Document 01, 'Choosing the number of groups': the clamped range, the score and the choice. Definitions only.
-use Rattle.std.specs.Prelude.{List, Bool, true, false, ◌⊎◌, ℕ, zero, suc, ◌+◌, ◌≤◌, ◌<◌, min, max, T, Float}
+use Rattle.std.specs.Prelude.{List, Bool, true, false, ◌⊎◌, ℕ, zero, suc, ◌+◌, ◌≤◌, ◌<◌, min, max, T, Float, Option, Some, None}
 use Rattle.std.specs.Float.{inf, binary64}
 use Rattle.std.specs.Float.Ieee.{add, mul, neg, lt, le, is_nan}
 use Rattle.float.specs.Arithmetic.{number, minus_zero, sum_from}
 use Rattle.logarithm.specs.Logarithm.{ln_of}
 use Rattle.mixture_kappa.specs.Kappas.{parameters_of}
 use Rattle.mixture_kappa.specs.declared.Kappa.{Kappa}
-use Rattle.auto_choice.specs.declared.Choice.{Choice}
-use Rattle.auto_choice.specs.declared.Choice.TheVariants.{Number, Nothing}
+use Rattle.auto_choice.specs.declared.Scored.{Scored}
 
 -- k_hi = max(1, min(k_max, m)), k_lo = min(max(k_min, 1), k_hi)
 abbrev pub highest : ℕ → ℕ → ℕ
@@ -28,10 +27,17 @@ score_by kappa k d loglik lnTotal = add binary64 (mul binary64 (neg (number 2)) 
 abbrev pub score_of : Kappa → ℕ → ℕ → List Float → Float → Float
 score_of kappa k d weights loglik = score_by kappa k d loglik (ln_of (total_of weights))
 
+-- either a number with its score or none
+abbrev pub Choice : Type 0
+Choice = Option Scored
+
+abbrev pub number_with : ℕ → Float → Choice
+number_with k score = Some (record { k = k; score = score })
+
 -- the score held, +infinity where there is none
 abbrev pub held_score : Choice → Float
-held_score Nothing = inf false
-held_score (Number k score) = score
+held_score None = inf false
+held_score (Some n) = n.score
 
 abbrev pub choose_by : Bool → Choice → Choice → Choice
 choose_by true new held = new
@@ -39,11 +45,11 @@ choose_by false new held = held
 
 -- a number is kept where its score beats the one held; NaN beats nothing
 abbrev pub choose : Choice → ℕ → Float → Choice
-choose held k score = choose_by (lt score (held_score held)) (Number k score) held
+choose held k score = choose_by (lt score (held_score held)) (number_with k score) held
 
 -- among the first n numbers from lo on
 unfoldable pub chosen : (ℕ → Float) → ℕ → ℕ → Choice
-chosen score lo zero = Nothing
+chosen score lo zero = None
 chosen score lo (suc n) = choose (chosen score lo n) (lo + n) (score (lo + n))
 
 -- ---- the best number of a range: scores compare as f64

@@ -10,32 +10,30 @@ ghost use Rattle.auto_choice.specs.Choice.{highest, lowest, score_by, held_score
 pub fn highest_number(k_max: usize, m: usize) -> usize
     ensures { result ≡ highest k_max m }
 {
-    let n = if k_max < m { k_max } else { m };
-    if n < 1 { 1 } else { n }
+    k_max.min(m).max(1)
 }
 
 // min(max(k_min, 1), hi).
 pub fn lowest_number(k_min: usize, hi: usize) -> usize
     ensures { result ≡ lowest k_min hi }
 {
-    let n = if k_min < 1 { 1 } else { k_min };
-    if n < hi { n } else { hi }
+    k_min.max(1).min(hi)
 }
 
-// The choice: a number with its score, or none.
+// A number of groups with its score. The choice is such a number, or none.
 #[derive(Clone, Copy)]
-pub enum Choice {
-    Number(usize, f64),
-    Nothing,
+pub struct Scored {
+    pub k: usize,
+    pub score: f64,
 }
 
 // The score held, +infinity where there is none.
-fn held_score(c: Choice) -> f64
+fn held_score(c: Option<Scored>) -> f64
     ensures { result ≡ held_score c }
 {
     match c {
-        Choice::Number(_, score) => score,
-        Choice::Nothing => 1.0 / 0.0,
+        Some(n) => n.score,
+        None => 1.0 / 0.0,
     }
 }
 
@@ -48,7 +46,7 @@ pub fn score_at(kappa: mixture_kappa::Kappa, k: usize, d: usize, loglik: f64, ln
 }
 
 // Whether a score beats the one held; NaN beats nothing.
-pub fn beats(score: f64, c: Choice) -> bool
+pub fn beats(score: f64, c: Option<Scored>) -> bool
     ensures { result ≡ lt score (held_score c) }
 {
     score < held_score(c)

@@ -20,9 +20,8 @@ use Rattle.mixture_restarts.specs.Halves.{TwoHalves, Both, kept_loglik, kept_par
 use Rattle.mixture_restarts.specs.declared.Runs.{Runs}
 use Rattle.mixture_outputs.specs.Outputs.{Outputs, written}
 use Rattle.mixture_outputs.proofs.Kept.{kept_area, fit_em, fit_counts}
-use Rattle.auto_choice.specs.Choice.{total_of, score_by, held_score, choose_by, choose, chosen}
-use Rattle.auto_choice.specs.declared.Choice.{Choice}
-use Rattle.auto_choice.specs.declared.Choice.TheVariants.{Number, Nothing}
+use Rattle.std.specs.Prelude.{None}
+use Rattle.auto_choice.specs.Choice.{Choice, number_with, total_of, score_by, held_score, choose_by, choose, chosen}
 use Rattle.auto_tries.specs.Lone.{lone, score, chosen_of, counts_of, written_by}
 use Rattle.auto_tries.specs.Tries.{Full, Tails, loglik_by, FitOfK, Fitted}
 use Rattle.auto_tries.specs.declared.Tally.{Tally}
@@ -64,10 +63,10 @@ module _ (weights coords : List Float) (d k : ℕ) (s : Settings) (w : List Floa
     test_is : (y : Bool) → beats ≡ y → lt (score weights coords d s k) (held_score t.choice) ≡ y
     test_is y e = ap (λ (z : Float). lt z (held_score t.choice)) (sym score_is) ∙ sym eb ∙ e
 
-    choice_is : (y : Bool) → beats ≡ y → choose_by y (Number k x) t.choice ≡ choose t.choice k (score weights coords d s k)
+    choice_is : (y : Bool) → beats ≡ y → choose_by y (number_with k x) t.choice ≡ choose t.choice k (score weights coords d s k)
     choice_is y e =
-        ap (λ (z : Float). choose_by y (Number k z) t.choice) score_is
-        ∙ ap (λ (z : Bool). choose_by z (Number k (score weights coords d s k)) t.choice) (sym (test_is y e))
+        ap (λ (z : Float). choose_by y (number_with k z) t.choice) score_is
+        ∙ ap (λ (z : Bool). choose_by z (number_with k (score weights coords d s k)) t.choice) (sym (test_is y e))
 
     counts_are : r.counts ≡ (lone weights coords d s k).counts
     counts_are = fit_counts s weights coords m k d w r b
@@ -79,7 +78,7 @@ module _ (weights coords : List Float) (d k : ℕ) (s : Settings) (w : List Floa
     small = subst (AtMost (of_runs 4)) counts_are b.small
 
     pub fitted_kept : (o o' : Outputs) → beats ≡ true → o' ≡ written m k d (kept_em m k d w r) o
-        → FitOfK weights coords d s k t (record { choice = Number k x; loglik = loglik; counts = counts }) o o'
+        → FitOfK weights coords d s k t (record { choice = number_with k x; loglik = loglik; counts = counts }) o o'
     fitted_kept o o' taken eo =
         record {
           choice = choice_is true taken;
@@ -104,7 +103,7 @@ module _ (weights coords : List Float) (d k : ℕ) (s : Settings) (w : List Floa
 
 -- ---- one number more
 module _ (o₀ : Outputs) (weights coords : List Float) (d : ℕ) (s : Settings) (lo : ℕ) where
-  pub fitted_start : (t : Tally) → t ≡ record { choice = Nothing; loglik = inf true; counts = no_counts }
+  pub fitted_start : (t : Tally) → t ≡ record { choice = None; loglik = inf true; counts = no_counts }
       → Fitted weights coords d s o₀ lo (lo - lo) t o₀
   unfolding chosen sum_over
   fitted_start t e =
@@ -140,7 +139,7 @@ module _ (o₀ : Outputs) (weights coords : List Float) (d : ℕ) (s : Settings)
       -- what goes with the choice, by whether the score beats the one held
       chosen_by : (y : Bool) → beaten ≡ y → t.loglik ≡ loglik_by weights coords d s t.choice
           → o ≡ written_by weights coords d s t.choice o₀
-          → let c = choose_by y (Number k (score weights coords d s k)) t.choice in
+          → let c = choose_by y (number_with k (score weights coords d s k)) t.choice in
           (q.loglik ≡ loglik_by weights coords d s c) × (o' ≡ written_by weights coords d s c o₀)
       chosen_by true e el eo =
           ((fit.kept e).0, (fit.kept e).1 ∙ written_same (length weights) k d (lone weights coords d s k).em o o₀ tails)

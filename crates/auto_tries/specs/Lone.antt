@@ -1,15 +1,13 @@
 -- Document 01, 'Choosing the number of groups': the lone fit of each number of groups, its score, and the choice among
 -- the scores. The lone fit takes nothing from another number, nor from the output and work arrays. Definitions only.
-use Rattle.std.specs.Prelude.{List, ℕ, length, Float}
+use Rattle.std.specs.Prelude.{List, ℕ, length, Float, Some, None}
 use Rattle.counts.specs.Counts.{counts_over}
 use Rattle.counts.specs.declared.Counts.{Counts}
 use Rattle.mixture_kappa.specs.declared.Settings.{Settings}
 use Rattle.mixture_run.specs.Fits.{Once}
 use Rattle.mixture_restarts.specs.Runs.{fit_of}
 use Rattle.mixture_outputs.specs.Outputs.{Outputs, written}
-use Rattle.auto_choice.specs.Choice.{score_of, chosen}
-use Rattle.auto_choice.specs.declared.Choice.{Choice}
-use Rattle.auto_choice.specs.declared.Choice.TheVariants.{Number, Nothing}
+use Rattle.auto_choice.specs.Choice.{Choice, score_of, chosen}
 
 module _ (weights coords : List Float) (d : ℕ) (s : Settings) where
   -- the lone fit of k, and its score
@@ -28,5 +26,5 @@ module _ (weights coords : List Float) (d : ℕ) (s : Settings) where
 
   -- the arrays: with no number as found, else the kept lone fit written into them
   abbrev pub written_by : Choice → Outputs → Outputs
-  written_by Nothing o = o
-  written_by (Number k x) o = written (length weights) k d (lone k).em o
+  written_by None o = o
+  written_by (Some n) o = written (length weights) n.k d (lone n.k).em o

@@ -1,15 +1,13 @@
 -- What the functions that fit the numbers one after the other ask and promise: the tally so far, the rest of each
 -- output as found, and one number more. No definition of document 01 stands on this file.
-use Rattle.std.specs.Prelude.{◌≡◌, List, true, false, ℕ, ◌*◌, length, drop, Float}
+use Rattle.std.specs.Prelude.{◌≡◌, List, true, false, ℕ, ◌*◌, length, drop, Float, Some, None}
 use Rattle.std.specs.Float.{inf}
 use Rattle.std.specs.Float.Ieee.{lt}
 use Rattle.counts.specs.Counts.{plus_of, AtMost, of_runs}
 use Rattle.mixture_kappa.specs.declared.Settings.{Settings}
 use Rattle.mixture_run.specs.Mixture.{Em}
 use Rattle.mixture_outputs.specs.Outputs.{Outputs, written}
-use Rattle.auto_choice.specs.Choice.{held_score, choose}
-use Rattle.auto_choice.specs.declared.Choice.{Choice}
-use Rattle.auto_choice.specs.declared.Choice.TheVariants.{Number, Nothing}
+use Rattle.auto_choice.specs.Choice.{Choice, held_score, choose}
 use Rattle.auto_tries.specs.Lone.{lone, score, chosen_of, counts_of, written_by}
 use Rattle.auto_tries.specs.declared.Tally.{Tally}
 
@@ -32,8 +30,8 @@ pub record Tails (m k d : ℕ) (o o₀ : Outputs) : Type 0 where
 module _ (weights coords : List Float) (d : ℕ) (s : Settings) where
   -- the log-likelihood that goes with a choice: −infinity where there is none
   abbrev pub loglik_by : Choice → Float
-  loglik_by Nothing = inf true
-  loglik_by (Number k x) = (lone weights coords d s k).em.loglik
+  loglik_by None = inf true
+  loglik_by (Some n) = (lone weights coords d s n.k).em.loglik
 
   -- number k fitted after the tally t, with these arrays before and after: it is written where its score beats the one
   -- held

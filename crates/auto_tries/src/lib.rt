@@ -14,7 +14,7 @@ ghost use Rattle.auto_tries.specs.Tries.{FitOfK, Fitted};
 // After some numbers: the choice with its log-likelihood, and the counts of all fits.
 #[derive(Clone, Copy)]
 pub struct Tally {
-    pub choice: auto_choice::Choice,
+    pub choice: Option<auto_choice::Scored>,
     pub loglik: f64,
     pub counts: counts::Counts,
 }
@@ -52,9 +52,7 @@ fn fit_of_k(
     let loglik = mixture_restarts::kept_loglik(r);
     let kappa = s.kappa;
     let score = auto_choice::score_at(kappa, k, d, loglik, ln_total);
-    let before = t.counts;
-    let more = r.counts;
-    let counts = counts::plus(before, more);
+    let counts = counts::plus(t.counts, r.counts);
     let choice = t.choice;
     if auto_choice::beats(score, choice) {
         mixture_outputs::fill_outputs(
@@ -71,7 +69,7 @@ fn fit_of_k(
             d,
         );
         return Tally {
-            choice: auto_choice::Choice::Number(k, score),
+            choice: Some(auto_choice::Scored { k, score }),
             loglik,
             counts,
         };
@@ -112,7 +110,7 @@ pub fn fit_range(
         directions.new concentrations.new logw.new) }
 {
     let mut t = Tally {
-        choice: auto_choice::Choice::Nothing,
+        choice: None,
         loglik: -1.0 / 0.0,
         counts: counts::none(),
     };

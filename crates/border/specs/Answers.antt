@@ -1,36 +1,38 @@
 -- What crosses the border to C: a Kappa, and the numbers of an answer as they are lent. The numbers of each case of an
 -- answer are those of the entries' own maps. Definitions only.
-use Rattle.std.specs.Prelude.{List, Bool, true, false, cond, ℕ, eqb, leb, get_or, Float}
+use Rattle.std.specs.Prelude.{List, cond, ℕ, eqb, get_or, Float, Result, Ok, Err}
 use Rattle.counts.specs.declared.Counts.{Counts}
+use Rattle.limits.specs.declared.Refusal.{Refusal}
+use Rattle.limits.specs.declared.Refusal.TheVariants.{Kappa as NoKappa}
 use Rattle.mixture_kappa.specs.declared.Kappa.{Kappa}
 use Rattle.mixture_kappa.specs.declared.Kappa.TheVariants.{Free, Shared}
 use Rattle.spherical.specs.Answers.{Numbers as ClusteredNumbers}
 use Rattle.mixture_outputs.specs.Outputs.{Outputs}
 use Rattle.movmf.specs.Outcome.{Outcome as FittedOutcome}
 use Rattle.movmf.specs.Answers.{Numbers as FittedNumbers}
-use Rattle.movmf.specs.declared.Fitted.TheVariants.{Refused as FittedRefused}
 use Rattle.auto.specs.Outcome.{Outcome as ChosenOutcome}
 use Rattle.auto.specs.Answers.{Numbers as ChosenNumbers}
-use Rattle.auto.specs.declared.Chosen.TheVariants.{Refused as ChosenRefused}
+use Rattle.auto.specs.declared.NotChosen.TheVariants.{Refused}
 
--- a Kappa crosses the border as its kind: 0 is Free, 1 is Shared
-abbrev pub kappa_by : Bool → Kappa
-kappa_by true = Shared
-kappa_by false = Free
+-- a Kappa crosses the border as its kind: 0 is Free, 1 is Shared; any other kind is refused with 13
+abbrev pub kappa_of : ℕ → Result Kappa Refusal
+kappa_of kind = cond (eqb kind 0) (Ok Free) (cond (eqb kind 1) (Ok Shared) (Err NoKappa))
 
-abbrev pub kappa_of : ℕ → Kappa
-kappa_of kind = kappa_by (eqb kind 1)
+-- the call with this Kappa; a refused one is answered before anything else is looked at, and changes no output array
+abbrev pub fitted_with : Result Kappa Refusal → Outputs → (Kappa → FittedOutcome) → FittedOutcome
+fitted_with (Ok kappa) o call = call kappa
+fitted_with (Err e) o call = record { answer = Err e; outputs = o }
 
-abbrev pub kind_ok : ℕ → Bool
-kind_ok kind = leb kind 1
+abbrev pub chosen_with : Result Kappa Refusal → Outputs → (Kappa → ChosenOutcome) → ChosenOutcome
+chosen_with (Ok kappa) o call = call kappa
+chosen_with (Err e) o call = record { answer = Err (Refused e); outputs = o }
 
--- the call with the Kappa of this kind; any other kind is refused with 13, before anything else is looked at, and
--- changes no output array
+-- the call with the Kappa of this kind
 abbrev pub fitted_by : (kind : ℕ) → Outputs → (Kappa → FittedOutcome) → FittedOutcome
-fitted_by kind o call = cond (kind_ok kind) (call (kappa_of kind)) (record { answer = FittedRefused 13; outputs = o })
+fitted_by kind o call = fitted_with (kappa_of kind) o call
 
 abbrev pub chosen_by : (kind : ℕ) → Outputs → (Kappa → ChosenOutcome) → ChosenOutcome
-chosen_by kind o call = cond (kind_ok kind) (call (kappa_of kind)) (record { answer = ChosenRefused 13; outputs = o })
+chosen_by kind o call = chosen_with (kappa_of kind) o call
 
 -- the two counts as they are lent: made, then saved
 abbrev pub counts_in : List ℕ → Counts

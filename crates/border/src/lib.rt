@@ -6,47 +6,47 @@ ghost use Rattle.std.specs.Prelude.{◌≡◌};
 ghost use Rattle.spherical.specs.Answers.{numbers_of as clusteredNumbersOf};
 ghost use Rattle.movmf.specs.Answers.{numbers_of as fittedNumbersOf};
 ghost use Rattle.auto.specs.Answers.{numbers_of as chosenNumbersOf};
-ghost use Rattle.border.specs.Answers.{kappa_of, kind_ok, clustered, fitted, chosen};
+ghost use Rattle.border.specs.Answers.{kappa_of, clustered, fitted, chosen};
 
-// The kinds of Kappa that the border knows: 0 Free, 1 Shared.
-pub fn kind_ok(kind: u32) -> bool
-    ensures { result ≡ kind_ok kind }
-{
-    kind <= 1
-}
+use auto::{Chosen, NotChosen};
+use limits::Refusal;
+use mixture_kappa::Kappa;
+use movmf::Fitted;
+use spherical::Clustered;
 
-// Shared or Free.
-pub fn kappa_of(kind: u32) -> mixture_kappa::Kappa
+// The Kappa of a kind: 0 is Free, 1 is Shared.
+pub fn kappa_of(kind: u32) -> Result<Kappa, Refusal>
     ensures { result ≡ kappa_of kind }
 {
-    if kind == 1 {
-        mixture_kappa::Kappa::Shared
-    } else {
-        mixture_kappa::Kappa::Free
+    match kind {
+        0 => Ok(Kappa::Free),
+        1 => Ok(Kappa::Shared),
+        _ => Err(Refusal::Kappa),
     }
 }
 
 // The number of the refusal; the cohesion and the counts where there is none.
-pub fn give_clustered(a: spherical::Clustered, cohesion: &mut f64, counts: &mut [u64; 2]) -> u32
+pub fn give_clustered(
+    a: Result<Clustered, Refusal>,
+    cohesion: &mut f64,
+    counts: &mut [u64; 2],
+) -> u32
     ensures { clustered result cohesion.new counts.new
         ≡ clusteredNumbersOf (clustered 0 cohesion.old counts.old) a }
 {
     match a {
-        spherical::Clustered::Refused(code) => code,
-        spherical::Clustered::Done {
-            cohesion: found,
-            counts: more,
-        } => {
-            *cohesion = found;
-            *counts = [more.made, more.saved];
+        Ok(c) => {
+            *cohesion = c.cohesion;
+            *counts = [c.counts.made, c.counts.saved];
             0
         }
+        Err(e) => u32::from(e),
     }
 }
 
 // The number of the refusal; the number of groups, the log-likelihood and the counts where there is none.
 pub fn give_fitted(
-    a: movmf::Fitted,
+    a: Result<Fitted, Refusal>,
     groups: &mut usize,
     loglik: &mut f64,
     counts: &mut [u64; 2],
@@ -55,24 +55,20 @@ pub fn give_fitted(
         ≡ fittedNumbersOf (fitted 0 groups.old loglik.old counts.old) a }
 {
     match a {
-        movmf::Fitted::Refused(code) => code,
-        movmf::Fitted::Done {
-            k,
-            loglik: found,
-            counts: more,
-        } => {
-            *groups = k;
-            *loglik = found;
-            *counts = [more.made, more.saved];
+        Ok(f) => {
+            *groups = f.k;
+            *loglik = f.loglik;
+            *counts = [f.counts.made, f.counts.saved];
             0
         }
+        Err(e) => u32::from(e),
     }
 }
 
 // The number of the refusal; the number kept, its log-likelihood and score where there is none; the counts there and
 // with 7.
 pub fn give_chosen(
-    a: auto::Chosen,
+    a: Result<Chosen, NotChosen>,
     groups: &mut usize,
     loglik: &mut f64,
     score: &mut f64,
@@ -83,22 +79,17 @@ pub fn give_chosen(
         counts.old) a }
 {
     match a {
-        auto::Chosen::Refused(code) => code,
-        auto::Chosen::Unscored { counts: more } => {
-            *counts = [more.made, more.saved];
-            7
-        }
-        auto::Chosen::Done {
-            k,
-            loglik: found,
-            score: kept,
-            counts: more,
-        } => {
-            *groups = k;
-            *loglik = found;
-            *score = kept;
-            *counts = [more.made, more.saved];
+        Ok(c) => {
+            *groups = c.k;
+            *loglik = c.loglik;
+            *score = c.score;
+            *counts = [c.counts.made, c.counts.saved];
             0
+        }
+        Err(NotChosen::Refused(e)) => u32::from(e),
+        Err(NotChosen::Unscored(c)) => {
+            *counts = [c.made, c.saved];
+            7
         }
     }
 }

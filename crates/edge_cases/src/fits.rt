@@ -1,6 +1,7 @@
 // Examples of the limits of the three fits, and what they answer.
 ghost use Rattle.std.specs.Prelude.{◌≤◌};
 
+use auto::{Chosen, NotChosen};
 use words::{plus, word};
 
 // The numbers of a call: words 4 to 8.
@@ -31,13 +32,10 @@ fn room(line: &[u64], at: usize, i: usize, most: usize) -> usize
 }
 
 // The number of a refusal, or 0.
-fn code(r: spherical::Clustered) -> u32 {
+fn number_of<T: Drop, E: Into<u32>>(r: Result<T, E>) -> u32 {
     match r {
-        spherical::Clustered::Refused(c) => c,
-        spherical::Clustered::Done {
-            cohesion: _,
-            counts: _,
-        } => 0,
+        Ok(_) => 0,
+        Err(e) => e.into(),
     }
 }
 
@@ -85,7 +83,7 @@ fn clustered(
     let j = room(line, at, 1, directions.len());
     let n = room(line, at, 2, 40980);
     let p = room(line, at, 3, 8194);
-    code(spherical::spherical_kmeans(
+    number_of(spherical::spherical_kmeans(
         weights,
         coords,
         c.d,
@@ -106,17 +104,6 @@ fn clustering_holds(weights: &[f64], coords: &[f64], c: Call, line: &[u64], at: 
     let mut directions = [9.0; 256];
     let r = clustered(weights, coords, c, line, at, &mut labels, &mut directions);
     answer_is(r, labels_untouched(&labels) & untouched(&directions), line)
-}
-
-fn fit_code(r: movmf::Fitted) -> u32 {
-    match r {
-        movmf::Fitted::Refused(c) => c,
-        movmf::Fitted::Done {
-            k: _,
-            loglik: _,
-            counts: _,
-        } => 0,
-    }
 }
 
 fn settings(rounds: usize) -> mixture_kappa::Settings {
@@ -151,7 +138,7 @@ fn fitted(
     let i6 = room(line, at, 5, logw.len());
     let i7 = room(line, at, 6, 256);
     let i8 = room(line, at, 7, 32);
-    fit_code(movmf::movmf_with(
+    number_of(movmf::movmf_with(
         weights,
         coords,
         c.d,
@@ -197,21 +184,16 @@ fn fit_answer_holds(weights: &[f64], coords: &[f64], c: Call, line: &[u64], at: 
 // Whether r is as words 1 to 3 say: refused with word 1; or with 7, and words 2 and 3 groups looked at and skipped; or
 // word 1 is 0, and word 2 is the number kept and word 3 its score, each 0 where any is right. The outputs are untouched
 // where it is refused.
-pub(crate) fn chosen_is(r: auto::Chosen, same: bool, line: &[u64]) -> bool {
+pub(crate) fn chosen_is(r: Result<Chosen, NotChosen>, same: bool, line: &[u64]) -> bool {
     let c = word(line, 1);
     let a = word(line, 2);
     let b = word(line, 3);
     match r {
-        auto::Chosen::Refused(n) => answer_is(n, same, line),
-        auto::Chosen::Unscored { counts } => {
-            same & (c == 7) & (counts.made == a) & (counts.saved == b)
+        Ok(f) => {
+            c == 0 && (a == 0 || f.k as u64 == a) && (b == 0 || float::bits_of(f.score) == b)
         }
-        auto::Chosen::Done {
-            k,
-            loglik: _,
-            score,
-            counts: _,
-        } => (c == 0) & ((a == 0) | (k as u64 == a)) & ((b == 0) | (float::bits_of(score) == b)),
+        Err(NotChosen::Refused(e)) => answer_is(u32::from(e), same, line),
+        Err(NotChosen::Unscored(n)) => same && c == 7 && n.made == a && n.saved == b,
     }
 }
 

@@ -12,7 +12,9 @@ use Rattle.rows.proofs.Tabulate.{tabulate_length}
 use Rattle.mixture_outputs.specs.Outputs.{arrays}
 use Rattle.auto.specs.Outcome.{Outcome, outcome}
 use Rattle.auto.specs.Best.{AnswerKeepsBest}
-use Rattle.auto.specs.declared.Chosen.TheVariants.{Refused}
+use Rattle.std.specs.Prelude.{Result, Ok, Err, ⊤}
+use Rattle.limits.specs.declared.Refusal.{Refusal}
+use Rattle.auto.specs.declared.NotChosen.TheVariants.{Refused}
 use Rattle.leaf_file.specs.LeafFile.{Leaves, whole_at, f64s_at, leaves_of, leaves_in, file_refusal, settings, room}
 use Rattle.leaf_file.specs.LeafFile.{work_room, work_u32_room, leaves_fit, LeavesKeepBest, FileFit, file_fit_by, file_fit}
 
@@ -27,7 +29,7 @@ module _ (weights coords : List Float) (d : ℕ) (labels : List ℕ) where
       → let o = arrays labels resp groups dirs kappas logw in
       (e : Outcome) → e ≡ outcome o weights coords d settings 1 4 work workU32
       → AnswerKeepsBest o weights coords d settings 1 4 work workU32 e.answer e.outputs
-      → (◌≡◌ {A = FileFit} (record { answer = e.answer; labels = e.outputs.labels }) (file_fit_by 0 leaves labels))
+      → (◌≡◌ {A = FileFit} (record { answer = e.answer; labels = e.outputs.labels }) (file_fit_by (Ok tt) leaves labels))
       × (LeavesKeepBest leaves labels e.answer)
   unfolding leaves_fit
   fit_by resp groups dirs kappas logw work workU32 a b c f g h i e p best =
@@ -42,11 +44,11 @@ module _ (weights coords : List Float) (d : ℕ) (labels : List ℕ) where
 -- the fit of the numbers that a file holds is the fit of its leaves
 pub fit_read : (bytes : List ℕ) (m d : ℕ) (labels : List ℕ) (ws cs : List Float) (x : FileFit) → ws ≡ f64s_at bytes 8 m
     → cs ≡ f64s_at bytes (8 + 8 * m) (m * d)
-    → (x ≡ file_fit_by 0 (record { d = d; weights = ws; coords = cs }) labels)
+    → (x ≡ file_fit_by (Ok tt) (record { d = d; weights = ws; coords = cs }) labels)
     × (LeavesKeepBest (record { d = d; weights = ws; coords = cs }) labels x.answer)
-    → (x ≡ file_fit_by 0 (leaves_of bytes m d) labels) × (LeavesKeepBest (leaves_of bytes m d) labels x.answer)
+    → (x ≡ file_fit_by (Ok tt) (leaves_of bytes m d) labels) × (LeavesKeepBest (leaves_of bytes m d) labels x.answer)
 fit_read bytes m d labels ws cs x e f p =
-    subst (λ (l : Leaves). (x ≡ file_fit_by 0 l labels) × (LeavesKeepBest l labels x.answer))
+    subst (λ (l : Leaves). (x ≡ file_fit_by (Ok tt) l labels) × (LeavesKeepBest l labels x.answer))
     (ap₂ (λ (w v : List Float). record { d = d; weights = w; coords = v }) e f) p
 
 -- the front of an array, after f 0, f 1, .. were read into it
@@ -55,19 +57,3 @@ pub front_read : (f : ℕ → Float) (w v : List Float) (n : ℕ) → n ≤ leng
 front_read f w v n h e =
     let g : v ≡ tabulate f n = e ∙ ap (tabulate f) (length-take-le n w h) in
     take_at v (drop n w) n (ap length g ∙ tabulate_length f n) ∙ g
-
--- a file, once it is known whether it is refused
-pub file_refused : (bytes labels : List ℕ) (code : ℕ) → code ≡ file_refusal bytes → ¬ (code ≡ 0)
-    → (◌≡◌ {A = FileFit} (record { answer = Refused code; labels = labels }) (file_fit bytes labels))
-    × (file_refusal bytes ≡ 0 → LeavesKeepBest (leaves_in bytes) labels (Refused code))
-file_refused bytes labels zero e n = absurd (n refl)
-file_refused bytes labels (suc code) e n = (rw (← e) refl, λ z. absurd (omega (arith, e, z)))
-
-pub file_fitted : (bytes labels : List ℕ) (m d : ℕ) (x : FileFit) → m ≡ whole_at bytes 0 4 → d ≡ whole_at bytes 4 4 → file_refusal bytes ≡ 0
-    → (x ≡ file_fit_by 0 (leaves_of bytes m d) labels) × (LeavesKeepBest (leaves_of bytes m d) labels x.answer)
-    → (x ≡ file_fit bytes labels) × (file_refusal bytes ≡ 0 → LeavesKeepBest (leaves_in bytes) labels x.answer)
-file_fitted bytes labels m d x p q e f =
-    let g : (x ≡ file_fit_by 0 (leaves_in bytes) labels) × (LeavesKeepBest (leaves_in bytes) labels x.answer) =
-    subst (λ (l : Leaves). (x ≡ file_fit_by 0 l labels) × (LeavesKeepBest l labels x.answer))
-    (ap₂ (λ (i j : ℕ). leaves_of bytes i j) p q) f in
-    (g.0 ∙ ap (λ (n : ℕ). file_fit_by n (leaves_in bytes) labels) (sym e), λ z. g.1)

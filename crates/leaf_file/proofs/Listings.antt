@@ -6,6 +6,8 @@ use native.Mathlib.Omega.{arith}
 use lib.ListN.{length, take, drop, length-append, take-append-drop}
 use lib.Seq.{length-take-le}
 use Rattle.rows.proofs.Tabulate.{tabulate_length}
+use Rattle.std.specs.Prelude.{Result, Ok, Err, ⊤}
+use Rattle.limits.specs.declared.Refusal.{Refusal}
 use Rattle.leaf_file.specs.LeafFile.{FileFit, Leaves, whole_at, leaves_in, file_refusal, file_fit_by, file_fit}
 use Rattle.leaf_file.specs.Listing.{text_of, blank, listing_by, listing}
 use Rattle.leaf_file.specs.Texts.{Put, Counted}
@@ -17,19 +19,19 @@ put_whole t l r e p = (
       ∙ ap (λ (x : List ℕ). t ++ x) p.rest,
 )
 
-text_by : (code : ℕ) (l : Leaves) (m : ℕ) → (code ≡ 0 → m ≡ length l.weights)
-    → text_of (file_fit_by code l blank).answer (take m (file_fit_by code l blank).labels) ≡ listing_by code l
-text_by zero l m h = rw (h refl)
-text_by (suc code) l m h = refl
+text_by : (r : Result ⊤ Refusal) (l : Leaves) (m : ℕ) → (r ≡ Ok tt → m ≡ length l.weights)
+    → text_of (file_fit_by r l blank).answer (take m (file_fit_by r l blank).labels) ≡ listing_by r l
+text_by (Ok x) l m h = rw (h refl)
+text_by (Err e) l m h = refl
 
-text_listed : (bytes : List ℕ) (x : FileFit) (m : ℕ) → x ≡ file_fit bytes blank → (file_refusal bytes ≡ 0 → m ≡ whole_at bytes 0 4)
+text_listed : (bytes : List ℕ) (x : FileFit) (m : ℕ) → x ≡ file_fit bytes blank → (file_refusal bytes ≡ Ok tt → m ≡ whole_at bytes 0 4)
     → text_of x.answer (take m x.labels) ≡ listing bytes
 text_listed bytes x m e h =
     ap (λ (y : FileFit). text_of y.answer (take m y.labels)) e
     ∙ text_by (file_refusal bytes) (leaves_in bytes) m (λ z. h z ∙ sym (tabulate_length _ (whole_at bytes 0 4)))
 
 -- the listing of a file, put at the start of an array
-pub list_end : (bytes l r : List ℕ) (x : FileFit) (m e : ℕ) → x ≡ file_fit bytes blank → (file_refusal bytes ≡ 0 → m ≡ whole_at bytes 0 4)
+pub list_end : (bytes l r : List ℕ) (x : FileFit) (m e : ℕ) → x ≡ file_fit bytes blank → (file_refusal bytes ≡ Ok tt → m ≡ whole_at bytes 0 4)
     → Put (text_of x.answer (take m x.labels)) l r 0 e → ((e ≡ length (listing bytes)) × (r ≡ listing bytes ++ drop e l))
     × (Counted e r)
 list_end bytes l r x m e p h q =

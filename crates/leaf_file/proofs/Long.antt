@@ -10,7 +10,10 @@ use lib.Dec.{leb, eqb}
 use lib.ListN.{length, take}
 use lib.Seq.{length-take-le, get_or-take}
 use borrow.Author.Tests.{le-leb, leb-true, ne_eqb}
-use Rattle.limits.specs.Limits.{need}
+use Rattle.std.specs.Prelude.{Result, Ok, Err, ⊤}
+use Rattle.limits.specs.Refusals.{need}
+use Rattle.limits.specs.declared.Refusal.{Refusal}
+use Rattle.limits.specs.declared.Refusal.TheVariants.{FileLength, FileSizes}
 use Rattle.limits.proofs.Limits.{both}
 use Rattle.leaf_file.specs.LeafFile.{Leaves, whole_at, refusal_by, file_refusal, leaves_in}
 use Rattle.leaf_file.specs.Listing.{listing_by, listing}
@@ -27,15 +30,15 @@ never : (n m d : ℕ) → 8712 < n → m ≤ 64 → d ≤ 16 → ¬ (n ≡ 8 + 8
 never n m d h p q e = absurd (omega (arith, mul-le-mul {n₁ = m} {m₁ = d} {n₂ = 64} {m₂ = 16} p q))
 
 -- 9, or else 8
-abbrev code : Bool → ℕ
-code true = 8
-code false = 9
+abbrev code : Bool → Result ⊤ Refusal
+code true = Err FileLength
+code false = Err FileSizes
 
 refused_long : (n m d : ℕ) → 8712 < n → refusal_by n m d ≡ code (leb m 64 && leb d 16)
 refused_long n m d h = by (leb m 64 && leb d 16) (λ t. let b = both (leb m 64) (leb d 16) t in
     ne_eqb n (8 + 8 * m + 8 * (m * d)) (never n m d h (leb-true m 64 b.0) (leb-true d 16 b.1)))
   where
-    by : (b : Bool) → (b ≡ true → eqb n (8 + 8 * m + 8 * (m * d)) ≡ false) → need b 9 (need (eqb n (8 + 8 * m + 8 * (m * d))) 8 0) ≡ code b
+    by : (b : Bool) → (b ≡ true → eqb n (8 + 8 * m + 8 * (m * d)) ≡ false) → need b FileSizes (need (eqb n (8 + 8 * m + 8 * (m * d))) FileLength (Ok tt)) ≡ code b
     by true f = rw (f refl)
     by false f = refl
 
@@ -58,6 +61,6 @@ listed_long bytes h =
     let d = whole_take bytes 8713 4 4 (omega arith) in
     let q : file_refusal (take 8713 bytes) ≡ code (leb (whole_at bytes 0 4) 64 && leb (whole_at bytes 4 4) 16) =
     p ∙ ap₂ (λ (i j : ℕ). code (leb i 64 && leb j 16)) m d in
-    ap (λ (c : ℕ). listing_by c (leaves_in (take 8713 bytes))) q
+    ap (λ (c : Result ⊤ Refusal). listing_by c (leaves_in (take 8713 bytes))) q
     ∙ same_text (leb (whole_at bytes 0 4) 64 && leb (whole_at bytes 4 4) 16) (leaves_in (take 8713 bytes)) (leaves_in bytes)
-    ∙ ap (λ (c : ℕ). listing_by c (leaves_in bytes)) (sym (file_long bytes (omega arith)))
+    ∙ ap (λ (c : Result ⊤ Refusal). listing_by c (leaves_in bytes)) (sym (file_long bytes (omega arith)))

@@ -1,10 +1,14 @@
 -- Document 01, 'Leaf file and listing program' and 'Refusals by call': the leaves that a file holds, what is refused,
 -- and the fit of a file. Definitions only. The leaves and their fit do not depend on the format that held them.
 use Rattle.std.specs.Prelude.{List, ◌&&◌, ℕ, zero, suc, ◌+◌, ◌*◌, leb, eqb, length, get_or, replicate, Float}
+use Rattle.std.specs.Prelude.{Result, Ok, Err, ⊤}
 use Rattle.std.specs.Float.{binary64}
 use Rattle.std.specs.Float.Ieee.{of_bits}
 use Rattle.float.specs.Arithmetic.{plus_zero}
-use Rattle.limits.specs.Limits.{need, work_length, work_u32_length}
+use Rattle.limits.specs.Limits.{work_length, work_u32_length}
+use Rattle.limits.specs.Refusals.{need}
+use Rattle.limits.specs.declared.Refusal.{Refusal}
+use Rattle.limits.specs.declared.Refusal.TheVariants.{FileLength, FileSizes}
 use Rattle.rows.specs.Tabulate.{tabulate}
 use Rattle.mixture_kappa.specs.declared.Settings.{Settings}
 use Rattle.mixture_kappa.specs.declared.Kappa.TheVariants.{Free}
@@ -12,7 +16,9 @@ use Rattle.mixture_outputs.specs.Outputs.{Outputs, arrays}
 use Rattle.auto.specs.Outcome.{Outcome, outcome}
 use Rattle.auto.specs.Best.{AnswerKeepsBest}
 use Rattle.auto.specs.declared.Chosen.{Chosen}
-use Rattle.auto.specs.declared.Chosen.TheVariants.{Refused}
+use Rattle.auto.specs.declared.NotChosen.{NotChosen}
+use Rattle.auto.specs.declared.NotChosen.TheVariants.{Refused}
+use Rattle.leaf_file.specs.declared.Header.{Header}
 
 -- ---- what a file means
 
@@ -45,12 +51,22 @@ leaves_of bytes m d = record { d = d; weights = f64s_at bytes 8 m; coords = f64s
 abbrev pub leaves_in : List ℕ → Leaves
 leaves_in bytes = leaves_of bytes (u32_at bytes 0) (u32_at bytes 4)
 
--- 8 below eight bytes; 9 if its m is above 64 or its d above 16; 8 if the length is wrong; 0 for none
-abbrev pub refusal_by : ℕ → ℕ → ℕ → ℕ
-refusal_by n m d = need (leb m 64 && leb d 16) 9 (need (eqb n (8 + 8 * m + 8 * (m * d))) 8 0)
+-- 8 below eight bytes; 9 if its m is above 64 or its d above 16; 8 if the length is wrong
+abbrev pub refusal_by : ℕ → ℕ → ℕ → Result ⊤ Refusal
+refusal_by n m d =
+    need (leb m 64 && leb d 16) FileSizes (need (eqb n (8 + 8 * m + 8 * (m * d))) FileLength (Ok tt))
 
-unfoldable pub file_refusal : List ℕ → ℕ
-file_refusal bytes = need (leb 8 (length bytes)) 8 (refusal_by (length bytes) (u32_at bytes 0) (u32_at bytes 4))
+unfoldable pub file_refusal : List ℕ → Result ⊤ Refusal
+file_refusal bytes =
+    need (leb 8 (length bytes)) FileLength (refusal_by (length bytes) (u32_at bytes 0) (u32_at bytes 4))
+
+-- the sizes that a file says, unless it is refused
+abbrev pub header_by : Result ⊤ Refusal → List ℕ → Result Header Refusal
+header_by (Ok x) bytes = Ok (record { m = u32_at bytes 0; d = u32_at bytes 4 })
+header_by (Err e) bytes = Err e
+
+abbrev pub header_of : List ℕ → Result Header Refusal
+header_of bytes = header_by (file_refusal bytes) bytes
 
 -- ---- the fit of a file's leaves: k 1 to 4, 100 rounds, seed 7, Free
 
@@ -73,20 +89,20 @@ unfoldable pub leaves_fit : Leaves → List ℕ → Outcome
 leaves_fit l labels = outcome (room labels) l.weights l.coords l.d settings 1 4 work_room work_u32_room
 
 -- the mission's third demand of such a fit
-abbrev pub LeavesKeepBest : Leaves → List ℕ → Chosen → Type 0
+abbrev pub LeavesKeepBest : Leaves → List ℕ → Result Chosen NotChosen → Type 0
 LeavesKeepBest l labels answer =
     AnswerKeepsBest (room labels) l.weights l.coords l.d settings 1 4 work_room work_u32_room answer
     (leaves_fit l labels).outputs
 
 -- what a call answers, and the labels after it; the labels as found where the file is refused
 pub record FileFit : Type 0 where
-  pub answer : Chosen
+  pub answer : Result Chosen NotChosen
   pub labels : List ℕ
 
-abbrev pub file_fit_by : ℕ → Leaves → List ℕ → FileFit
-file_fit_by zero l labels =
+abbrev pub file_fit_by : Result ⊤ Refusal → Leaves → List ℕ → FileFit
+file_fit_by (Ok x) l labels =
     record { answer = (leaves_fit l labels).answer; labels = (leaves_fit l labels).outputs.labels }
-file_fit_by (suc code) l labels = record { answer = Refused (suc code); labels = labels }
+file_fit_by (Err e) l labels = record { answer = Err (Refused e); labels = labels }
 
 abbrev pub file_fit : List ℕ → List ℕ → FileFit
 file_fit bytes labels = file_fit_by (file_refusal bytes) (leaves_in bytes) labels

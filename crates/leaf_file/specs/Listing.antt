@@ -1,9 +1,12 @@
 -- Document 01, 'Leaf file and listing program': the listing's text, in ASCII. Definitions only.
 use Rattle.std.specs.Prelude.{List, [], ◌∷◌, ◌++◌, length, get_or, take, replicate}
-use Rattle.std.specs.Prelude.{cond, ℕ, zero, suc, ◌+◌, ◌/◌, ◌%◌, ltb}
+use Rattle.std.specs.Prelude.{cond, ℕ, zero, suc, ◌+◌, ◌/◌, ◌%◌, ltb, Result, Ok, Err, ⊤}
+use Rattle.limits.specs.Refusals.{number_of}
+use Rattle.limits.specs.declared.Refusal.{Refusal}
 use Rattle.counts.specs.declared.Counts.{Counts}
 use Rattle.auto.specs.declared.Chosen.{Chosen}
-use Rattle.auto.specs.declared.Chosen.TheVariants.{Refused, Unscored, Done}
+use Rattle.auto.specs.declared.NotChosen.{NotChosen}
+use Rattle.auto.specs.Answers.{number_of_none}
 use Rattle.leaf_file.specs.LeafFile.{Leaves, leaves_fit, file_refusal, leaves_in}
 
 -- ---- numbers
@@ -65,10 +68,9 @@ groups_text k counts labels =
     ++ shop_lines labels (length labels)))
 
 -- these, or a refusal alone
-abbrev pub text_of : Chosen → List ℕ → List ℕ
-text_of (Refused code) labels = refused_text code
-text_of (Unscored counts) labels = refused_text 7
-text_of (Done k loglik score counts) labels = groups_text k counts labels
+abbrev pub text_of : Result Chosen NotChosen → List ℕ → List ℕ
+text_of (Ok c) labels = groups_text c.k c.counts labels
+text_of (Err e) labels = refused_text (number_of_none e)
 
 -- the labels of 64 leaves, before they are filled
 abbrev pub blank : List ℕ
@@ -77,9 +79,9 @@ blank = replicate 64 0
 abbrev pub leaves_text : Leaves → List ℕ
 leaves_text l = text_of (leaves_fit l blank).answer (take (length l.weights) (leaves_fit l blank).outputs.labels)
 
-abbrev pub listing_by : ℕ → Leaves → List ℕ
-listing_by zero l = leaves_text l
-listing_by (suc code) l = refused_text (suc code)
+abbrev pub listing_by : Result ⊤ Refusal → Leaves → List ℕ
+listing_by (Ok x) l = leaves_text l
+listing_by (Err e) l = refused_text (number_of e)
 
 -- the listing of a leaf file
 abbrev pub listing : List ℕ → List ℕ

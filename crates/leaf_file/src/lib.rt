@@ -2,12 +2,16 @@
 // fitted by the automatic fit, and listed as text.
 #![tactic(auto)]
 
-ghost use Rattle.std.specs.Prelude.{◌≡◌, [], ◌∷◌, ◌++◌, ◌+◌, ◌*◌, ◌≤◌, ◌<◌, length, drop};
+ghost use Rattle.std.specs.Prelude.{◌≡◌, [], ◌∷◌, ◌++◌, ◌+◌, ◌*◌, ◌≤◌, ◌<◌, length, drop, Ok};
 ghost use Rattle.leaf_file.specs.LeafFile.{whole_at, f64_at, f64s_at, refusal_by, file_refusal, leaves_of, leaves_in};
+ghost use Rattle.leaf_file.specs.LeafFile.{header_of};
 ghost use Rattle.leaf_file.specs.LeafFile.{LeavesKeepBest, FileFit, file_fit_by, file_fit};
 ghost use Rattle.leaf_file.specs.Listing.{decimal_in, number_line, shop_line, shop_lines, groups_text, refused_text};
 ghost use Rattle.leaf_file.specs.Listing.{text_of, listing};
 ghost use Rattle.leaf_file.specs.Texts.{Sized, Put, Counted};
+
+use auto::{Chosen, NotChosen};
+use limits::{Refusal, need};
 
 // The greatest numbers of leaves of a file, of coordinates of a leaf, and of groups tried.
 const LEAVES: usize = 64;
@@ -59,39 +63,51 @@ fn load(out: &mut [f64], bytes: &[u8], at: usize)
 }
 
 // What is wrong with a file of n bytes, if anything: m or d too large, or the length.
-fn sizes_refusal(n: usize, m: u64, d: u64) -> u32
+fn check_sizes(n: usize, m: u64, d: u64) -> Result<(), Refusal>
     ensures { result ≡ refusal_by n m d }
 {
-    if m > LEAVES as u64 {
-        return 9;
-    }
-    if d > COORDINATES as u64 {
-        return 9;
-    }
+    need(
+        m <= LEAVES as u64 && d <= COORDINATES as u64,
+        Refusal::FileSizes,
+    )?;
     let leaves = m as usize;
     let coords = (m * d) as usize;
-    if n != 8 + 8 * leaves + 8 * coords {
-        return 8;
-    }
-    0
+    need(n == 8 + 8 * leaves + 8 * coords, Refusal::FileLength)
 }
 
-// The first refusal of a file that holds, or 0.
-fn file_refusal(bytes: &[u8]) -> u32
-    ensures { result ≡ file_refusal bytes.now }
+// The sizes that a file says.
+#[derive(Clone, Copy)]
+struct Header {
+    m: usize,
+    d: usize,
+}
+
+// The sizes that a file says, unless it is refused.
+#[tactic(auto, unfolding(crate::specs::LeafFile::file_refusal))]
+fn header_of(bytes: &[u8]) -> Result<Header, Refusal>
+    ensures { result ≡ header_of bytes.now }
 {
-    if bytes.len() < 8 {
-        return 8;
-    }
-    sizes_refusal(bytes.len(), u32_at(bytes, 0), u32_at(bytes, 4))
+    need(8 <= bytes.len(), Refusal::FileLength)?;
+    let m = u32_at(bytes, 0);
+    let d = u32_at(bytes, 4);
+    check_sizes(bytes.len(), m, d)?;
+    Ok(Header {
+        m: m as usize,
+        d: d as usize,
+    })
 }
 
 // ---- the fit
 
 // The automatic fit of leaves: k 1 to 4, 100 rounds, seed 7, Free.
-fn fit_leaves(weights: &[f64], coords: &[f64], d: usize, labels: &mut [u32]) -> auto::Chosen
+fn fit_leaves(
+    weights: &[f64],
+    coords: &[f64],
+    d: usize,
+    labels: &mut [u32],
+) -> Result<Chosen, NotChosen>
     ensures fact { ◌≡◌ {A = FileFit} (record { answer = result; labels = labels.new })
-        (file_fit_by 0 (record { d = d; weights = weights.now; coords = coords.now })
+        (file_fit_by (Ok tt) (record { d = d; weights = weights.now; coords = coords.now })
         labels.old) }
     ensures leaves_keep_best { LeavesKeepBest (record { d = d; weights = weights.now; coords = coords.now })
         labels.old result }
@@ -130,10 +146,10 @@ fn fit_sized(
     weights: &mut [f64],
     coords: &mut [f64],
     labels: &mut [u32],
-) -> auto::Chosen
+) -> Result<Chosen, NotChosen>
     requires { Sized (length bytes.now) (length weights.old) (length coords.old) m d }
     ensures fact { ◌≡◌ {A = FileFit} (record { answer = result; labels = labels.new })
-        (file_fit_by 0 (leaves_of bytes.now m d) labels.old) }
+        (file_fit_by (Ok tt) (leaves_of bytes.now m d) labels.old) }
     ensures leaves_keep_best { LeavesKeepBest (leaves_of bytes.now m d) labels.old result }
 {
     let n = m * d;
@@ -143,21 +159,16 @@ fn fit_sized(
 }
 
 // The automatic fit of a leaf file; the labels are as found where it is refused.
-pub fn fit_file(bytes: &[u8], labels: &mut [u32]) -> auto::Chosen
+pub fn fit_file(bytes: &[u8], labels: &mut [u32]) -> Result<Chosen, NotChosen>
     ensures fact { ◌≡◌ {A = FileFit} (record { answer = result; labels = labels.new })
         (file_fit bytes.now labels.old) }
-    ensures leaves_keep_best { file_refusal bytes.now ≡ 0 → LeavesKeepBest (leaves_in bytes.now)
+    ensures leaves_keep_best { file_refusal bytes.now ≡ Ok tt → LeavesKeepBest (leaves_in bytes.now)
         labels.old result }
 {
-    let code = file_refusal(bytes);
-    if code != 0 {
-        return auto::Chosen::Refused(code);
-    }
-    let m = u32_at(bytes, 0) as usize;
-    let d = u32_at(bytes, 4) as usize;
+    let h = header_of(bytes)?;
     let mut weights = [0.0; LEAVES];
     let mut coords = [0.0; LEAVES * COORDINATES];
-    fit_sized(bytes, m, d, &mut weights, &mut coords, labels)
+    fit_sized(bytes, h.m, h.d, &mut weights, &mut coords, labels)
 }
 
 // ---- the listing's text
@@ -250,42 +261,32 @@ fn put_groups(out: &mut [u8], k: usize, counts: counts::Counts, labels: &[u32]) 
 }
 
 // Puts a refusal and its number alone.
-fn put_refused(out: &mut [u8], code: u32) -> usize
+fn put_refused(out: &mut [u8], number: u32) -> usize
     requires { 29 ≤ length out.old }
-    ensures { Put (refused_text code) out.old out.new 0 result }
+    ensures { Put (refused_text number) out.old out.new 0 result }
 {
-    put_number(out, 0, b"refused ", code as u64)
+    put_number(out, 0, b"refused ", number as u64)
 }
 
 // Puts what an answer comes to, with the labels of the shops.
-fn put_answer(out: &mut [u8], r: auto::Chosen, labels: &[u32]) -> usize
+fn put_answer(out: &mut [u8], r: Result<Chosen, NotChosen>, labels: &[u32]) -> usize
     requires { 81 + 42 * length labels.now ≤ length out.old }
     ensures { Put (text_of r labels.now) out.old out.new 0 result }
 {
     match r {
-        auto::Chosen::Refused(code) => put_refused(out, code),
-        auto::Chosen::Unscored { counts: _ } => put_refused(out, 7),
-        auto::Chosen::Done {
-            k,
-            loglik: _,
-            score: _,
-            counts,
-        } => put_groups(out, k, counts, labels),
+        Ok(c) => put_groups(out, c.k, c.counts, labels),
+        Err(e) => put_refused(out, u32::from(e)),
     }
 }
 
-// How many leaves a file says that it holds; 0 where it says nothing or too many.
+// How many leaves a file says that it holds; 0 where it is refused.
 fn shops(bytes: &[u8]) -> usize
-    ensures { (result ≤ 64) × (file_refusal bytes.now ≡ 0 → result ≡ whole_at bytes.now 0 4) }
+    ensures { (result ≤ 64) × (file_refusal bytes.now ≡ Ok tt → result ≡ whole_at bytes.now 0 4) }
 {
-    if bytes.len() < 8 {
-        return 0;
+    match header_of(bytes) {
+        Ok(h) => h.m,
+        Err(_) => 0,
     }
-    let m = u32_at(bytes, 0);
-    if m > LEAVES as u64 {
-        return 0;
-    }
-    m as usize
 }
 
 // Puts the listing of a leaf file at the start of out, and answers how many bytes it has. The rest of out is as found.

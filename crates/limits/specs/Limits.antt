@@ -1,12 +1,10 @@
 -- Document 01, 'Leaves, settings, fit' and 'Refusals by call': the limits that the entries share. Definitions only.
-use Rattle.std.specs.Prelude.{◌≡◌, List, [], ◌∷◌, Bool, true, false, ◌&&◌, ℕ, ◌+◌, ◌*◌, eqb, leb, length, Float}
+use Rattle.std.specs.Prelude.{◌≡◌, List, [], ◌∷◌, Bool, true, ◌&&◌, ℕ, ◌+◌, ◌*◌, eqb, leb, length, Float, Result, Ok, ⊤}
 use Rattle.std.specs.Float.Ieee.{neg, le}
 use Rattle.float.specs.Arithmetic.{number, plus_zero}
-
--- the number where the condition fails, else what the later ones say
-abbrev pub need : Bool → ℕ → ℕ → ℕ
-need true code rest = rest
-need false code rest = code
+use Rattle.limits.specs.Refusals.{need}
+use Rattle.limits.specs.declared.Refusal.{Refusal}
+use Rattle.limits.specs.declared.Refusal.TheVariants.{Weight, Coordinate}
 
 -- from low to high, and so no NaN
 abbrev pub within : (low high x : Float) → Bool
@@ -63,9 +61,10 @@ groups_ok k m = leb 1 k && (leb k most_groups && leb k m)
 abbrev pub rounds_ok : ℕ → Bool
 rounds_ok rounds = leb rounds most_rounds
 
--- 5 for a bad weight, 6 for a bad coordinate, 0 for neither
-abbrev pub leaves_refusal : List Float → List Float → ℕ
-leaves_refusal weights coords = need (every weight_ok weights) 5 (need (every coordinate_ok coords) 6 0)
+-- 5 for a bad weight, 6 for a bad coordinate
+abbrev pub leaves_refusal : List Float → List Float → Result ⊤ Refusal
+leaves_refusal weights coords =
+    need (every weight_ok weights) Weight (need (every coordinate_ok coords) Coordinate (Ok tt))
 
 -- leaves within the limits: what 1, 5 and 6 ask of them
 pub record LeavesOk (weights coords : List Float) (d : ℕ) : Type 0 where

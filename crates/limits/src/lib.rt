@@ -1,9 +1,10 @@
 // The limits that the entries share (document 01, 'Leaves, settings, fit' and 'Refusals by call').
 #![tactic(auto)]
 
-ghost use Rattle.std.specs.Prelude.{◌≡◌, ◌≤◌};
+ghost use Rattle.std.specs.Prelude.{◌≡◌, ◌≤◌, Ok};
 ghost use Rattle.limits.specs.Limits.{within, weight_ok, coordinate_ok, every, leaves_refusal};
 ghost use Rattle.limits.specs.Limits.{sizes_ok, groups_ok, work_ok};
+ghost use Rattle.limits.specs.Refusals.{number_of, need};
 
 // The greatest numbers of leaves, of coordinates of a leaf, of groups, of rounds and of restarts; the greatest weight,
 // and how far a coordinate may be from 0.
@@ -21,22 +22,67 @@ const MOST_WEIGHT: f64 = 1099511627776.0;
 
 const FARTHEST: f64 = 2.0;
 
+// What an entry refuses, each with its number.
+#[derive(Clone, Copy, Debug, PartialEq, Eq)]
+pub enum Refusal {
+    // 1: m or d is out of limits, or the coordinates aren't m * d.
+    Sizes,
+    // 2: k is 0, above 64 or above m; in the automatic fit, k_hi is above 64.
+    Groups,
+    // 3: the rounds or the restarts are above their limit.
+    Rounds,
+    // 4: an output or work array is too short.
+    Arrays,
+    // 5: a bad weight.
+    Weight,
+    // 6: a bad coordinate.
+    Coordinate,
+    // 8: a leaf file is below eight bytes, or its length is wrong.
+    FileLength,
+    // 9: a leaf file's m or d is too large.
+    FileSizes,
+    // 13: there is no such Kappa.
+    Kappa,
+}
+
+impl From<Refusal> for u32 {
+    ghost from_gives = { λ r n. n ≡ number_of r };
+
+    fn from(r: Refusal) -> u32 {
+        match r {
+            Refusal::Sizes => 1,
+            Refusal::Groups => 2,
+            Refusal::Rounds => 3,
+            Refusal::Arrays => 4,
+            Refusal::Weight => 5,
+            Refusal::Coordinate => 6,
+            Refusal::FileLength => 8,
+            Refusal::FileSizes => 9,
+            Refusal::Kappa => 13,
+        }
+    }
+}
+
+// The refusal where the condition fails.
+pub fn need(holds: bool, refusal: Refusal) -> Result<(), Refusal>
+    ensures { result ≡ need holds refusal (Ok tt) }
+{
+    if holds { Ok(()) } else { Err(refusal) }
+}
+
 // x from low to high.
 fn is_within(x: f64, low: f64, high: f64) -> bool
     ensures { result ≡ within low high x }
 {
-    (low <= x) & (x <= high)
+    low <= x && x <= high
 }
 
 // Every element is.
 fn all_within(xs: &[f64], low: f64, high: f64) -> bool
     ensures { result ≡ every (within low high) xs.now }
 {
-    let mut j = 0;
-    while j < xs.len() {
-        if is_within(xs[j], low, high) {
-            j += 1;
-        } else {
+    for x in xs {
+        if !is_within(*x, low, high) {
             return false;
         }
     }
@@ -57,43 +103,26 @@ pub fn coordinates_ok(xs: &[f64]) -> bool
     all_within(xs, -FARTHEST, FARTHEST)
 }
 
-// 5 for a bad weight, 6 for a bad coordinate, 0 for neither.
-pub fn leaves_refusal(weights: &[f64], coords: &[f64]) -> u32
+// A bad weight is refused, then a bad coordinate.
+pub fn check_leaves(weights: &[f64], coords: &[f64]) -> Result<(), Refusal>
     ensures { result ≡ leaves_refusal weights.now coords.now }
 {
-    if !weights_ok(weights) {
-        return 5;
-    }
-    if !coordinates_ok(coords) {
-        return 6;
-    }
-    0
+    need(weights_ok(weights), Refusal::Weight)?;
+    need(coordinates_ok(coords), Refusal::Coordinate)
 }
 
 // m and d within their limits, and m * d coordinates.
 pub fn sizes_ok(m: usize, d: usize, coords: usize) -> bool
     ensures { result ≡ sizes_ok m d coords }
 {
-    if m < 1 {
-        return false;
-    }
-    if m > MOST_LEAVES {
-        return false;
-    }
-    if d < 1 {
-        return false;
-    }
-    if d > MOST_COORDINATES {
-        return false;
-    }
-    coords == m * d
+    1 <= m && m <= MOST_LEAVES && 1 <= d && d <= MOST_COORDINATES && coords == m * d
 }
 
 // k within its limits.
 pub fn groups_ok(k: usize, m: usize) -> bool
     ensures { result ≡ groups_ok k m }
 {
-    (1 <= k) & ((k <= MOST_GROUPS) & (k <= m))
+    1 <= k && k <= MOST_GROUPS && k <= m
 }
 
 // The lent work arrays are long enough.

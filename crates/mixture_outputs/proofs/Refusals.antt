@@ -1,15 +1,17 @@
 -- What it says that a mixture fit is not refused: the leaves are within the limits, and the arrays are long enough for its runs
 -- and outputs. By cases on the Bools of the tests. Assumes nothing.
-use mathlib.Core.Path.{◌≡◌, refl}
+use mathlib.Core.Path.{◌≡◌, refl, sym, subst, ◌∙◌}
 use mathlib.Core.List.{List}
 use mathlib.Core.Bool.{Bool, true}
 use Prim.Native.Nat.{ℕ, ◌*◌, ◌≤◌}
 use native.Mathlib.Nat.{mul-le-mul}
 use native.Mathlib.Omega.{arith}
-use lib.Dec.{leb}
+use lib.Dec.{T, leb}
 use lib.ListN.{length}
 use lib.Ieee.{Float}
 use borrow.Author.Tests.{leb-true, le-leb}
+use Rattle.std.specs.Prelude.{Result, Ok, Err, is_err, ⊤}
+use Rattle.limits.specs.declared.Refusal.{Refusal}
 use Rattle.limits.specs.Limits.{every, weight_ok, coordinate_ok, sizes_ok, rounds_ok, work_length, work_u32_length, most_groups, LeavesOk}
 use Rattle.limits.proofs.Limits.{both, admitted, sizes_met}
 use Rattle.limits.proofs.Sizes.{sizes_of}
@@ -74,7 +76,7 @@ pub record Ready (groups : Bool) (weights coords : List Float) (d k rounds : ℕ
   pub leaves : LeavesOk weights coords d
 
 pub ready : (groups : Bool) (weights coords : List Float) (d k : ℕ) (s : Settings) (l : Lengths)
-    → (groups ≡ true → (1 ≤ k) × (k ≤ most_groups)) → fit_refusal groups weights coords d k s l ≡ 0
+    → (groups ≡ true → (1 ≤ k) × (k ≤ most_groups)) → fit_refusal groups weights coords d k s l ≡ Ok tt
     → Ready groups weights coords d k s.rounds l
 unfolding fit_refusal
 ready groups weights coords d k s l few none =
@@ -107,7 +109,7 @@ ready groups weights coords d k s l few none =
 
 -- a fit of hi groups that is not refused is not with fewer, if their number is admitted
 pub fewer_groups : (groups groups' : Bool) (weights coords : List Float) (d hi k : ℕ) (s : Settings) (l : Lengths) → groups' ≡ true
-    → k ≤ hi → fit_refusal groups weights coords d hi s l ≡ 0 → fit_refusal groups' weights coords d k s l ≡ 0
+    → k ≤ hi → fit_refusal groups weights coords d hi s l ≡ Ok tt → fit_refusal groups' weights coords d k s l ≡ Ok tt
 unfolding fit_refusal
 fewer_groups groups groups' weights coords d hi k s l ok most none =
     let m = length weights in

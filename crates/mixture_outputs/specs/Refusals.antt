@@ -1,6 +1,9 @@
 -- Document 01, 'Refusals by call': what the mixture fits refuse. Definitions only.
-use Rattle.std.specs.Prelude.{List, Bool, ◌&&◌, ℕ, ◌*◌, leb, length, Float}
-use Rattle.limits.specs.Limits.{need, sizes_ok, rounds_ok, work_ok, leaves_refusal}
+use Rattle.std.specs.Prelude.{List, Bool, ◌&&◌, ℕ, ◌*◌, leb, length, Float, Result, ⊤}
+use Rattle.limits.specs.Refusals.{need}
+use Rattle.limits.specs.declared.Refusal.{Refusal}
+use Rattle.limits.specs.declared.Refusal.TheVariants.{Sizes, Groups, Rounds, Arrays}
+use Rattle.limits.specs.Limits.{sizes_ok, rounds_ok, work_ok, leaves_refusal}
 use Rattle.mixture_kappa.specs.declared.Settings.{Settings}
 use Rattle.mixture_outputs.specs.declared.Lengths.{Lengths}
 
@@ -14,11 +17,12 @@ outputs_ok m k d l =
 abbrev pub arrays_ok : (m k d : ℕ) → Lengths → Bool
 arrays_ok m k d l = outputs_ok m k d l && work_ok m k d l.work l.work_u32
 
--- the order of `spherical_kmeans`, without restarts; 0 for none. k is the number of groups, of the automatic fit k_hi;
+-- the order of `spherical_kmeans`, without restarts. k is the number of groups, of the automatic fit k_hi;
 -- whether it is admitted, which is number 2, each fit says for itself
-unfoldable pub fit_refusal : (groups : Bool) (weights coords : List Float) (d k : ℕ) → Settings → Lengths → ℕ
+unfoldable pub fit_refusal : (groups : Bool) (weights coords : List Float) (d k : ℕ) → Settings → Lengths
+    → Result ⊤ Refusal
 fit_refusal groups weights coords d k s l =
-    need (sizes_ok (length weights) d (length coords)) 1
-    (need groups 2
-    (need (rounds_ok s.rounds) 3
-    (need (arrays_ok (length weights) k d l) 4 (leaves_refusal weights coords))))
+    need (sizes_ok (length weights) d (length coords)) Sizes
+    (need groups Groups
+    (need (rounds_ok s.rounds) Rounds
+    (need (arrays_ok (length weights) k d l) Arrays (leaves_refusal weights coords))))

@@ -11,6 +11,8 @@ ghost use Rattle.mixture_outputs.specs.Outputs.{arrays, written};
 ghost use Rattle.mixture_outputs.specs.Refusals.{outputs_ok, arrays_ok, fit_refusal};
 ghost use Rattle.mixture_outputs.specs.Fillable.{LeavesFit, GroupsFit, Fillable};
 
+use limits::{Refusal, need};
+
 // ---- what is refused
 
 // The lengths of the output and work arrays.
@@ -33,10 +35,12 @@ fn outputs_ok(m: usize, k: usize, d: usize, l: Lengths) -> bool
 {
     let mk = m * k;
     let kd = k * d;
-    (m <= l.labels)
-        & ((mk <= l.responsibilities)
-            & ((k <= l.weights)
-                & ((kd <= l.directions) & ((k <= l.concentrations) & (k <= l.logw)))))
+    m <= l.labels
+        && mk <= l.responsibilities
+        && k <= l.weights
+        && kd <= l.directions
+        && k <= l.concentrations
+        && k <= l.logw
 }
 
 // The outputs and the work arrays are long enough.
@@ -44,12 +48,13 @@ fn arrays_ok(m: usize, k: usize, d: usize, l: Lengths) -> bool
     requires { (m ≤ 4096) × (k ≤ 64) × (d ≤ 256) }
     ensures { result ≡ arrays_ok m k d l }
 {
-    outputs_ok(m, k, d, l) & limits::work_ok(m, k, d, l.work, l.work_u32)
+    outputs_ok(m, k, d, l) && limits::work_ok(m, k, d, l.work, l.work_u32)
 }
 
-// The first refusal from 1 to 6 that holds, or 0, of a fit of k groups, of the automatic fit up to k. Whether k is
+// The first refusal from 1 to 6 that holds, if any, of a fit of k groups, of the automatic fit up to k. Whether k is
 // admitted is the fit's to say.
-pub fn refusal(
+#[tactic(auto, unfolding(crate::specs::Refusals::fit_refusal))]
+pub fn check(
     weights: &[f64],
     coords: &[f64],
     d: usize,
@@ -57,24 +62,16 @@ pub fn refusal(
     groups: bool,
     s: mixture_kappa::Settings,
     l: Lengths,
-) -> u32
+) -> Result<(), Refusal>
     requires { groups ≡ true → k ≤ most_groups }
     ensures { result ≡ fit_refusal groups weights.now coords.now d k s l }
 {
     let m = weights.len();
-    if !limits::sizes_ok(m, d, coords.len()) {
-        return 1;
-    }
-    if !groups {
-        return 2;
-    }
-    if s.rounds > limits::MOST_ROUNDS {
-        return 3;
-    }
-    if !arrays_ok(m, k, d, l) {
-        return 4;
-    }
-    limits::leaves_refusal(weights, coords)
+    need(limits::sizes_ok(m, d, coords.len()), Refusal::Sizes)?;
+    need(groups, Refusal::Groups)?;
+    need(s.rounds <= limits::MOST_ROUNDS, Refusal::Rounds)?;
+    need(arrays_ok(m, k, d, l), Refusal::Arrays)?;
+    limits::check_leaves(weights, coords)
 }
 
 // ---- filled

@@ -6,19 +6,19 @@
 ghost use Rattle.std.specs.Prelude.{◌≡◌, length};
 ghost use Rattle.mixture_kappa.specs.declared.Kappa.TheVariants.{Free};
 ghost use Rattle.mixture_outputs.specs.Outputs.{arrays, lengths_of};
+ghost use Rattle.limits.specs.Refusals.{number_in};
 ghost use Rattle.movmf.specs.Refusals.{refusal_of};
 ghost use Rattle.movmf.specs.Outcome.{answered, outcome};
 ghost use Rattle.movmf.specs.Answers.{AnswersWith, AnswerLabelsFirst};
 
-// What a call answers: the number of the refusal, or k, the log-likelihood and the counts.
+use limits::Refusal;
+
+// What a call finds: k, the log-likelihood and the counts.
 #[derive(Clone, Copy)]
-pub enum Fitted {
-    Refused(u32),
-    Done {
-        k: usize,
-        loglik: f64,
-        counts: counts::Counts,
-    },
+pub struct Fitted {
+    pub k: usize,
+    pub loglik: f64,
+    pub counts: counts::Counts,
 }
 
 // The mixture fit of m leaves (m weights, m * d coordinates) with k groups. The outputs hold m labels, m * k
@@ -38,18 +38,18 @@ pub fn movmf_with(
     logw: &mut [f64],
     work: &mut [f64],
     work_u32: &mut [u32],
-) -> Fitted
+) -> Result<Fitted, Refusal>
     ensures logw_after { answered result (arrays labels.new responsibilities.new
         group_weights.new directions.new concentrations.new logw.new)
         ≡ outcome (arrays labels.old responsibilities.old group_weights.old
         directions.old concentrations.old logw.old)
         weights.now coords.now d k s
         (length work.old) (length work_u32.old) }
-    ensures answers_with { AnswersWith (refusal_of weights.now coords.now d k
+    ensures answers_with { AnswersWith (number_in (refusal_of weights.now coords.now d k
         s
         (lengths_of (arrays labels.old responsibilities.old group_weights.old
         directions.old concentrations.old logw.old)
-        (length work.old) (length work_u32.old))) result }
+        (length work.old) (length work_u32.old)))) result }
     ensures answer_labels_first { AnswerLabelsFirst (length weights.now) result
         (arrays labels.new responsibilities.new group_weights.new
         directions.new concentrations.new logw.new) }
@@ -66,10 +66,7 @@ pub fn movmf_with(
     };
     let m = weights.len();
     let groups = limits::groups_ok(k, m);
-    let code = mixture_outputs::refusal(weights, coords, d, k, groups, s, l);
-    if code != 0 {
-        return Fitted::Refused(code);
-    }
+    mixture_outputs::check(weights, coords, d, k, groups, s, l)?;
     let r = mixture_restarts::four_runs(work, work_u32, weights, coords, s, m, k, d);
     mixture_outputs::fill_outputs(
         labels,
@@ -86,7 +83,7 @@ pub fn movmf_with(
     );
     let loglik = mixture_restarts::kept_loglik(r);
     let counts = r.counts;
-    Fitted::Done { k, loglik, counts }
+    Ok(Fitted { k, loglik, counts })
 }
 
 // The same, each group with a concentration of its own.
@@ -105,18 +102,18 @@ pub fn movmf(
     logw: &mut [f64],
     work: &mut [f64],
     work_u32: &mut [u32],
-) -> Fitted
+) -> Result<Fitted, Refusal>
     ensures logw_after { answered result (arrays labels.new responsibilities.new
         group_weights.new directions.new concentrations.new logw.new)
         ≡ outcome (arrays labels.old responsibilities.old group_weights.old
         directions.old concentrations.old logw.old)
         weights.now coords.now d k (record { rounds = rounds; seed = seed; kappa = Free })
         (length work.old) (length work_u32.old) }
-    ensures answers_with { AnswersWith (refusal_of weights.now coords.now d k
+    ensures answers_with { AnswersWith (number_in (refusal_of weights.now coords.now d k
         (record { rounds = rounds; seed = seed; kappa = Free })
         (lengths_of (arrays labels.old responsibilities.old group_weights.old
         directions.old concentrations.old logw.old)
-        (length work.old) (length work_u32.old))) result }
+        (length work.old) (length work_u32.old)))) result }
     ensures answer_labels_first { AnswerLabelsFirst (length weights.now) result
         (arrays labels.new responsibilities.new group_weights.new
         directions.new concentrations.new logw.new) }

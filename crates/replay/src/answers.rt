@@ -1,28 +1,51 @@
 // What the three fits answer, and what a case says of it.
 use super::outputs::Place;
+use auto::{Chosen, NotChosen};
+use limits::Refusal;
 use words::{is_number, plus, word};
 
-// What a fit answers: the number of groups, 0 where none is kept or asked; the cohesion or the log-likelihood; the
-// score; the counts.
-#[derive(Drop)]
-pub(crate) struct Answer {
-    done: bool,
-    unscored: bool,
+// What a fit found: the number of groups, 0 where it isn't asked; the cohesion or the log-likelihood; the score.
+#[derive(Clone, Copy)]
+struct Found {
     k: u64,
     x: f64,
     score: f64,
+}
+
+// What a fit that isn't refused answers: what it found, if anything, and the counts.
+#[derive(Clone, Copy)]
+pub(crate) struct Answer {
+    found: Option<Found>,
     counts: counts::Counts,
 }
 
-// Whether the answer is done and its counts are the words from word `at` on.
-fn counts_agree(a: Answer, case: &[u64], at: usize) -> bool {
-    let c = a.counts;
-    a.done & (c.made == word(case, at)) & (c.saved == word(case, plus(at, 1)))
+// Whether the counts are the words from word `at` on.
+fn counts_agree(c: counts::Counts, case: &[u64], at: usize) -> bool {
+    c.made == word(case, at) && c.saved == word(case, plus(at, 1))
+}
+
+// Whether something was found in k groups, which has the words from word `at` on.
+fn found_agrees(a: Answer, k: u64, case: &[u64], at: usize) -> bool {
+    match a.found {
+        Some(f) => {
+            f.k == k && is_number(f.x, case, at) && counts_agree(a.counts, case, plus(at, 1))
+        }
+        None => false,
+    }
 }
 
 // Whether an answer with k groups has the words from word `at` on: the place after them.
-pub(crate) fn answer_agrees(a: Answer, k: u64, case: &[u64], at: usize, digest: bool) -> Place {
-    let same = (a.k == k) & is_number(a.x, case, at) & counts_agree(a, case, plus(at, 1));
+pub(crate) fn answer_agrees(
+    a: Option<Answer>,
+    k: u64,
+    case: &[u64],
+    at: usize,
+    digest: bool,
+) -> Place {
+    let same = match a {
+        Some(a) => found_agrees(a, k, case, at),
+        None => false,
+    };
     Place {
         at: plus(at, 3),
         digest,
@@ -30,14 +53,26 @@ pub(crate) fn answer_agrees(a: Answer, k: u64, case: &[u64], at: usize, digest: 
     }
 }
 
+// Whether the number kept, its log-likelihood and its score are the words from word `at` on; only the number, which is
+// 0, where none is kept.
+fn kept_agrees(found: Option<Found>, case: &[u64], at: usize) -> bool {
+    match found {
+        Some(f) => {
+            f.k == word(case, at)
+                && is_number(f.x, case, plus(at, 1))
+                && is_number(f.score, case, plus(at, 2))
+        }
+        None => word(case, at) == 0,
+    }
+}
+
 // Whether the answer is what the words from word `at` on say: the number, 0 where none is kept, its log-likelihood and
 // score, and the counts. The place after them.
-pub(crate) fn choice_agrees(a: Answer, case: &[u64], at: usize) -> Place {
-    let x = is_number(a.x, case, plus(at, 1));
-    let score = is_number(a.score, case, plus(at, 2));
-    let same = (a.k == word(case, at))
-        & (a.unscored | (x & score))
-        & counts_agree(a, case, plus(at, 3));
+pub(crate) fn choice_agrees(a: Option<Answer>, case: &[u64], at: usize) -> Place {
+    let same = match a {
+        Some(a) => kept_agrees(a.found, case, at) && counts_agree(a.counts, case, plus(at, 3)),
+        None => false,
+    };
     Place {
         at: plus(at, 5),
         digest: true,
@@ -45,62 +80,44 @@ pub(crate) fn choice_agrees(a: Answer, case: &[u64], at: usize) -> Place {
     }
 }
 
-// The answer of a fit that keeps no number.
-fn unanswered(counts: counts::Counts, done: bool) -> Answer {
-    Answer {
-        done,
-        unscored: true,
-        k: 0,
-        x: 0.0,
-        score: 0.0,
-        counts,
-    }
-}
-
-pub(crate) fn clustered(r: spherical::Clustered) -> Answer {
-    match r {
-        spherical::Clustered::Refused(_) => unanswered(counts::none(), false),
-        spherical::Clustered::Done { cohesion, counts } => Answer {
-            done: true,
-            unscored: false,
+pub(crate) fn clustered(r: Result<spherical::Clustered, Refusal>) -> Option<Answer> {
+    let c = r.ok()?;
+    Some(Answer {
+        found: Some(Found {
             k: 0,
-            x: cohesion,
+            x: c.cohesion,
             score: 0.0,
-            counts,
-        },
-    }
+        }),
+        counts: c.counts,
+    })
 }
 
-pub(crate) fn fitted(r: movmf::Fitted) -> Answer {
-    match r {
-        movmf::Fitted::Refused(_) => unanswered(counts::none(), false),
-        movmf::Fitted::Done { k, loglik, counts } => Answer {
-            done: true,
-            unscored: false,
-            k: k as u64,
-            x: loglik,
+pub(crate) fn fitted(r: Result<movmf::Fitted, Refusal>) -> Option<Answer> {
+    let f = r.ok()?;
+    Some(Answer {
+        found: Some(Found {
+            k: f.k as u64,
+            x: f.loglik,
             score: 0.0,
-            counts,
-        },
-    }
+        }),
+        counts: f.counts,
+    })
 }
 
-pub(crate) fn chosen(r: auto::Chosen) -> Answer {
+pub(crate) fn chosen(r: Result<Chosen, NotChosen>) -> Option<Answer> {
     match r {
-        auto::Chosen::Refused(_) => unanswered(counts::none(), false),
-        auto::Chosen::Unscored { counts } => unanswered(counts, true),
-        auto::Chosen::Done {
-            k,
-            loglik,
-            score,
+        Ok(c) => Some(Answer {
+            found: Some(Found {
+                k: c.k as u64,
+                x: c.loglik,
+                score: c.score,
+            }),
+            counts: c.counts,
+        }),
+        Err(NotChosen::Refused(_)) => None,
+        Err(NotChosen::Unscored(counts)) => Some(Answer {
+            found: None,
             counts,
-        } => Answer {
-            done: true,
-            unscored: false,
-            k: k as u64,
-            x: loglik,
-            score,
-            counts,
-        },
+        }),
     }
 }

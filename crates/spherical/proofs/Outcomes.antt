@@ -14,7 +14,9 @@ use Rattle.spherical.specs.Refusals.{refusal_of}
 use Rattle.spherical.specs.Outcome.{Outcome, outcome_by, outcome}
 use Rattle.spherical.specs.Answers.{AnswersWith}
 use Rattle.spherical.specs.declared.Clustered.{Clustered}
-use Rattle.spherical.specs.declared.Clustered.TheVariants.{Refused, Done}
+use Rattle.std.specs.Prelude.{Result, Ok, Err, ⊤}
+use Rattle.limits.specs.Refusals.{number_in}
+use Rattle.limits.specs.declared.Refusal.{Refusal}
 use Rattle.spherical.proofs.Refusals.{Ready}
 
 -- both halves have room
@@ -36,32 +38,27 @@ module _ (weights coords : List Float) (d k rounds restarts labels directions wo
 
 -- the two ends
 module _ (ls : List ℕ) (ds weights coords : List Float) (d k rounds restarts seed work workU32 : ℕ) where
-  pub refused : (code : ℕ) → code ≡ refusal_of weights coords d k rounds restarts (length ls) (length ds) work workU32 → (code ≡ 0 → ⊥)
-      → ◌≡◌ {A = Outcome} (record { answer = Refused code; labels = ls; directions = ds })
-      (outcome ls ds weights coords d k rounds restarts seed work workU32)
-  refused zero e h = absurd (h refl)
-  refused (suc code) e h = rw (← e)
-
-  pub done : (code : ℕ) → code ≡ refusal_of weights coords d k rounds restarts (length ls) (length ds) work workU32 → code ≡ 0
+  pub done : refusal_of weights coords d k rounds restarts (length ls) (length ds) work workU32 ≡ Ok tt
       → (w : List Float) (u : List ℕ) (h : Restarts) (ls' : List ℕ) (ds' : List Float)
       → Holds (kmeans_of weights coords (length weights) k d rounds restarts seed) w u (length weights) k d 64 h
       → let s = state_at (length weights) k d w u (held_at h.held.second (half (length weights) k d))
       (held_at h.held.second (length weights + k)) in
       ls' ≡ s.labels ++ drop (length weights) ls → ds' ≡ s.centers ++ drop (k * d) ds
-      → ◌≡◌ {A = Outcome} (record { answer = Done h.held.value h.held.counts; labels = ls'; directions = ds' })
+      → ◌≡◌ {A = Outcome} (record { answer = Ok (record { cohesion = h.held.value; counts = h.held.counts }); labels = ls'; directions = ds' })
       (outcome ls ds weights coords d k rounds restarts seed work workU32)
-  done code e z w u h ls' ds' v el ed =
-      rw (← e, z, el, ed, v.there.labels, v.there.centers, v.cohesion, v.counts)
+  done e w u h ls' ds' v el ed =
+      rw (e, el, ed, v.there.labels, v.there.centers, v.cohesion, v.counts)
 
   -- the number that the answer gives
-  number_by : (code : ℕ) → AnswersWith code (outcome_by ls ds weights coords d k rounds restarts seed work workU32 code).answer
-  number_by zero found = refl
-  number_by (suc code) found = refl
+  number_by : (r : Result ⊤ Refusal)
+      → AnswersWith (number_in r) (outcome_by ls ds weights coords d k rounds restarts seed work workU32 r).answer
+  number_by (Ok x) found = refl
+  number_by (Err e) found = refl
 
-  pub number_is : (a : Clustered) (ls' : List ℕ) (ds' : List Float)
+  pub number_is : (a : Result Clustered Refusal) (ls' : List ℕ) (ds' : List Float)
       → ◌≡◌ {A = Outcome} (record { answer = a; labels = ls'; directions = ds' })
       (outcome ls ds weights coords d k rounds restarts seed work workU32)
-      → AnswersWith (refusal_of weights coords d k rounds restarts (length ls) (length ds) work workU32) a
+      → AnswersWith (number_in (refusal_of weights coords d k rounds restarts (length ls) (length ds) work workU32)) a
   number_is a ls' ds' e =
       let code = refusal_of weights coords d k rounds restarts (length ls) (length ds) work workU32 in
-      subst (λ (x : Outcome). AnswersWith code x.answer) (sym e) (number_by code)
+      subst (λ (x : Outcome). AnswersWith (number_in code) x.answer) (sym e) (number_by code)

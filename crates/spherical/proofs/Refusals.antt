@@ -6,6 +6,7 @@ use lib.Dec.{leb}
 use lib.ListN.{length}
 use lib.Ieee.{Float}
 use borrow.Author.Tests.{leb-true}
+use Rattle.std.specs.Prelude.{Ok}
 use Rattle.limits.specs.Limits.{work_length, work_u32_length, rounds_ok, most_rounds, most_restarts, LeavesOk}
 use Rattle.limits.specs.Sizes.{Sizes}
 use Rattle.limits.proofs.Limits.{both, admitted, sizes_met, groups_met}
@@ -26,7 +27,7 @@ pub record Ready (weights coords : List Float) (d k rounds restarts labels direc
   pub leaves : LeavesOk weights coords d
 
 module _ (weights coords : List Float) (d k rounds restarts labels directions work workU32 : ℕ) where
-  pub ready : refusal_of weights coords d k rounds restarts labels directions work workU32 ≡ 0
+  pub ready : refusal_of weights coords d k rounds restarts labels directions work workU32 ≡ Ok tt
       → Ready weights coords d k rounds restarts labels directions work workU32
   unfolding refusal_of
   ready e =

@@ -7,7 +7,10 @@ use native.Mathlib.Nat.{zero-add}
 use native.Mathlib.Omega.{arith}
 use lib.ListN.{length}
 use lib.Ieee.{Float}
+use Rattle.std.specs.Prelude.{Result, Ok, Err, ⊤}
 use Rattle.counts.specs.Counts.{sum_over}
+use Rattle.limits.specs.declared.Refusal.{Refusal}
+use Rattle.limits.proofs.Limits.{numbered}
 use Rattle.kmeans_lloyd.proofs.Runs.{run_counts}
 use Rattle.kmeans_restarts.specs.Restarts.{restarts_up_to, kmeans_of, generator_before}
 use Rattle.spherical.specs.Work.{begun, products, CountsEveryRound}
@@ -41,12 +44,12 @@ module _ (weights coords : List Float) (d k rounds seed : ℕ) where
 
   -- ---- of the call's own answer, by the number of the refusal
   module _ (restarts : ℕ) (ls : List ℕ) (ds : List Float) (work workU32 : ℕ) where
-    work_by : (code : ℕ) → CountsEveryRound weights coords d k rounds seed restarts
-        (outcome_by ls ds weights coords d k rounds restarts seed work workU32 code).answer
-    work_by zero found z = made_and_saved restarts
-    work_by (suc code) found z = absurd (omega (arith, z))
+    work_by : (r : Result ⊤ Refusal) → CountsEveryRound weights coords d k rounds seed restarts
+        (outcome_by ls ds weights coords d k rounds restarts seed work workU32 r).answer
+    work_by (Ok x) found z = made_and_saved restarts
+    work_by (Err e) found z = absurd (numbered e z)
 
-    pub work_is : (a : Clustered) (ls' : List ℕ) (ds' : List Float)
+    pub work_is : (a : Result Clustered Refusal) (ls' : List ℕ) (ds' : List Float)
         → ◌≡◌ {A = Outcome} (record { answer = a; labels = ls'; directions = ds' })
         (outcome ls ds weights coords d k rounds restarts seed work workU32)
         → CountsEveryRound weights coords d k rounds seed restarts a

@@ -1,6 +1,6 @@
 -- Document 01's count doubled, of a call of `spherical_kmeans`, and document 02, #110, as a caller reads it.
 -- Definitions only.
-use Rattle.std.specs.Prelude.{◌≡◌, List, ℕ, max, length, Float}
+use Rattle.std.specs.Prelude.{◌≡◌, List, ℕ, max, length, Float, Ok}
 use Rattle.counts.specs.Counts.{sum_over}
 use Rattle.kmeans_lloyd.specs.Doubled.{doubled_of}
 use Rattle.kmeans_restarts.specs.Restarts.{generator_before}
@@ -16,5 +16,5 @@ doubled_in weights coords m k d rounds restarts seed =
 abbrev pub CallsNeverDoubled : Type 0
 CallsNeverDoubled =
     (weights coords : List Float) (d k rounds restarts seed labels directions work workU32 : ℕ)
-    → refusal_of weights coords d k rounds restarts labels directions work workU32 ≡ 0
+    → refusal_of weights coords d k rounds restarts labels directions work workU32 ≡ Ok tt
     → doubled_in weights coords (length weights) k d rounds restarts seed ≡ 0

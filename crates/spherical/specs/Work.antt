@@ -1,10 +1,11 @@
 -- What made and saved of a call of `spherical_kmeans` come to: k · leaves · rounds begun, summed over the restarts.
 -- Definitions only.
-use Rattle.std.specs.Prelude.{◌≡◌, List, ℕ, ◌+◌, ◌*◌, max, length, Float}
+use Rattle.std.specs.Prelude.{◌≡◌, List, ℕ, ◌+◌, ◌*◌, max, length, Float, Result}
 use Rattle.counts.specs.Counts.{sum_over}
 use Rattle.kmeans_lloyd.specs.Results.{result_of}
 use Rattle.kmeans_restarts.specs.Restarts.{generator_before}
 use Rattle.spherical.specs.Answers.{Numbers, numbers_of}
+use Rattle.limits.specs.declared.Refusal.{Refusal}
 use Rattle.spherical.specs.declared.Clustered.{Clustered}
 
 module _ (weights coords : List Float) (d k rounds seed : ℕ) where
@@ -19,7 +20,7 @@ module _ (weights coords : List Float) (d k rounds seed : ℕ) where
   products restarts = sum_over (λ (t : ℕ). k * length weights * begun t) 0 (max restarts 1)
 
   -- of an answer that is no refusal
-  abbrev pub CountsEveryRound : ℕ → Clustered → Type 0
+  abbrev pub CountsEveryRound : ℕ → Result Clustered Refusal → Type 0
   CountsEveryRound restarts answer =
       (found : Numbers) → let n = numbers_of found answer in
       n.refusal ≡ 0 → n.counts.made + n.counts.saved ≡ products restarts

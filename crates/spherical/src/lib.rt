@@ -3,10 +3,13 @@
 #![tactic(auto)]
 
 ghost use Rattle.std.specs.Prelude.{◌≡◌, ◌≤◌, length};
+ghost use Rattle.limits.specs.Refusals.{number_in};
 ghost use Rattle.spherical.specs.Refusals.{arrays_ok, refusal_of};
 ghost use Rattle.spherical.specs.Outcome.{Outcome, outcome};
 ghost use Rattle.spherical.specs.Answers.{AnswersWith};
 ghost use Rattle.spherical.specs.Work.{CountsEveryRound};
+
+use limits::{Refusal, need};
 
 // ---- what is refused
 
@@ -24,11 +27,12 @@ fn arrays_ok(
     ensures { result ≡ arrays_ok m k d labels directions work work_u32 }
 {
     let kd = k * d;
-    (m <= labels) & ((kd <= directions) & limits::work_ok(m, k, d, work, work_u32))
+    m <= labels && kd <= directions && limits::work_ok(m, k, d, work, work_u32)
 }
 
-// The first refusal that holds, or 0.
-fn refusal(
+// The first refusal that holds, if any.
+#[tactic(auto, unfolding(crate::specs::Refusals::refusal_of))]
+fn check(
     weights: &[f64],
     coords: &[f64],
     d: usize,
@@ -39,39 +43,31 @@ fn refusal(
     directions: usize,
     work: usize,
     work_u32: usize,
-) -> u32
+) -> Result<(), Refusal>
     ensures { result ≡ refusal_of weights.now coords.now d k rounds restarts labels directions
         work work_u32 }
 {
     let m = weights.len();
-    if !limits::sizes_ok(m, d, coords.len()) {
-        return 1;
-    }
-    if !limits::groups_ok(k, m) {
-        return 2;
-    }
-    if rounds > limits::MOST_ROUNDS {
-        return 3;
-    }
-    if restarts > limits::MOST_RESTARTS {
-        return 3;
-    }
-    if !arrays_ok(m, k, d, labels, directions, work, work_u32) {
-        return 4;
-    }
-    limits::leaves_refusal(weights, coords)
+    need(limits::sizes_ok(m, d, coords.len()), Refusal::Sizes)?;
+    need(limits::groups_ok(k, m), Refusal::Groups)?;
+    need(
+        rounds <= limits::MOST_ROUNDS && restarts <= limits::MOST_RESTARTS,
+        Refusal::Rounds,
+    )?;
+    need(
+        arrays_ok(m, k, d, labels, directions, work, work_u32),
+        Refusal::Arrays,
+    )?;
+    limits::check_leaves(weights, coords)
 }
 
 // ---- the entry
 
-// What a call answers: the number of the refusal, or the cohesion and the counts.
+// What a call finds: the cohesion and the counts.
 #[derive(Clone, Copy)]
-pub enum Clustered {
-    Refused(u32),
-    Done {
-        cohesion: f64,
-        counts: counts::Counts,
-    },
+pub struct Clustered {
+    pub cohesion: f64,
+    pub counts: counts::Counts,
 }
 
 // Spherical k-means of m leaves (m weights, m * d coordinates) into k groups. The outputs hold m labels and k * d
@@ -88,17 +84,17 @@ pub fn spherical_kmeans(
     directions: &mut [f64],
     work: &mut [f64],
     work_u32: &mut [u32],
-) -> Clustered
+) -> Result<Clustered, Refusal>
     ensures fact { ◌≡◌ {A = Outcome}
         (record { answer = result; labels = labels.new; directions = directions.new })
         (outcome labels.old directions.old weights.now coords.now d k rounds
         restarts seed (length work.old) (length work_u32.old)) }
-    ensures answers_with { AnswersWith (refusal_of weights.now coords.now d k rounds restarts
-        (length labels.old) (length directions.old) (length work.old)
-        (length work_u32.old)) result }
+    ensures answers_with { AnswersWith (number_in (refusal_of weights.now coords.now d k rounds
+        restarts (length labels.old) (length directions.old) (length work.old)
+        (length work_u32.old))) result }
     ensures counts_every_round { CountsEveryRound weights.now coords.now d k rounds seed restarts result }
 {
-    let code = refusal(
+    check(
         weights,
         coords,
         d,
@@ -109,19 +105,15 @@ pub fn spherical_kmeans(
         directions.len(),
         work.len(),
         work_u32.len(),
-    );
-    if code != 0 {
-        return Clustered::Refused(code);
-    }
+    )?;
     let m = weights.len();
     let h = kmeans_restarts::run_all(
         work, work_u32, weights, coords, seed, m, k, d, rounds, restarts,
     );
     let held = h.held;
     kmeans_restarts::fill_outputs(labels, directions, work, work_u32, held.second, m, k, d);
-    let counts = held.counts;
-    Clustered::Done {
+    Ok(Clustered {
         cohesion: held.value,
-        counts,
-    }
+        counts: held.counts,
+    })
 }

@@ -1,6 +1,6 @@
 -- Document 01, 'Edge examples': the starred ones, as one table of the definitions with one theorem.
 -- A row has what a definition gives, and beside it what document 01 says. Each part of the work adds its rows here.
-use Rattle.std.specs.Prelude.{◌≡◌, refl, List, [], ◌∷◌, true, false, ℕ, ◌-◌, negsuc, get_or, Float}
+use Rattle.std.specs.Prelude.{◌≡◌, refl, List, [], ◌∷◌, true, false, ℕ, ◌-◌, negsuc, get_or, Float, Some, None}
 use Rattle.std.specs.Float.{nan, inf, fin}
 use Rattle.std.specs.Float.Ieee.{add, sub, mul, div, neg, lt, le, is_nan, of_int, of_bits, round, size}
 use Rattle.float.specs.Arithmetic.{number, plus_zero, minus_zero, max_of, clamp_of}
@@ -10,9 +10,7 @@ use Rattle.logarithm.specs.Logarithm.{ln_of}
 use Rattle.bessel.specs.Concentration.{estimate_of, kappa_max}
 use Rattle.kmeans_bounds.specs.declared.Slowest.{Slowest}
 use Rattle.kmeans_bounds.specs.Shifts.{shift_lower, shift_upper, slowest_of, slowest_from}
-use Rattle.auto_choice.specs.Choice.{chosen}
-use Rattle.auto_choice.specs.declared.Choice.{Choice}
-use Rattle.auto_choice.specs.declared.Choice.TheVariants.{Number, Nothing}
+use Rattle.auto_choice.specs.Choice.{Choice, chosen}
 
 -- an answer is one or more values
 pub data Value : Type 0 where
@@ -46,8 +44,8 @@ slowest s = slow s.at s.least s.next
 
 -- a choice: the number and its score, or nothing; and scores from number lo on
 abbrev choice : Choice → List Value
-choice Nothing = one none
-choice (Number k score) = whole k ∷ float score ∷ []
+choice None = one none
+choice (Some n) = whole n.k ∷ float n.score ∷ []
 
 abbrev scored : List Float → ℕ → ℕ → Float
 scored scores lo k = get_or scores (k - lo) nan

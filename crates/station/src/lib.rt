@@ -3,7 +3,7 @@
 // length; include/mosterklomp.h declares the functions.
 #![tactic(auto)]
 
-ghost use Rattle.std.specs.Prelude.{◌≡◌, length, true};
+ghost use Rattle.std.specs.Prelude.{◌≡◌, length, Ok};
 ghost use Rattle.mixture_outputs.specs.Outputs.{arrays};
 ghost use Rattle.mixture_outputs.specs.Labels.{LabelsFirst};
 ghost use Rattle.spherical.specs.Outcome.{outcome as clusteredOutcome};
@@ -14,7 +14,7 @@ ghost use Rattle.auto.specs.Outcome.{outcome as chosenOutcome};
 ghost use Rattle.auto.specs.Answers.{numbers_of as chosenNumbersOf};
 ghost use Rattle.auto.specs.Best.{KeepsBest};
 ghost use Rattle.mixture_kappa.specs.declared.Kappa.{Kappa};
-ghost use Rattle.border.specs.Answers.{kappa_of, kind_ok, fitted_by, chosen_by, clustered, fitted, chosen};
+ghost use Rattle.border.specs.Answers.{kappa_of, fitted_by, chosen_by, clustered, fitted, chosen};
 
 // `spherical::spherical_kmeans`.
 #[unsafe(no_mangle)]
@@ -82,10 +82,10 @@ pub extern "C" fn mosterklomp_movmf_with(
         (arrays labels.new responsibilities.new group_weights.new
         directions.new concentrations.new logw.new) }
 {
-    if !border::kind_ok(kappa) {
-        return 13;
-    }
-    let kappa = border::kappa_of(kappa);
+    let kappa = match border::kappa_of(kappa) {
+        Ok(z) => z,
+        Err(e) => return u32::from(e),
+    };
     let s = mixture_kappa::Settings {
         rounds,
         seed,
@@ -144,9 +144,9 @@ pub extern "C" fn mosterklomp_movmf_auto_with(
         counts.old) o.answer) × (arrays labels.new responsibilities.new
         group_weights.new directions.new concentrations.new logw.new
         ≡ o.outputs) }
-    ensures keeps_best { kind_ok kappa ≡ true → KeepsBest (arrays labels.old responsibilities.old
+    ensures keeps_best { (z : Kappa) → kappa_of kappa ≡ Ok z → KeepsBest (arrays labels.old responsibilities.old
         group_weights.old directions.old concentrations.old logw.old)
-        weights.now coords.now d (record { rounds = rounds; seed = seed; kappa = kappa_of kappa })
+        weights.now coords.now d (record { rounds = rounds; seed = seed; kappa = z })
         k_min k_max (length work.old) (length work_u32.old)
         (chosen result groups.new loglik.new score.new counts.new)
         (arrays labels.new responsibilities.new group_weights.new
@@ -155,10 +155,10 @@ pub extern "C" fn mosterklomp_movmf_auto_with(
         (arrays labels.new responsibilities.new group_weights.new
         directions.new concentrations.new logw.new) }
 {
-    if !border::kind_ok(kappa) {
-        return 13;
-    }
-    let kappa = border::kappa_of(kappa);
+    let kappa = match border::kappa_of(kappa) {
+        Ok(z) => z,
+        Err(e) => return u32::from(e),
+    };
     let s = mixture_kappa::Settings {
         rounds,
         seed,

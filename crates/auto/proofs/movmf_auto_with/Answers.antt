@@ -6,8 +6,8 @@ use lib.ListN.{length}
 use borrow.Author.Tests.{leb-true}
 use Rattle.logarithm.specs.Logarithm.{ln_of}
 use Rattle.mixture_outputs.specs.Outputs.{Outputs, arrays, lengths_of}
-use Rattle.auto.proofs.Outcomes.{highest_some, lowest_some, lowest_most, admitted, refused, refused_best}
-use Rattle.auto.proofs.Outcomes.{refused_first, done, done_best, done_first}
+use Rattle.auto.proofs.Outcomes.{highest_some, lowest_some, lowest_most, admitted}
+use Rattle.auto.proofs.Outcomes.{done, done_best, done_first}
 use Rattle.auto.proofs.movmf_auto_with.Goals.{After-highest_number-hi, Start}
 use Rattle.auto.proofs.movmf_auto_with.Goals as goal
 
@@ -20,27 +20,8 @@ found s =
 some_at : (h : After-highest_number-hi) → 1 ≤ h.highest_number-hi.result
 some_at h = let a = h.args in highest_some a.k_max (length a.weights.now) _ h.highest_number-hi.ensures
 
-pub refusal-code-requires : goal.refusal-code-requires
-refusal-code-requires c = λ e. leb-true _ _ e
-
-pub returns-then-code-ne0 : goal.returns-then-code-ne0
-returns-then-code-ne0 c =
-    let l = c.lowest_number-lo in
-    let h = c.highest_number-hi in
-    let f = c.refusal-code in
-    let o₀ = found (goal.at.returns-then-code-ne0 c).Start in
-    let a = c.args in record {
-      logw_after = refused o₀ a.weights.now a.coords.now a.d a.k_min a.k_max a.s (length a.work.now)
-          (length a.work_u32.now)
-          l.result h.result h.ensures l.ensures f.result f.ensures
-          c.if-code-ne0.true;
-      answer_keeps_best = refused_best o₀ a.weights.now a.coords.now a.d a.k_min a.k_max a.s (length a.work.now)
-          (length a.work_u32.now) l.result h.result h.ensures l.ensures
-          f.result f.ensures c.if-code-ne0.true;
-      answer_labels_first = refused_first o₀ a.weights.now a.coords.now a.d a.k_min a.k_max a.s (length a.work.now)
-          (length a.work_u32.now) l.result h.result h.ensures l.ensures
-          f.result f.ensures c.if-code-ne0.true;
-    }
+pub check-requires : goal.check-requires
+check-requires c = λ e. leb-true _ _ e
 
 pub fit_range-t-requires : goal.fit_range-t-requires
 fit_range-t-requires c =
@@ -50,7 +31,7 @@ fit_range-t-requires c =
     let a = c.args in record {
       fittable = (admitted a.weights.now a.coords.now a.d c.highest_number-hi.result a.s
           (lengths_of o₀ (length a.work.now) (length a.work_u32.now)) some
-          (sym c.refusal-code.ensures ∙ c.if-code-ne0.false)).fittable;
+          (sym c.check.ensures ∙ c.in_ok-check.was)).fittable;
       le_lo = (
         lowest_some a.k_min c.highest_number-hi.result l.result l.ensures some,
         lowest_most a.k_min c.highest_number-hi.result l.result l.ensures,
@@ -62,7 +43,7 @@ pub returns : goal.returns
 returns c =
     let l = c.lowest_number-lo in
     let h = c.highest_number-hi in
-    let f = c.refusal-code in
+    let e = sym c.check.ensures ∙ c.in_ok-check.was in
     let o₀ = found (goal.at.returns c).Start in
     let a = c.args in
     let n = c.fit_range-t in
@@ -70,12 +51,9 @@ returns c =
     let o = arrays z.labels z.responsibilities z.group_weights z.directions z.concentrations z.logw in record {
       logw_after = done o₀ a.weights.now a.coords.now a.d a.k_min a.k_max a.s (length a.work.now)
           (length a.work_u32.now)
-          l.result h.result h.ensures l.ensures f.result f.ensures
-          n.result c.answer.result o n.ensures c.answer.ensures c.if-code-ne0.false;
+          l.result h.result h.ensures l.ensures n.result c.answer.result o n.ensures c.answer.ensures e;
       answer_keeps_best = done_best o₀ a.weights.now a.coords.now a.d a.k_min a.k_max a.s (length a.work.now)
-          (length a.work_u32.now) l.result h.result h.ensures l.ensures
-          f.result f.ensures n.result c.answer.result o n.ensures c.answer.ensures;
+          (length a.work_u32.now) l.result h.result h.ensures l.ensures n.result c.answer.result o n.ensures c.answer.ensures;
       answer_labels_first = done_first o₀ a.weights.now a.coords.now a.d a.k_min a.k_max a.s (length a.work.now)
-          (length a.work_u32.now) l.result h.result h.ensures l.ensures
-          f.result f.ensures n.result c.answer.result o n.ensures c.answer.ensures;
+          (length a.work_u32.now) l.result h.result h.ensures l.ensures n.result c.answer.result o n.ensures c.answer.ensures;
     }

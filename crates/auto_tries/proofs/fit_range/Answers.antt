@@ -10,7 +10,7 @@ use Rattle.counts.specs.declared.Counts.{Counts}
 use Rattle.counts.proofs.Sums.{at_most_none, at_most_more}
 use Rattle.mixture_outputs.specs.Outputs.{Outputs, lengths_of, arrays}
 use Rattle.mixture_outputs.specs.declared.Lengths.{Lengths}
-use Rattle.auto_choice.specs.declared.Choice.TheVariants.{Nothing}
+use Rattle.std.specs.Prelude.{None}
 use Rattle.auto_tries.specs.declared.Tally.{Tally}
 use Rattle.auto_tries.proofs.Room.{fittable_below, fittable_of, lengths_of_law}
 use Rattle.auto_tries.proofs.Tails.{tails_start}
@@ -25,7 +25,7 @@ found s =
     arrays a.labels.now a.responsibilities.now a.group_weights.now a.directions.now a.concentrations.now a.logw.now
 
 abbrev begun : Counts → Tally
-begun counts = record { choice = Nothing; loglik = inf true; counts = counts }
+begun counts = record { choice = None; loglik = inf true; counts = counts }
 
 pub loop-k-init : goal.loop-k-init
 unfolding div neg of_bits

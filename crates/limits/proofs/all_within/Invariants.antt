@@ -1,12 +1,8 @@
--- `limits::all_within` meets its contract. The loop's invariant: the elements from j on are as good as all. Assumes nothing.
+-- `limits::all_within` meets its contract. The loop's invariant: the elements from here on are as good as all. Assumes nothing.
 use mathlib.Core.Path.{◌≡◌}
-use Prim.Native.Nat.{◌≤◌, ◌-◌}
-use lib.ListN.{length, drop}
+use lib.ListN.{drop}
 use Rattle.limits.specs.Limits.{within, every}
 use Rattle.limits.proofs.all_within.Given as goal
 
-abbrev pub invariant-loop-j : goal.invariant-loop-j
-invariant-loop-j l = (l.j ≤ length l.xs) × (every (within l.low l.high) (drop l.j l.xs) ≡ every (within l.low l.high) l.xs)
-
-abbrev pub decreases-loop-j : goal.decreases-loop-j
-decreases-loop-j l = length l.xs - l.j
+abbrev pub invariant-loop-x : goal.invariant-loop-x
+invariant-loop-x l = every (within l.low l.high) (drop l.x-index l.xs) ≡ every (within l.low l.high) l.xs

@@ -7,9 +7,10 @@ use Rattle.mixture_outputs.specs.Outputs.{Outputs, arrays, lengths_of}
 use Rattle.mixture_outputs.specs.Refusals.{fit_refusal}
 use Rattle.mixture_outputs.specs.Fillable.{Fittable}
 use Rattle.mixture_outputs.proofs.Refusals.{fillable}
+use Rattle.std.specs.Prelude.{Ok}
 use Rattle.movmf.specs.Refusals.{refusal_of}
-use Rattle.movmf.proofs.Outcomes.{few, admitted, refused, done, number_is, first_is}
-use Rattle.movmf.proofs.movmf_with.Goals.{After-refusal-code, Else-code-ne0, Start}
+use Rattle.movmf.proofs.Outcomes.{few, admitted, done, number_is, first_is}
+use Rattle.movmf.proofs.movmf_with.Goals.{In_ok-check, Start}
 use Rattle.movmf.proofs.movmf_with.Goals as goal
 
 -- the arrays as found
@@ -18,19 +19,19 @@ found s =
     let a = s.args in
     arrays a.labels.now a.responsibilities.now a.group_weights.now a.directions.now a.concentrations.now a.logw.now
 
--- the refusal is the definition's
-refusal_is : (r : After-refusal-code) → let a = r.args in
+-- nothing is refused
+none : (c : In_ok-check) → let a = c.args in
     let o = arrays a.labels.now a.responsibilities.now a.group_weights.now a.directions.now a.concentrations.now a.logw.now in
-    r.refusal-code.result ≡ refusal_of a.weights.now a.coords.now a.d a.k a.s (lengths_of o (length a.work.now) (length a.work_u32.now))
-refusal_is r =
-    let a = r.args in
+    refusal_of a.weights.now a.coords.now a.d a.k a.s (lengths_of o (length a.work.now) (length a.work_u32.now)) ≡ Ok tt
+none c =
+    let a = c.args in
     let o = arrays a.labels.now a.responsibilities.now a.group_weights.now a.directions.now a.concentrations.now a.logw.now in
-    r.refusal-code.ensures
-    ∙ ap (λ (b : Bool). fit_refusal b a.weights.now a.coords.now a.d a.k a.s (lengths_of o (length a.work.now) (length a.work_u32.now)))
-    r.groups_ok-groups.ensures
+    let l = lengths_of o (length a.work.now) (length a.work_u32.now) in
+    sym (c.check.ensures ∙ ap (λ (b : Bool). fit_refusal b a.weights.now a.coords.now a.d a.k a.s l) c.groups_ok-groups.ensures)
+    ∙ c.in_ok-check.was
 
 -- past the refusals all is in range
-fittable_at : (c : Else-code-ne0) → let a = c.args in
+fittable_at : (c : In_ok-check) → let a = c.args in
     let o = arrays a.labels.now a.responsibilities.now a.group_weights.now a.directions.now a.concentrations.now a.logw.now in
     Fittable (length a.weights.now) (length a.coords.now) (length a.weights.now) a.k a.d a.s.rounds
     (lengths_of o (length a.work.now) (length a.work_u32.now))
@@ -38,37 +39,21 @@ fittable_at c =
     let a = c.args in
     let o = arrays a.labels.now a.responsibilities.now a.group_weights.now a.directions.now a.concentrations.now a.logw.now in
     let l = lengths_of o (length a.work.now) (length a.work_u32.now) in
-    let e : c.refusal-code.result ≡ refusal_of a.weights.now a.coords.now a.d a.k a.s l = c.refusal-code.ensures
-    ∙ ap (λ (b : Bool). fit_refusal b a.weights.now a.coords.now a.d a.k a.s l) c.groups_ok-groups.ensures in
-    (admitted a.weights.now a.coords.now a.d a.k a.s l (sym e ∙ c.if-code-ne0.false)).fittable
+    (admitted a.weights.now a.coords.now a.d a.k a.s l (none c)).fittable
 
-pub refusal-code-requires : goal.refusal-code-requires
-refusal-code-requires c =
+pub check-requires : goal.check-requires
+check-requires c =
     let a = c.args in
     λ (e : c.groups_ok-groups.result ≡ true). (few a.k (length a.weights.now) (sym c.groups_ok-groups.ensures ∙ e)).1
 
-pub returns-then-code-ne0 : goal.returns-then-code-ne0
-returns-then-code-ne0 c =
-    let a = c.args in
-    let o = found (goal.at.returns-then-code-ne0 c).Start in
-    let f = refusal_is (goal.at.returns-then-code-ne0 c).After-refusal-code in
-    let e = refused o a.weights.now a.coords.now a.d a.k a.s (length a.work.now) (length a.work_u32.now)
-    c.refusal-code.result f c.if-code-ne0.true in record {
-      logw_after = e;
-      answers_with = number_is o a.weights.now a.coords.now a.d a.k a.s (length a.work.now)
-          (length a.work_u32.now) _ _ e;
-      answer_labels_first = first_is o a.weights.now a.coords.now a.d a.k a.s (length a.work.now)
-          (length a.work_u32.now) _ _ e;
-    }
-
 pub four_runs-r-requires : goal.four_runs-r-requires
-four_runs-r-requires c = (fittable_at (goal.at.four_runs-r-requires c).Else-code-ne0).runnable
+four_runs-r-requires c = (fittable_at (goal.at.four_runs-r-requires c).In_ok-check).runnable
 
 pub fill_outputs-requires : goal.fill_outputs-requires
 fill_outputs-requires c =
     let a = c.args in
     let o = found (goal.at.fill_outputs-requires c).Start in
-    let f = fittable_at (goal.at.fill_outputs-requires c).Else-code-ne0 in
+    let f = fittable_at (goal.at.fill_outputs-requires c).In_ok-check in
     fillable _ (length a.weights.now) (length a.coords.now) (length a.weights.now) a.k a.d a.s.rounds
     (lengths_of o (length a.work.now) (length a.work_u32.now)) c.four_runs-r.auto.work f
 
@@ -76,11 +61,10 @@ pub returns : goal.returns
 returns c =
     let a = c.args in
     let o = found (goal.at.returns c).Start in
-    let f = refusal_is (goal.at.returns c).After-refusal-code in
     let l = c.kept_loglik-loglik in
     let x = c.fill_outputs.new in
     let d = done o a.weights.now a.coords.now a.d a.k a.s (length a.work.now) (length a.work_u32.now)
-    c.refusal-code.result f c.if-code-ne0.false c.four_runs-r.new.work c.four_runs-r.result l.result
+    (none (goal.at.returns c).In_ok-check) c.four_runs-r.new.work c.four_runs-r.result l.result
     (arrays x.labels x.responsibilities x.group_weights x.directions x.concentrations x.logw) c.four_runs-r.ensures l.ensures
     c.fill_outputs.ensures in record {
       logw_after = d;

@@ -6,6 +6,3 @@ use Rattle.spherical.proofs.arrays_ok.Goals as goal
 
 pub overflow_mul-kd : goal.overflow_mul-kd
 overflow_mul-kd c = omega (arith, mul-le-mul c.requires.1 c.requires.2)
-
-pub returns : goal.returns
-returns c = rw c.work_ok.ensures
