@@ -38,11 +38,11 @@ fn five_lent(seed: u64) -> Five
     ensures { result ≡ five_of seed }
 {
     let mut g = rng::SplitMix64::new(seed);
-    let a = g.next();
-    let b = g.next();
-    let c = g.next();
-    let d = g.next();
-    let e = g.next();
+    let a = rng::next_u64(&mut g);
+    let b = rng::next_u64(&mut g);
+    let c = rng::next_u64(&mut g);
+    let d = rng::next_u64(&mut g);
+    let e = rng::next_u64(&mut g);
     Five { a, b, c, d, e }
 }
 

@@ -39,9 +39,9 @@ fn draw_lent(seed: u64) -> Draw
     ensures { (result.number ≡ (drawn seed).out) × (result.fraction ≡ (drawn_f64 seed).out) }
 {
     let mut g = rng::SplitMix64::new(seed);
-    let number = g.next();
+    let number = rng::next_u64(&mut g);
     let mut h = rng::SplitMix64::new(seed);
-    let fraction = h.next();
+    let fraction = rng::next_f64(&mut h);
     Draw { number, fraction }
 }
 

@@ -1,17 +1,23 @@
 // SplitMix64 (rng.rs; document 01, 'SplitMix64'). A draw is made by value: a state goes in, and the moved state comes
-// back with what was drawn. The generator is lent, and its state moves on in place, by a thin method over such a draw.
-// The product modulo 2^64 gives the restarts' seeds too.
+// back with what was drawn. The generator is lent, and its state moves on in place, by thin functions over such a draw.
+// The product modulo 2^64 is made of 32-bit halves, and gives the restarts' seeds too.
 #![tactic(auto)]
 
 ghost use Rattle.std.specs.Prelude.{◌≡◌, ℕ, ◌*◌, ◌%◌, ◌^◌};
 ghost use Rattle.rng.specs.SplitMix.{step_of, mix_of, unit_of, restart_seed_of};
-ghost use Rattle.rng.specs.Drawn.{drawn_as};
+ghost use Rattle.rng.specs.Drawn.{drawn_as, drawn, drawn_f64};
 
-// a * b, modulo 2^64.
+// a * b, modulo 2^64, from halves of 32 bits. The product of the high halves is a multiple of 2^64. Document 01 names
+// this form, so it stands beside the library's wrapping_mul.
 pub fn wrapping_mul_u64(a: u64, b: u64) -> u64
     ensures { result ≡ a * b % 2 ^ 64 }
 {
-    a.wrapping_mul(b)
+    let a0 = a % 0x1_0000_0000;
+    let a1 = a >> 32;
+    let b0 = b % 0x1_0000_0000;
+    let b1 = b >> 32;
+    let cross = (a1 * b0).wrapping_add(a0 * b1);
+    (a0 * b0).wrapping_add(cross << 32)
 }
 
 // The state moved on.
@@ -92,15 +98,24 @@ impl SplitMix64 {
     {
         SplitMix64 { state: seed }
     }
+}
 
-    // The next number or fraction of a lent generator, whose state moves on in place; one number is spent.
-    pub fn next<T: FromWord>(&mut self) -> T
-        ensures { record { state = self.new.state; out = result } ≡ drawn_as T.of_word self.old.state }
-    {
-        let d = draw(self.state);
-        self.state = d.state;
-        d.out
-    }
+// The next number of a lent generator, whose state moves on in place. Document 01 names this function and the next one.
+pub fn next_u64(g: &mut SplitMix64) -> u64
+    ensures { record { state = g.new.state; out = result } ≡ drawn g.old.state }
+{
+    let d = draw(g.state);
+    g.state = d.state;
+    d.out
+}
+
+// The next fraction of a lent generator, from 0 to below 1; one number is spent.
+pub fn next_f64(g: &mut SplitMix64) -> f64
+    ensures { record { state = g.new.state; out = result } ≡ drawn_f64 g.old.state }
+{
+    let x = draw(g.state);
+    g.state = x.state;
+    x.out
 }
 
 // The seed of restart s: seed + s * 0x9E3779B9, modulo 2^64.
