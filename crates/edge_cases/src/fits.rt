@@ -1,6 +1,7 @@
 // Examples of the limits of the three fits, and what they answer.
-ghost use Rattle.std.specs.Prelude.{◌≤◌};
+ghost use Rattle.std.specs.Prelude.{◌≡◌, ◌≤◌};
 
+use super::lists;
 use auto::{Chosen, NotChosen};
 use words::{plus, word};
 
@@ -41,29 +42,18 @@ fn number_of<T: Drop, E: Into<u32>>(r: Result<T, E>) -> u32 {
 
 // Whether all labels are 9, as before a call.
 pub(crate) fn labels_untouched(v: &[u32]) -> bool {
-    let mut same = true;
-    let mut i = 0;
-    while i < v.len() {
-        same = same & (v[i] == 9);
-        i += 1;
-    }
-    same
+    v.iter().all(|x| *x == 9)
 }
 
 // Whether all numbers are 9, as before a call.
 fn untouched(v: &[f64]) -> bool {
-    let mut same = true;
-    let mut i = 0;
-    while i < v.len() {
-        same = same & (float::bits_of(v[i]) == 0x4022_0000_0000_0000);
-        i += 1;
-    }
-    same
+    v.iter()
+        .all(|x| float::bits_of(*x) == 0x4022_0000_0000_0000)
 }
 
 // Whether the answer is word 1, the number of a refusal or 0, and the outputs are untouched where it is a refusal.
 fn answer_is(c: u32, same: bool, line: &[u64]) -> bool {
-    (c as u64 == word(line, 1)) & ((c == 0) | same)
+    u64::from(c) == word(line, 1) && (c == 0 || same)
 }
 
 // What spherical k-means answers with arrays of the lengths from word `at` on: labels, directions and the two work
@@ -99,7 +89,8 @@ fn clustered(
 }
 
 // Whether it answers as word 1 says.
-fn clustering_holds(weights: &[f64], coords: &[f64], c: Call, line: &[u64], at: usize) -> bool {
+pub(crate) fn clustering_holds(weights: &[f64], coords: &[f64], line: &[u64], at: usize) -> bool {
+    let c = call_of(line);
     let mut labels = [9u32; 4096];
     let mut directions = [9.0; 256];
     let r = clustered(weights, coords, c, line, at, &mut labels, &mut directions);
@@ -156,7 +147,8 @@ fn fitted(
 }
 
 // Whether it answers as word 1 says.
-fn fit_answer_holds(weights: &[f64], coords: &[f64], c: Call, line: &[u64], at: usize) -> bool {
+pub(crate) fn fit_answer_holds(weights: &[f64], coords: &[f64], line: &[u64], at: usize) -> bool {
+    let c = call_of(line);
     let mut labels = [9u32; 8];
     let mut responsibilities = [9.0; 32];
     let mut group_weights = [9.0; 8];
@@ -198,7 +190,8 @@ pub(crate) fn chosen_is(r: Result<Chosen, NotChosen>, same: bool, line: &[u64]) 
 }
 
 // Whether the automatic fit with small arrays answers so.
-fn choice_holds(weights: &[f64], coords: &[f64], c: Call, line: &[u64]) -> bool {
+pub(crate) fn choice_holds(weights: &[f64], coords: &[f64], line: &[u64], _at: usize) -> bool {
+    let c = call_of(line);
     let mut labels = [9u32; 8];
     let mut responsibilities = [9.0; 32];
     let mut group_weights = [9.0; 8];
@@ -228,31 +221,20 @@ fn choice_holds(weights: &[f64], coords: &[f64], c: Call, line: &[u64]) -> bool 
     chosen_is(r, a & b, line)
 }
 
-// Kinds 10 to 12 with these leaves: spherical k-means and the mixture fit, whose arrays' lengths are from word `at` on,
-// and the automatic fit.
-fn fit_holds(kind: u64, weights: &[f64], coords: &[f64], line: &[u64], at: usize) -> bool {
-    if kind == 10 {
-        return clustering_holds(weights, coords, call_of(line), line, at);
-    }
-    if kind == 11 {
-        return fit_answer_holds(weights, coords, call_of(line), line, at);
-    }
-    choice_holds(weights, coords, call_of(line), line)
-}
-
-// Kinds 10 to 12: the answer in words 1 to 3, d, k_min, k or k_max, rounds, restarts, the weights, the coordinates, and
-// the arrays' lengths.
-pub(crate) fn fits_hold(kind: u64, line: &[u64]) -> bool {
+// Whether the test holds of a line's leaves: the answer in words 1 to 3, d, k_min, k or k_max, rounds, restarts, the
+// weights, the coordinates, and from word `at` on the arrays' lengths.
+pub(crate) fn holds<F: FnOnce(&[f64], &[f64], &[u64], usize) -> bool>(line: &[u64], test: F) -> bool
+    requires { F.IsAlwaysCallable test }
+{
     let mut weights = [0.0; 4097];
     let mut coords = [0.0; 4097];
-    let m = super::lists::load(&mut weights, line, 9);
-    let at = super::lists::after(line, 9);
-    let n = super::lists::load(&mut coords, line, at);
-    fit_holds(
-        kind,
+    let m = lists::load(&mut weights, line, 9);
+    let at = lists::after(line, 9);
+    let n = lists::load(&mut coords, line, at);
+    test(
         &weights[..m],
         &coords[..n],
         line,
-        super::lists::after(line, at),
+        lists::after(line, at),
     )
 }

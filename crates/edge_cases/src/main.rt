@@ -8,28 +8,31 @@
 
 mod files;
 mod fits;
+mod kind;
 mod lists;
 mod numbers;
 
+use kind::Kind;
 use std::io;
 use std::io::Read;
 use words::word;
 
-// Whether a line's example holds; kind 9 is a restart's seed, kind 15 an entry of the table of ln_gamma.
-fn holds(kind: u64, line: &[u64]) -> bool {
-    if kind < 9 {
-        return numbers::number_holds(kind, line);
+// Whether a line's example holds; of the numbers of a seed, that they were printed.
+fn holds(kind: Kind, line: &[u64]) -> bool {
+    match kind {
+        Kind::Draws => true,
+        Kind::Gives(operation) => numbers::gives(operation, line),
+        Kind::Between(operation) => numbers::between(operation, line),
+        Kind::RestartSeed => {
+            rng::restart_seed(word(line, 1), word(line, 2)) == word(line, 4)
+        }
+        Kind::Clustering => fits::holds(line, fits::clustering_holds),
+        Kind::Mixture => fits::holds(line, fits::fit_answer_holds),
+        Kind::Choice => fits::holds(line, fits::choice_holds),
+        Kind::FileFit => files::holds(line, files::file_fit_is),
+        Kind::Listing => files::holds(line, files::listing_is),
+        Kind::Entry => numbers::entry_holds(word(line, 1) as usize, word(line, 4)),
     }
-    if kind == 9 {
-        return rng::restart_seed(word(line, 1), word(line, 2)) == word(line, 4);
-    }
-    if kind < 13 {
-        return fits::fits_hold(kind, line);
-    }
-    if kind == 15 {
-        return numbers::entry_holds(word(line, 1) as usize, word(line, 4));
-    }
-    files::file_holds(kind, line)
 }
 
 // Prints what stands behind the bar, which is at that place.
@@ -42,8 +45,8 @@ fn print_name(rt: &impl Print, text: &[u8], bar: usize) -> io::Result<()> {
 
 // Prints whether a line's example holds, or in kind 0 the numbers of the seed in word 1.
 fn run_words(rt: &impl Print, line: &[u64]) -> io::Result<()> {
-    let kind = word(line, 0);
-    if kind == 0 {
+    let kind = Kind::from(word(line, 0));
+    if kind == Kind::Draws {
         println!(rt; ":")?;
         numbers::print_draws(rt, word(line, 1))
     } else if holds(kind, line) {

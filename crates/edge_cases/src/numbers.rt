@@ -3,24 +3,20 @@ ghost use Rattle.std.specs.Prelude.{◌≡◌};
 ghost use Rattle.edge_cases.specs.Five.{five_of};
 
 use std::io;
-use words::{number, word};
+use words::{Operation, number};
 
-// The operation that has this number; abs where none has.
-fn operation_of(number: u64) -> words::Operation {
-    words::Operation::try_from(number).unwrap_or(words::Operation::Abs)
+// Words 1 to 3 are arguments, and word 4 is the value, all NaN as one.
+pub(crate) fn gives(operation: Operation, line: &[u64]) -> bool {
+    let v = words::arithmetic(operation, number(line, 1), number(line, 2), number(line, 3));
+    words::is_number(v, line, 4)
 }
 
-// Kinds 1 to 8: root, exp, ln, max, clamp, abs, and once more exp and ln. Words 1 to 3 are arguments, and word 4 is the
-// value, all NaN as one; in kinds 7 and 8 the value lies between words 2 and 3.
-pub(crate) fn number_holds(kind: u64, line: &[u64]) -> bool {
-    let x = number(line, 1);
+// Word 1 is the argument, and the value lies between words 2 and 3.
+pub(crate) fn between(operation: Operation, line: &[u64]) -> bool {
     let y = number(line, 2);
     let z = number(line, 3);
-    if kind < 7 {
-        return words::is_number(words::arithmetic(operation_of(kind), x, y, z), line, 4);
-    }
-    let v = words::arithmetic(operation_of(kind - 5), x, y, z);
-    (y < v) & (v < z)
+    let v = words::arithmetic(operation, number(line, 1), y, z);
+    y < v && v < z
 }
 
 // Five numbers, one after the other.

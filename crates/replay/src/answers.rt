@@ -1,5 +1,5 @@
 // What the three fits answer, and what a case says of it.
-use super::outputs::Place;
+use super::outputs::{Form, Place};
 use auto::{Chosen, NotChosen};
 use limits::Refusal;
 use words::{is_number, plus, word};
@@ -34,23 +34,21 @@ fn found_agrees(a: Answer, k: u64, case: &[u64], at: usize) -> bool {
     }
 }
 
-// Whether an answer with k groups has the words from word `at` on: the place after them.
+// Whether an answer with k groups has the words from word `at` on: the place after them, of that form.
 pub(crate) fn answer_agrees(
     a: Option<Answer>,
     k: u64,
     case: &[u64],
     at: usize,
-    digest: bool,
-) -> Place {
-    let same = match a {
-        Some(a) => found_agrees(a, k, case, at),
-        None => false,
-    };
-    Place {
-        at: plus(at, 3),
-        digest,
-        same,
+    form: Form,
+) -> Option<Place> {
+    if !found_agrees(a?, k, case, at) {
+        return None;
     }
+    Some(Place {
+        at: plus(at, 3),
+        form,
+    })
 }
 
 // Whether the number kept, its log-likelihood and its score are the words from word `at` on; only the number, which is
@@ -67,17 +65,16 @@ fn kept_agrees(found: Option<Found>, case: &[u64], at: usize) -> bool {
 }
 
 // Whether the answer is what the words from word `at` on say: the number, 0 where none is kept, its log-likelihood and
-// score, and the counts. The place after them.
-pub(crate) fn choice_agrees(a: Option<Answer>, case: &[u64], at: usize) -> Place {
-    let same = match a {
-        Some(a) => kept_agrees(a.found, case, at) && counts_agree(a.counts, case, plus(at, 3)),
-        None => false,
-    };
-    Place {
-        at: plus(at, 5),
-        digest: true,
-        same,
+// score, and the counts. The place after them, of digests.
+pub(crate) fn choice_agrees(a: Option<Answer>, case: &[u64], at: usize) -> Option<Place> {
+    let a = a?;
+    if !kept_agrees(a.found, case, at) || !counts_agree(a.counts, case, plus(at, 3)) {
+        return None;
     }
+    Some(Place {
+        at: plus(at, 5),
+        form: Form::Digest,
+    })
 }
 
 pub(crate) fn clustered(r: Result<spherical::Clustered, Refusal>) -> Option<Answer> {

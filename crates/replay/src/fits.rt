@@ -1,5 +1,7 @@
 // Cases of the three fits.
-use super::outputs::Place;
+ghost use Rattle.std.specs.Prelude.{◌≡◌};
+
+use super::outputs::{Form, Place};
 use super::{answers, outputs};
 use words::{plus, word};
 
@@ -8,34 +10,26 @@ fn times(a: usize, b: usize) -> usize {
     a % 65536 * (b % 65536)
 }
 
-// Words 1 to 6 of a case: the numbers of the call.
-#[derive(Clone, Copy)]
-struct Head {
-    w1: u64,
-    w2: u64,
-    w3: u64,
-    w4: u64,
-    w5: u64,
-    w6: u64,
+// Whether the test holds of the leaves: word 0 is m and word 1 is d, and m weights and m * d coordinates stand from
+// word `from` on.
+fn holds<F: FnOnce(&[f64], &[f64]) -> bool>(case: &[u64], from: usize, test: F) -> bool
+    requires { F.IsAlwaysCallable test }
+{
+    let m = word(case, 0) as usize;
+    let n = times(m, word(case, 1) as usize);
+    let mut weights = [0.0; 128];
+    let mut coords = [0.0; 1024];
+    let a = words::load(&mut weights, case, from, m, m);
+    let b = words::load(&mut coords, case, plus(from, m), n, n);
+    test(&weights[..a], &coords[..b])
 }
 
-fn head_of(case: &[u64]) -> Head {
-    Head {
-        w1: word(case, 1),
-        w2: word(case, 2),
-        w3: word(case, 3),
-        w4: word(case, 4),
-        w5: word(case, 5),
-        w6: word(case, 6),
-    }
-}
-
-// Kind 21 with these leaves, spherical k-means: m, d, k, rounds, restarts, seed, m weights, m * d coordinates;
-// cohesion, made, saved, the labels, the directions. The answer's words are from word `at` on. The outputs are longer
-// than needed, and their rest is looked at too.
-fn groups_agree(case: &[u64], weights: &[f64], coords: &[f64], h: Head, at: usize) -> bool {
-    let d = h.w1 as usize;
-    let k = h.w2 as usize;
+// Spherical k-means: m, d, k, rounds, restarts, seed, m weights, m * d coordinates; cohesion, made, saved, the labels,
+// the directions. The answer's words are from word `at` on. The outputs are longer than needed, and their rest is
+// looked at too.
+fn groups_agree(case: &[u64], weights: &[f64], coords: &[f64], at: usize) -> Option<Place> {
+    let d = word(case, 1) as usize;
+    let k = word(case, 2) as usize;
     let mut labels = [7u32; 132];
     let mut directions = [7.5; 640];
     let mut work = [0.0; 12288];
@@ -45,17 +39,23 @@ fn groups_agree(case: &[u64], weights: &[f64], coords: &[f64], h: Head, at: usiz
         coords,
         d,
         k,
-        h.w3 as usize,
-        h.w4 as usize,
-        h.w5,
+        word(case, 3) as usize,
+        word(case, 4) as usize,
+        word(case, 5),
         &mut labels,
         &mut directions,
         &mut work,
         &mut work_u32,
     );
-    let p = answers::answer_agrees(answers::clustered(r), 0, case, at, false);
-    let q = outputs::labels_agree(&labels, weights.len(), case, p);
-    outputs::rows_agree(&directions, times(k, d), case, q).same
+    let p = answers::answer_agrees(answers::clustered(r), 0, case, at, Form::Words)?;
+    let q = outputs::labels_agree(&labels, weights.len(), case, p)?;
+    outputs::rows_agree(&directions, times(k, d), case, q)
+}
+
+pub(crate) fn spherical_agrees(case: &[u64], ins: usize) -> bool {
+    holds(case, 6, |weights, coords| {
+        groups_agree(case, weights, coords, ins).is_some()
+    })
 }
 
 fn kappa_of(x: u64) -> mixture_kappa::Kappa {
@@ -82,15 +82,7 @@ struct Shape {
     d: usize,
 }
 
-fn shaped(m: usize, k: usize, d: u64) -> Shape {
-    Shape {
-        m,
-        k,
-        d: d as usize,
-    }
-}
-
-// Whether the six outputs of that shape are as p says.
+// Whether the six outputs of that shape are as p says: the place after them.
 fn outputs_agree(
     s: Shape,
     labels: &[u32],
@@ -101,26 +93,29 @@ fn outputs_agree(
     logw: &[f64],
     case: &[u64],
     p: Place,
-) -> bool {
-    let a = outputs::labels_agree(labels, s.m, case, p);
-    let b = outputs::rows_agree(responsibilities, times(s.m, s.k), case, a);
-    let c = outputs::rows_agree(group_weights, s.k, case, b);
-    let e = outputs::rows_agree(directions, times(s.k, s.d), case, c);
-    let f = outputs::rows_agree(concentrations, s.k, case, e);
-    outputs::rows_agree(logw, s.k, case, f).same
+) -> Option<Place> {
+    let p = outputs::labels_agree(labels, s.m, case, p)?;
+    let p = outputs::rows_agree(responsibilities, times(s.m, s.k), case, p)?;
+    let p = outputs::rows_agree(group_weights, s.k, case, p)?;
+    let p = outputs::rows_agree(directions, times(s.k, s.d), case, p)?;
+    let p = outputs::rows_agree(concentrations, s.k, case, p)?;
+    outputs::rows_agree(logw, s.k, case, p)
 }
 
-// Kinds 22 and 23 with these leaves, the mixture fit: m, d, k, rounds, seed, Kappa, m weights, m * d coordinates; the
-// log-likelihood, made, saved, and the six outputs, or in kind 23 a digest of each.
-fn mixture_agrees(
+// The mixture fit: m, d, k, rounds, seed, Kappa, m weights, m * d coordinates; the log-likelihood, made, saved, and the
+// six outputs in that form.
+fn fit_agrees(
     case: &[u64],
     weights: &[f64],
     coords: &[f64],
-    h: Head,
     at: usize,
-    digest: bool,
-) -> bool {
-    let s = shaped(weights.len(), h.w2 as usize, h.w1);
+    form: Form,
+) -> Option<Place> {
+    let s = Shape {
+        m: weights.len(),
+        k: word(case, 2) as usize,
+        d: word(case, 1) as usize,
+    };
     let mut labels = [7u32; 132];
     let mut responsibilities = [7.5; 6500];
     let mut group_weights = [7.5; 68];
@@ -134,7 +129,7 @@ fn mixture_agrees(
         coords,
         s.d,
         s.k,
-        settings(h.w3, h.w4, h.w5),
+        settings(word(case, 3), word(case, 4), word(case, 5)),
         &mut labels,
         &mut responsibilities,
         &mut group_weights,
@@ -144,7 +139,7 @@ fn mixture_agrees(
         &mut work,
         &mut work_u32,
     );
-    let p = answers::answer_agrees(answers::fitted(r), h.w2, case, at, digest);
+    let p = answers::answer_agrees(answers::fitted(r), word(case, 2), case, at, form)?;
     outputs_agree(
         s,
         &labels,
@@ -158,16 +153,26 @@ fn mixture_agrees(
     )
 }
 
+pub(crate) fn mixture_agrees(case: &[u64], ins: usize, form: Form) -> bool {
+    holds(case, 6, |weights, coords| {
+        fit_agrees(case, weights, coords, ins, form).is_some()
+    })
+}
+
 // The number of leaves, or 0 where no number of groups is kept.
 fn labelled(k: usize, m: usize) -> usize {
     if k == 0 { 0 } else { m }
 }
 
-// Kind 24 with these leaves, the automatic fit: m, d, k_min, k_max, rounds, seed, Kappa, m weights, m * d coordinates;
+// The automatic fit: m, d, k_min, k_max, rounds, seed, Kappa, m weights, m * d coordinates;
 // the number, the log-likelihood, the score, made, saved, and a digest of each output.
-fn auto_agrees(case: &[u64], weights: &[f64], coords: &[f64], h: Head, at: usize) -> bool {
+fn choice_agrees(case: &[u64], weights: &[f64], coords: &[f64], at: usize) -> Option<Place> {
     let k = word(case, at) as usize;
-    let s = shaped(labelled(k, weights.len()), k, h.w1);
+    let s = Shape {
+        m: labelled(k, weights.len()),
+        k,
+        d: word(case, 1) as usize,
+    };
     let mut labels = [7u32; 132];
     let mut responsibilities = [7.5; 1024];
     let mut group_weights = [7.5; 68];
@@ -180,9 +185,9 @@ fn auto_agrees(case: &[u64], weights: &[f64], coords: &[f64], h: Head, at: usize
         weights,
         coords,
         s.d,
-        h.w2 as usize,
-        h.w3 as usize,
-        settings(h.w4, h.w5, h.w6),
+        word(case, 2) as usize,
+        word(case, 3) as usize,
+        settings(word(case, 4), word(case, 5), word(case, 6)),
         &mut labels,
         &mut responsibilities,
         &mut group_weights,
@@ -192,7 +197,7 @@ fn auto_agrees(case: &[u64], weights: &[f64], coords: &[f64], h: Head, at: usize
         &mut work,
         &mut work_u32,
     );
-    let p = answers::choice_agrees(answers::chosen(r), case, at);
+    let p = answers::choice_agrees(answers::chosen(r), case, at)?;
     outputs_agree(
         s,
         &labels,
@@ -206,26 +211,8 @@ fn auto_agrees(case: &[u64], weights: &[f64], coords: &[f64], h: Head, at: usize
     )
 }
 
-// Kinds 21 to 24 with these leaves; the answer's words are from word `at` on.
-fn fit_agrees(kind: u64, case: &[u64], weights: &[f64], coords: &[f64], at: usize) -> bool {
-    let h = head_of(case);
-    if kind == 21 {
-        return groups_agree(case, weights, coords, h, at);
-    }
-    if kind == 24 {
-        return auto_agrees(case, weights, coords, h, at);
-    }
-    mixture_agrees(case, weights, coords, h, at, kind == 23)
-}
-
-// Kinds 21 to 24: word 0 is m and word 1 is d, and m weights and m * d coordinates end the words in.
-pub(crate) fn fits_agree(kind: u64, case: &[u64], ins: usize) -> bool {
-    let m = word(case, 0) as usize;
-    let from: usize = if kind == 24 { 7 } else { 6 };
-    let mut weights = [0.0; 128];
-    let mut coords = [0.0; 1024];
-    let a = words::load(&mut weights, case, from, m, m);
-    let n = times(m, word(case, 1) as usize);
-    let b = words::load(&mut coords, case, plus(from, m), n, n);
-    fit_agrees(kind, case, &weights[..a], &coords[..b], ins)
+pub(crate) fn auto_agrees(case: &[u64], ins: usize) -> bool {
+    holds(case, 7, |weights, coords| {
+        choice_agrees(case, weights, coords, ins).is_some()
+    })
 }

@@ -7,6 +7,7 @@
 mod answers;
 mod files;
 mod fits;
+mod kind;
 mod numbers;
 mod outputs;
 mod vectors;
@@ -14,69 +15,38 @@ mod vectors;
 ghost use Rattle.std.specs.Prelude.{◌≡◌, IfOk, OnErr};
 ghost use Rattle.words.specs.Words.{Counted};
 
-use std::io;
+use kind::Kind;
+use outputs::Form;
 use std::io::Read;
+use std::{fmt, io};
 use words::{plus, word};
 
 // Whether a case agrees, which has that many words in.
-fn agrees(kind: u64, case: &[u64], ins: usize) -> bool {
-    if kind <= 6 {
-        return numbers::arithmetic_agrees(kind, case, ins);
+fn agrees(kind: Kind, case: &[u64], ins: usize) -> bool {
+    match kind {
+        Kind::Arithmetic(operation) => numbers::arithmetic_agrees(operation, case, ins),
+        Kind::Draw => numbers::draw_agrees(case),
+        Kind::Draws => numbers::draws_agree(case),
+        Kind::Product => numbers::product_agrees(case),
+        Kind::RestartSeed => numbers::restart_seed_agrees(case),
+        Kind::Dot => vectors::dot_agrees(case, ins),
+        Kind::Norm => vectors::norm_agrees(case, ins),
+        Kind::Unit => vectors::unit_agrees(case, ins),
+        Kind::Argmax => vectors::argmax_agrees(case, ins),
+        Kind::Argmin => vectors::argmin_agrees(case, ins),
+        Kind::Pick => vectors::pick_agrees(case, ins),
+        Kind::LnGamma => numbers::ln_gamma_agrees(case, ins),
+        Kind::LnGammaHalf => numbers::ln_gamma_half_agrees(case, ins),
+        Kind::LogVmfNorm => numbers::log_vmf_norm_agrees(case, ins),
+        Kind::EstimateKappa => numbers::estimate_kappa_agrees(case, ins),
+        Kind::KappaMax => numbers::kappa_max_agrees(case, ins),
+        Kind::Spherical => fits::spherical_agrees(case, ins),
+        Kind::Mixture => fits::mixture_agrees(case, ins, Form::Words),
+        Kind::MixtureDigests => fits::mixture_agrees(case, ins, Form::Digest),
+        Kind::Auto => fits::auto_agrees(case, ins),
+        Kind::Listing => files::listing_agrees(case, ins),
+        Kind::Unknown(_) => false,
     }
-    if kind <= 10 {
-        return numbers::generator_agrees(kind, case);
-    }
-    if kind <= 16 {
-        return vectors::vector_agrees(kind, case, ins);
-    }
-    if kind <= 20 || kind == 26 {
-        return numbers::bessel_agrees(kind, case, ins);
-    }
-    if kind <= 24 {
-        return fits::fits_agree(kind, case, ins);
-    }
-    kind == 25 && files::listing_agrees(case, ins)
-}
-
-// Prints line n of a text, from 0; nothing where it has fewer.
-fn print_line(rt: &impl Print, text: &str, n: usize) -> io::Result<()> {
-    rt.print(text.lines().nth(n).unwrap_or(""))
-}
-
-// Prints what the cases of a kind are of.
-fn print_kind(rt: &impl Print, kind: u64) -> io::Result<()> {
-    let n = if kind <= 26 { kind } else { 0 };
-    print_line(
-        rt,
-        "unknown kind
-root
-exp
-ln
-max
-clamp
-abs
-next_u64, next_f64
-runs of 64 draws
-wrapping_mul_u64
-restart_seed
-dot
-norm
-unit
-argmax
-argmin
-weighted_pick
-ln_gamma
-log_vmf_norm
-estimate_kappa
-kappa_max
-spherical_kmeans
-movmf_with
-movmf_with, by digests
-movmf_auto_with
-listings of leaf files
-ln_gamma_half",
-        n as usize,
-    )
 }
 
 // Reads words to the start of `to`, by way of `space` and until `part` ends, and answers how many there were.
@@ -106,24 +76,35 @@ fn read_words(
 // How many cases of a kind agreed so far, and of how many.
 #[derive(Clone, Copy)]
 struct Tally {
-    kind: u64,
+    kind: Kind,
     agreed: usize,
     count: usize,
 }
 
-fn print_tally(rt: &impl Print, kind: u64, agreed: usize, count: usize) -> io::Result<()> {
-    print_kind(rt, kind)?;
-    println!(rt; ": {agreed} of {count} agree")
+impl fmt::Display for Tally {
+    fn fmt<W: fmt::Write>(&self, f: &mut fmt::Formatter<W>) -> fmt::Result {
+        let kind = self.kind;
+        let agreed = self.agreed;
+        let count = self.count;
+        write!(f, "{kind}: {agreed} of {count} agree")
+    }
+}
+
+fn print_tally(rt: &impl Print, tally: Option<Tally>) -> io::Result<()> {
+    match tally {
+        Some(t) => println!(rt; "{t}"),
+        None => Ok(()),
+    }
 }
 
 // The tally for a block of this kind: the same one, or a new one, the old one printed.
-fn tally_for(rt: &impl Print, kind: u64, t: Tally) -> io::Result<Tally> {
-    if t.kind == kind {
-        return Ok(t);
+fn tally_for(rt: &impl Print, kind: Kind, old: Option<Tally>) -> io::Result<Tally> {
+    if let Some(t) = old {
+        if t.kind == kind {
+            return Ok(t);
+        }
     }
-    if t.kind != 0 {
-        print_tally(rt, t.kind, t.agreed, t.count)?;
-    }
+    print_tally(rt, old)?;
     Ok(Tally {
         kind,
         agreed: 0,
@@ -134,83 +115,71 @@ fn tally_for(rt: &impl Print, kind: u64, t: Tally) -> io::Result<Tally> {
 // A block's kind, the numbers of words in and out of a case, and the number of cases.
 #[derive(Clone, Copy)]
 struct Block {
-    kind: u64,
+    kind: Kind,
     ins: usize,
     outs: usize,
     count: usize,
 }
 
-fn only(there: bool, w: u64) -> u64 {
-    if there { w } else { 0 }
-}
-
-// The block that four words say; of kind 0 and without cases where they are not there.
-fn block_of(words: &[u64], there: bool) -> Block {
-    Block {
-        kind: only(there, word(words, 0)),
+// The block that four words say; kind 0 is none.
+fn block_of(words: &[u64]) -> Option<Block> {
+    if words.len() != 4 || word(words, 0) == 0 {
+        return None;
+    }
+    Some(Block {
+        kind: Kind::from(word(words, 0)),
         ins: word(words, 1) as usize,
         outs: word(words, 2) as usize,
-        count: only(there, word(words, 3)) as usize,
-    }
+        count: word(words, 3) as usize,
+    })
+}
+
+// The next block, if there is one.
+fn read_block(rt: &impl Input, space: &mut Vec<u8>, to: &mut [u64]) -> io::Result<Option<Block>> {
+    let n = read_words(rt, space, to, 4)?;
+    Ok(block_of(&to[..n]))
 }
 
 // Whether the next case agrees.
-fn run_case(
-    rt: &impl Input,
-    space: &mut Vec<u8>,
-    to: &mut [u64],
-    kind: u64,
-    ins: usize,
-    width: usize,
-) -> io::Result<bool> {
+fn run_case(rt: &impl Input, space: &mut Vec<u8>, to: &mut [u64], b: Block) -> io::Result<bool> {
+    let width = plus(b.ins, b.outs);
     let n = read_words(rt, space, to, width)?;
-    Ok((n == width) & agrees(kind, &to[..n], ins))
+    Ok(n == width && agrees(b.kind, &to[..n], b.ins))
 }
 
 // How many of a block's cases agree.
 fn run_cases(rt: &impl Input, space: &mut Vec<u8>, to: &mut [u64], b: Block) -> io::Result<usize> {
-    let width = plus(b.ins, b.outs);
     let mut agreed = 0;
     for _ in 0..b.count {
-        let same = run_case(rt, space, to, b.kind, b.ins, width)?;
-        agreed = plus(agreed, same as usize);
+        let same = run_case(rt, space, to, b)?;
+        agreed = plus(agreed, usize::from(same));
     }
     Ok(agreed)
 }
 
-// The next block.
-fn read_block(rt: &impl Input, space: &mut Vec<u8>, to: &mut [u64]) -> io::Result<Block> {
-    let n = read_words(rt, space, to, 4)?;
-    Ok(block_of(&to[..n], n == 4))
-}
-
-// Runs the next block; kind 0 where there is none.
+// Runs a block after those of the tally.
 fn run_block(
     rt: &(impl Input + Print),
     space: &mut Vec<u8>,
     to: &mut [u64],
-    t: Tally,
+    b: Block,
+    old: Option<Tally>,
 ) -> io::Result<Tally> {
-    let b = read_block(rt, space, to)?;
-    let old = tally_for(rt, b.kind, t)?;
+    let t = tally_for(rt, b.kind, old)?;
     let agreed = run_cases(rt, space, to, b)?;
     Ok(Tally {
         kind: b.kind,
-        agreed: plus(old.agreed, agreed),
-        count: plus(old.count, b.count),
+        agreed: plus(t.agreed, agreed),
+        count: plus(t.count, b.count),
     })
 }
 
 fn run_list(rt: &(impl Input + Print), space: &mut Vec<u8>, to: &mut [u64]) -> io::Result<()> {
-    let mut t = Tally {
-        kind: 0,
-        agreed: 0,
-        count: 0,
-    };
+    let mut tally = None;
     for _ in 0..4096 {
-        t = run_block(rt, space, to, t)?;
-        if t.kind == 0 {
-            return Ok(());
+        match read_block(rt, space, to)? {
+            Some(b) => tally = Some(run_block(rt, space, to, b, tally)?),
+            None => return print_tally(rt, tally),
         }
     }
     Ok(())

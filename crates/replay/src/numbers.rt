@@ -5,26 +5,23 @@ ghost use Rattle.rng.specs.Drawn.{drawn, drawn_f64};
 
 use words::{Operation, is_number, number, word};
 
-// Kinds 1 to 6: root, exp, ln, max, clamp, abs, as for any other; by the number of words in, after which the answer
-// stands.
-pub(crate) fn arithmetic_agrees(kind: u64, case: &[u64], ins: usize) -> bool {
-    let operation = Operation::try_from(kind).unwrap_or(Operation::Abs);
+// An operation with up to three numbers; by the number of words in, after which the answer stands.
+pub(crate) fn arithmetic_agrees(operation: Operation, case: &[u64], ins: usize) -> bool {
     let x = words::arithmetic(operation, number(case, 0), number(case, 1), number(case, 2));
     is_number(x, case, ins)
 }
 
 // The 64 draws of a seed, one after the other.
-fn draws_agree(case: &[u64]) -> bool {
+pub(crate) fn draws_agree(case: &[u64]) -> bool {
     let mut state = word(case, 0);
-    let mut same = true;
-    let mut i = 1;
-    while i < 65 {
+    for i in 1..65 {
         let d = rng::draw::<u64>(state);
+        if d.out != word(case, i) {
+            return false;
+        }
         state = d.state;
-        same = same & (d.out == word(case, i));
-        i += 1;
     }
-    same
+    true
 }
 
 // A draw, as a whole number and as an f64.
@@ -45,58 +42,45 @@ fn draw_lent(seed: u64) -> Draw
     Draw { number, fraction }
 }
 
-// Kind 7: a draw.
-fn draw_agrees(case: &[u64]) -> bool {
+pub(crate) fn draw_agrees(case: &[u64]) -> bool {
     let d = draw_lent(word(case, 0));
-    (d.number == word(case, 1)) & is_number(d.fraction, case, 2)
+    d.number == word(case, 1) && is_number(d.fraction, case, 2)
 }
 
-// Kinds 9 and 10: a product modulo 2^64, a restart's seed.
-fn whole(kind: u64, a: u64, b: u64) -> u64 {
-    if kind == 9 {
-        return rng::wrapping_mul_u64(a, b);
-    }
-    rng::restart_seed(a, b)
+// A product modulo 2^64.
+pub(crate) fn product_agrees(case: &[u64]) -> bool {
+    rng::wrapping_mul_u64(word(case, 0), word(case, 1)) == word(case, 2)
 }
 
-// Kinds 7 to 10; 8 is a run of draws.
-pub(crate) fn generator_agrees(kind: u64, case: &[u64]) -> bool {
-    if kind == 7 {
-        return draw_agrees(case);
-    }
-    if kind == 8 {
-        return draws_agree(case);
-    }
-    whole(kind, word(case, 0), word(case, 1)) == word(case, 2)
+pub(crate) fn restart_seed_agrees(case: &[u64]) -> bool {
+    rng::restart_seed(word(case, 0), word(case, 1)) == word(case, 2)
 }
 
-// A dimension from 1 to 256, the nearest to n.
-fn dimension(n: usize) -> usize
+// Word j of a case as a dimension: from 1 to 256, the nearest to it.
+fn dimension(case: &[u64], j: usize) -> usize
     ensures { Dimension result }
 {
-    if n < 1 {
-        return 1;
-    }
-    if n < 256 { n } else { 256 }
+    (word(case, j) as usize).clamp(1, 256)
 }
 
-// Kinds 17 to 20: ln_gamma, log_vmf_norm, estimate_kappa, kappa_max; and kind 26: ln_gamma_half.
-fn concentration(kind: u64, a: u64, b: u64) -> f64 {
-    if kind == 17 {
-        return gamma::ln_gamma(float::of_bits(a));
-    }
-    if kind == 26 {
-        return gamma_table::ln_gamma_half(dimension(a as usize));
-    }
-    if kind == 18 {
-        return bessel::log_vmf_norm(dimension(a as usize), float::of_bits(b));
-    }
-    if kind == 19 {
-        return bessel::estimate_kappa(float::of_bits(a), dimension(b as usize));
-    }
-    bessel::kappa_max(a as usize)
+pub(crate) fn ln_gamma_agrees(case: &[u64], ins: usize) -> bool {
+    is_number(gamma::ln_gamma(number(case, 0)), case, ins)
 }
 
-pub(crate) fn bessel_agrees(kind: u64, case: &[u64], ins: usize) -> bool {
-    is_number(concentration(kind, word(case, 0), word(case, 1)), case, ins)
+pub(crate) fn ln_gamma_half_agrees(case: &[u64], ins: usize) -> bool {
+    is_number(gamma_table::ln_gamma_half(dimension(case, 0)), case, ins)
+}
+
+pub(crate) fn log_vmf_norm_agrees(case: &[u64], ins: usize) -> bool {
+    let norm = bessel::log_vmf_norm(dimension(case, 0), number(case, 1));
+    is_number(norm, case, ins)
+}
+
+pub(crate) fn estimate_kappa_agrees(case: &[u64], ins: usize) -> bool {
+    let kappa = bessel::estimate_kappa(number(case, 0), dimension(case, 1));
+    is_number(kappa, case, ins)
+}
+
+pub(crate) fn kappa_max_agrees(case: &[u64], ins: usize) -> bool {
+    is_number(bessel::kappa_max(word(case, 0) as usize), case, ins)
 }
