@@ -137,7 +137,7 @@ fn start(work: &mut [f64], work_u32: &mut [u32], coords: &[f64], m: usize, k: us
     kmeans_layout::fill_at(work, high, m, 1.0 / 0.0);
     kmeans_layout::fill_at(work, served, m, -1.0 / 0.0);
     kmeans_layout::fill_at(work, drift, k, 1.0);
-    rows::fill_u32(&mut work_u32[..m], 0);
+    rows::fill(&mut work_u32[..m], 0);
 }
 
 // ---- a whole run
