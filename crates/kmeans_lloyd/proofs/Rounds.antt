@@ -1,8 +1,8 @@
 -- The rounds over plain lists: a round that is made is one round of the definition's run, and labels stay below k. By the way each test
 -- went, and by recursion on the rounds. Assumes nothing.
-use mathlib.Core.Path.{◌≡◌, ap, sym, ◌∙◌}
+use mathlib.Core.Path.{◌≡◌, refl, ap, ◌∙◌}
 use mathlib.Core.List.{List}
-use mathlib.Core.Bool.{true, false}
+use mathlib.Core.Bool.{Bool, cond, true, false}
 use Prim.Native.Nat.{ℕ, zero, suc, ◌+◌, ◌*◌, ◌≤◌, ◌<◌}
 use native.Mathlib.Omega.{arith}
 use lib.Ieee.{Float}
@@ -15,41 +15,52 @@ use Rattle.kmeans_update.specs.Update.{update_of}
 use Rattle.kmeans_lloyd.specs.Lloyd.{Run, ends_at, after_pass, after_update, rounds_from}
 use Rattle.kmeans_layout.specs.Areas.{Labelled}
 use Rattle.kmeans_lloyd.specs.Runs.{RoundDone, RunSoFar}
-use Rattle.kmeans_lloyd.specs.declared.Round.{Round}
+use Rattle.std.specs.declared.ops.ControlFlow.TheVariants.{Continue, Break}
 use Rattle.kmeans_assign.proofs.Cases.{either}
 use Rattle.kmeans_assign.proofs.Passes.{labelled_of_pass}
 use Rattle.kmeans_update.proofs.Whole.{labelled_of_update}
 
 -- a run with one round more, n doubled by then
-abbrev counted : Run → State → Round → ℕ → Run
-counted r s q n = record { state = s; counts = plus_of r.counts q.counts; doubled = n; begun = r.begun + 1 }
+abbrev counted : Run → State → Counts → ℕ → Run
+counted r s q n = record { state = s; counts = plus_of r.counts q; doubled = n; begun = r.begun + 1 }
+
+-- a round that goes on is not the last, and one that breaks is
+going : (b : Bool) (q x : Counts) → Continue q ≡ cond b (Break x) (Continue x) → (b ≡ false) × (q ≡ x)
+going false q x e = (refl, cc)
+going true q x e = cc
+
+ending : (b : Bool) (q x : Counts) → Break q ≡ cond b (Break x) (Continue x) → (b ≡ true) × (q ≡ x)
+ending true q x e = (refl, cc)
+ending false q x e = cc
 
 module _ (weights coords : List Float) (m k d : ℕ) where
   -- what the update of round `it` doubles
   abbrev anew : ℕ → State → ℕ
   anew it s = (update_of weights coords m k d (pass_of coords m k d it s).state).doubled
 
-  module _ (n n' it : ℕ) (r : Run) (s : State) (q : Round) (more : n ≡ suc n')
-      (done : RoundDone weights coords m k d it r.state s q) where
-    run_turn : q.ended ≡ false
+  module _ (n n' it : ℕ) (r : Run) (s : State) (q : Counts) (more : n ≡ suc n') where
+    run_turn : RoundDone weights coords m k d it r.state s (Continue q)
         → rounds_from weights coords m k d n' (it + 1) (counted r s q (r.doubled + anew it r.state))
         ≡ rounds_from weights coords m k d n it r
     unfolding rounds_from
-    run_turn t =
-        let e : ends_at it (pass_of coords m k d it r.state) ≡ false = sym done.ended ∙ t in
-        rw (more, e, done.counts, done.state t)
+    run_turn done =
+        let p = pass_of coords m k d it r.state in
+        let e = going (ends_at it p) q p.counts done.answer in
+        rw (more, e.0, e.1, rw e.0 at done.state)
 
-    run_stop : q.ended ≡ true → counted r s q r.doubled ≡ rounds_from weights coords m k d n it r
+    run_stop : RoundDone weights coords m k d it r.state s (Break q) → counted r s q r.doubled ≡ rounds_from weights coords m k d n it r
     unfolding rounds_from
-    run_stop t =
-        let e : ends_at it (pass_of coords m k d it r.state) ≡ true = sym done.ended ∙ t in
-        rw (more, e, done.counts, done.last t)
+    run_stop done =
+        let p = pass_of coords m k d it r.state in
+        let e = ending (ends_at it p) q p.counts done.answer in
+        rw (more, e.0, e.1, rw e.0 at done.state)
 
-  pub labelled_of_round : (it : ℕ) (s s' : State) (q : Round) → RoundDone weights coords m k d it s s' q → q.ended ≡ false → 0 < k
+  pub labelled_of_round : (it : ℕ) (s s' : State) (q : Counts) → RoundDone weights coords m k d it s s' (Continue q) → 0 < k
       → Labelled m k s → Labelled m k s'
-  labelled_of_round it s s' q done t h l =
-      rw (done.state t)
-      (labelled_of_update m k (pass_of coords m k d it s).state weights coords d (labelled_of_pass m k s coords d it h l))
+  labelled_of_round it s s' q done h l =
+      let p = pass_of coords m k d it s in
+      let e = going (ends_at it p) q p.counts done.answer in
+      rw (rw e.0 at done.state) (labelled_of_update m k p.state weights coords d (labelled_of_pass m k s coords d it h l))
 
   -- no round is left
   run_end : (n it : ℕ) (r run : Run) → n ≡ 0 → rounds_from weights coords m k d n it r ≡ run → r ≡ run
@@ -75,7 +86,7 @@ running it s c n = record { state = s; counts = c; doubled = n; begun = it }
 abbrev pub Few : ℕ → Counts → Type 0
 Few it c = AtMost (it * of_round) c
 
-pub few_turn : (it : ℕ) (c c' : Counts) (q : Round) → AtMost of_round q.counts → c' ≡ plus_of c q.counts → Few it c → Few (it + 1) c'
+pub few_turn : (it : ℕ) (c c' q : Counts) → AtMost of_round q → c' ≡ plus_of c q → Few it c → Few (it + 1) c'
 few_turn it c c' q small e f = rw e (at_most_more (omega arith) (at_most_plus f small))
 
 -- the rest of the definition's run, n rounds at most from round `it` on, ends as the whole one does
@@ -93,18 +104,17 @@ module _ (weights coords : List Float) (m k d : ℕ) (whole : Run) where
       }
 
   -- round `it` made: the run goes on, or stops there
-  module _ (n n' it : ℕ) (s s' : State) (c c' : Counts) (q : Round) (more : n ≡ suc n') (done : RoundDone weights coords m k d it s s' q)
-      (sum : c' ≡ plus_of c q.counts) (g : GoesOn n it s c) where
-    pub goes_on : q.ended ≡ false → GoesOn n' (it + 1) s' c'
-    goes_on t =
+  module _ (n n' it : ℕ) (s s' : State) (c c' q : Counts) (more : n ≡ suc n') (sum : c' ≡ plus_of c q) (g : GoesOn n it s c) where
+    pub goes_on : RoundDone weights coords m k d it s s' (Continue q) → GoesOn n' (it + 1) s' c'
+    goes_on done =
         rw sum (record {
           doubled = g.doubled + anew weights coords m k d it s;
-          ends = run_turn weights coords m k d n n' it (running it s c g.doubled) s' q more done t ∙ g.ends;
+          ends = run_turn weights coords m k d n n' it (running it s c g.doubled) s' q more done ∙ g.ends;
         })
 
-    pub stops : q.ended ≡ true → Few (it + 1) c' → it + 1 ≤ 10000 → RunSoFar whole s' c'
-    stops t =
-        let e = run_stop weights coords m k d n n' it (running it s c g.doubled) s' q more done t ∙ g.ends in
+    pub stops : RoundDone weights coords m k d it s s' (Break q) → Few (it + 1) c' → it + 1 ≤ 10000 → RunSoFar whole s' c'
+    stops done =
+        let e = run_stop weights coords m k d n n' it (running it s c g.doubled) s' q more done ∙ g.ends in
         lloyd_done (it + 1) g.doubled s' c' (rw sum e)
 
   pub runs_out : (n it : ℕ) (s : State) (c : Counts) → n ≡ 0 → GoesOn n it s c → Few it c → it ≤ 10000 → RunSoFar whole s c

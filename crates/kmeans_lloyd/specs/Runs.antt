@@ -1,6 +1,8 @@
 -- What the functions of the start, of a round and of a whole run ask and promise. No definition of document 01 stands
 -- on this file.
-use Rattle.std.specs.Prelude.{◌≡◌, List, true, false, ℕ, ◌+◌, ◌≤◌, Float}
+use Rattle.std.specs.Prelude.{◌≡◌, List, cond, ℕ, ◌+◌, ◌≤◌, Float}
+use Rattle.std.specs.declared.ops.ControlFlow.{ControlFlow}
+use Rattle.std.specs.declared.ops.ControlFlow.TheVariants.{Continue, Break}
 use Rattle.counts.specs.declared.Counts.{Counts}
 use Rattle.counts.specs.Counts.{AtMost, of_round, of_runs}
 use Rattle.rows.specs.Rows.{row_of}
@@ -12,7 +14,6 @@ use Rattle.kmeans_update.specs.Update.{update_of}
 use Rattle.kmeans_assign.specs.Pass.{Pass, pass_of}
 use Rattle.kmeans_lloyd.specs.Lloyd.{Run, ends_at}
 use Rattle.kmeans_sums.specs.Sums.{sums_up_to}
-use Rattle.kmeans_lloyd.specs.declared.Round.{Round}
 use Rattle.kmeans_lloyd.specs.declared.RunEnd.{RunEnd}
 use Rattle.kmeans_layout.specs.Areas.{state_in, sums_in, Sized, Labelled}
 
@@ -27,14 +28,12 @@ norms_from coords d i n = tabulate (λ e. norm_of (row_of coords d (i + e))) n
 
 module _ (weights coords : List Float) (m k d it : ℕ) where
   -- a round by its pass p: the end, or the update
-  pub record RoundBy (p : Pass) (s' : State) (r : Round) : Type 0 where
-    pub ended : r.ended ≡ ends_at it p
-    pub counts : r.counts ≡ p.counts
-    pub last : r.ended ≡ true → s' ≡ p.state
-    pub state : r.ended ≡ false → s' ≡ (update_of weights coords m k d p.state).state
-    pub small : AtMost of_round r.counts
+  pub record RoundBy (p : Pass) (s' : State) (r : ControlFlow Counts Counts) : Type 0 where
+    pub answer : r ≡ cond (ends_at it p) (Break p.counts) (Continue p.counts)
+    pub state : s' ≡ cond (ends_at it p) p.state (update_of weights coords m k d p.state).state
+    pub small : AtMost of_round p.counts
 
-  abbrev pub RoundDone : (s s' : State) → Round → Type 0
+  abbrev pub RoundDone : (s s' : State) → ControlFlow Counts Counts → Type 0
   RoundDone s s' r = RoundBy (pass_of coords m k d it s) s' r
 
 -- the code's state and counts are those of a run of the definition so far

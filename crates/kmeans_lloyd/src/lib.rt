@@ -9,16 +9,11 @@ ghost use Rattle.kmeans_lloyd.specs.Results.{result_of};
 ghost use Rattle.kmeans_layout.specs.Areas.{state_in, Sized, Labelled, Area};
 ghost use Rattle.kmeans_lloyd.specs.Runs.{RoundDone, RunSoFar, put_scale, own_dots, norms_from, Runnable, RunDone, RunLeft};
 
+use std::ops::ControlFlow;
+
 // ---- rounds
 
-// What a round answers: whether it was the last, and its counts.
-#[derive(Clone, Copy)]
-pub struct Round {
-    pub ended: bool,
-    pub counts: counts::Counts,
-}
-
-// Round `it`: the pass, and unless it ends the run the update.
+// Round `it`: the pass, and unless it ends the run the update; its counts, as a break where it was the last.
 fn one_round(
     work: &mut [f64],
     work_u32: &mut [u32],
@@ -28,7 +23,7 @@ fn one_round(
     m: usize,
     k: usize,
     d: usize,
-) -> Round
+) -> ControlFlow<counts::Counts, counts::Counts>
     requires sized { Sized (length work.old) (length work_u32.old) (length coords.now) m k d }
     requires weights_len { (length weights.now ≡ m) × Labelled m k (state_in m k d work.old work_u32.old) }
     ensures { RoundDone weights.now coords.now m k d it
@@ -36,18 +31,11 @@ fn one_round(
         (state_in m k d work.new work_u32.new) result }
 {
     let p = kmeans_assign::pass(work, work_u32, coords, it, m, k, d);
-    let c = p.counts;
     if !p.changed & (it > 0) {
-        return Round {
-            ended: true,
-            counts: c,
-        };
+        return ControlFlow::Break(p.counts);
     }
     kmeans_update::update(work, work_u32, weights, coords, m, k, d);
-    Round {
-        ended: false,
-        counts: c,
-    }
+    ControlFlow::Continue(p.counts)
 }
 
 // Rounds until no label changes after the first, at most `rounds`.
@@ -70,10 +58,9 @@ fn lloyd(
 {
     let mut c = counts::none();
     for it in 0..rounds {
-        let r = one_round(work, work_u32, weights, coords, it, m, k, d);
-        c = counts::plus(c, r.counts);
-        if r.ended {
-            break;
+        match one_round(work, work_u32, weights, coords, it, m, k, d) {
+            ControlFlow::Continue(n) => c = counts::plus(c, n),
+            ControlFlow::Break(n) => return counts::plus(c, n),
         }
     }
     c

@@ -5,9 +5,6 @@ use Rattle.root.specs.Root.{root_of}
 use Rattle.kmeans_bounds.proofs.Turns.{lower_within, upper_within, neither}
 use Rattle.kmeans_bounds.proofs.both_shifted.Goals as goal
 
-pub returns-then-l-p : goal.returns-then-l-p
-returns-then-l-p c = simp (c.shift_lower.ensures, c.shift_upper.ensures)
-
 pub returns : goal.returns
 unfolding of_bits of_int
 returns c =
