@@ -114,8 +114,7 @@ pub fn fit_range(
         loglik: -1.0 / 0.0,
         counts: counts::none(),
     };
-    let mut k = lo;
-    while k <= hi {
+    for k in lo..hi + 1 {
         t = fit_of_k(
             weights,
             coords,
@@ -133,7 +132,6 @@ pub fn fit_range(
             work,
             work_u32,
         );
-        k += 1;
     }
     t
 }

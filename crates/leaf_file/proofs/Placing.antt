@@ -1,4 +1,4 @@
--- Text put at a place: nothing, one byte, and one text after another; and a decimal digit by digit. By the laws of `take` and `drop`.
+-- Text put at a place: nothing, one byte, a word, and one text after another; and a decimal digit by digit. By the laws of `take` and `drop`.
 -- Assumes nothing.
 use mathlib.Core.Path.{◌≡◌, refl, sym, ap, subst, ◌∙◌}
 use mathlib.Core.List.{List, [], ◌∷◌, ◌++◌, append_assoc, append-nil}
@@ -7,7 +7,8 @@ use native.Mathlib.Numerals.{add-one}
 use native.Mathlib.Omega.{arith}
 use borrow.Author.Tests.{lt-ltb, le-ltb}
 use lib.ListN.{length, take, drop, set, length-append}
-use lib.Seq.{take-suc-set, drop-set-lt, drop-drop}
+use lib.Seq.{take-suc-set, drop-set-lt, drop-drop, take_at, drop_at, length-take-le}
+use Rattle.rows.specs.Rows.{put_part}
 use Rattle.leaf_file.specs.Listing.{decimal_in}
 use Rattle.leaf_file.specs.Texts.{Put}
 
@@ -20,6 +21,21 @@ put_one l at b h =
       ends = refl;
       front = rw add-one (take-suc-set l at b h);
       rest = drop-set-lt (at + 1) l at b (omega arith);
+    }
+
+-- a word, as the code copies it to where it cuts
+pub put_copied : (w v l : List ℕ) (at : ℕ) → at + length w ≤ length l → v ≡ w
+    → Put w l (put_part l at (at + length w - at) v) at (at + length w)
+put_copied w v l at h e =
+    let m : at + length w - at ≡ length w = omega arith in
+    let p = take at l ++ w in
+    let q = drop (length w) (drop at l) in
+    let n : length p ≡ at + length w = omega (arith, length-append (take at l) w, length-take-le at l (omega arith)) in
+    let whole : put_part l at (at + length w - at) v ≡ p ++ q = rw (e, m, append_assoc) in
+    record {
+      ends = refl;
+      front = ap (take (at + length w)) whole ∙ take_at p q (at + length w) n;
+      rest = ap (drop (at + length w)) whole ∙ drop_at p q (at + length w) n ∙ drop-drop (length w) at l;
     }
 
 -- what lies behind e lies behind f too

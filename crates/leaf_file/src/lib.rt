@@ -22,22 +22,13 @@ const GROUPS: usize = 4;
 
 // ---- reading
 
-fn wide(b: u8) -> u64
-    ensures { (result ≡ b) × (result < 256) }
-{
-    b as u64
-}
-
 // The number of the four bytes from `at` on, the lowest first.
 fn u32_at(bytes: &[u8], at: usize) -> u64
     requires { at + 4 ≤ length bytes.now }
     ensures { (result ≡ whole_at bytes.now at 4) × (result < 4294967296) }
 {
-    let a = wide(bytes[at]);
-    let b = wide(bytes[at + 1]);
-    let c = wide(bytes[at + 2]);
-    let e = wide(bytes[at + 3]);
-    a + 256 * b + 65536 * c + 16777216 * e
+    let b = &bytes[at..at + 4];
+    u64::from(u32::from_le_bytes([b[0], b[1], b[2], b[3]]))
 }
 
 // The f64 of the eight bytes from `at` on.
@@ -45,9 +36,9 @@ fn f64_at(bytes: &[u8], at: usize) -> f64
     requires { at + 8 ≤ length bytes.now }
     ensures { result ≡ f64_at bytes.now at }
 {
-    let low = u32_at(bytes, at);
-    let high = u32_at(bytes, at + 4);
-    float::of_bits(low + 4294967296 * high)
+    let b = &bytes[at..at + 8];
+    let bits = u64::from_le_bytes([b[0], b[1], b[2], b[3], b[4], b[5], b[6], b[7]]);
+    float::of_bits(bits)
 }
 
 // Fills out with the f64 from `at` on.
@@ -55,10 +46,8 @@ fn load(out: &mut [f64], bytes: &[u8], at: usize)
     requires { at + 8 * length out.old ≤ length bytes.now }
     ensures { out.new ≡ f64s_at bytes.now at (length out.old) }
 {
-    let mut i = 0;
-    while i < out.len() {
+    for i in 0..out.len() {
         out[i] = f64_at(bytes, at + 8 * i);
-        i += 1;
     }
 }
 
@@ -187,12 +176,9 @@ fn put_word(out: &mut [u8], at: usize, word: &[u8]) -> usize
     requires { at + length word.now ≤ length out.old }
     ensures { Put word.now out.old out.new at result }
 {
-    let mut i = 0;
-    while i < word.len() {
-        out[at + i] = word[i];
-        i += 1;
-    }
-    at + word.len()
+    let end = at + word.len();
+    out[at..end].copy_from_slice(word);
+    end
 }
 
 // Puts a number in decimal, of at most `places` digits: those before the last, and then the last.
@@ -241,10 +227,8 @@ fn put_shops(out: &mut [u8], at: usize, labels: &[u32]) -> usize
         out.new at result }
 {
     let mut end = at;
-    let mut i = 0;
-    while i < labels.len() {
-        end = put_shop(out, end, i, labels[i]);
-        i += 1;
+    for (i, label) in labels.iter().enumerate() {
+        end = put_shop(out, end, i, *label);
     }
     end
 }

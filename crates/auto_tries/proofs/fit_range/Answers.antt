@@ -1,7 +1,7 @@
 -- `auto_tries::fit_range` meets its contract.
 use mathlib.Core.Path.{◌≡◌, refl, ap, ◌∙◌}
 use mathlib.Core.Bool.{true}
-use Prim.Native.Nat.{◌*◌, ◌-◌}
+use Prim.Native.Nat.{◌*◌, ◌-◌, ◌≤◌}
 use native.Mathlib.Omega.{arith}
 use lib.ListN.{length}
 use lib.Ieee.{inf, of_bits, div, neg}
@@ -32,8 +32,6 @@ unfolding div neg of_bits
 loop-k-init c =
     let a = c.args in
     let o = found (goal.at.loop-k-init c).Start in (
-      omega arith,
-      omega (arith, c.requires.le_lo.1),
       refl,
       fitted_start o a.weights.now a.coords.now a.d a.s a.lo _ (ap begun c.none.ensures),
       tails_start (length a.weights.now) a.lo a.d o,
@@ -45,24 +43,17 @@ fit_of_k-t-requires c =
     let a = c.args in
     let o = found (goal.at.fit_of_k-t-requires c).Start in
     let l = c.loop-k in
-    let most = c.loop-k-test.true in
+    let most : l.k ≤ a.hi = omega arith in
     let m = length a.weights.now in
     let n = length a.coords.now in
     let v = fittable_below m n m a.hi l.k a.d a.s.rounds (lengths_of o (length a.work.now) (length a.work_u32.now))
-    (omega (arith, l.invariant.0, c.requires.le_lo.0)) most c.requires.fittable in record {
-      fittable = fittable_of m n m l.k a.d a.s.rounds _ _ l.invariant.2 v;
+    (omega (arith, c.requires.le_lo.0)) most c.requires.fittable in record {
+      fittable = fittable_of m n m l.k a.d a.s.rounds _ _ l.invariant.0 v;
       at_most = (
-        at_most_more (omega (arith, most, c.requires.le_lo.0, c.requires.fittable.runnable.halves.sizes.k_small)) l.invariant.5,
+        at_most_more (omega (arith, most, c.requires.le_lo.0, c.requires.fittable.runnable.halves.sizes.k_small)) l.invariant.3,
         c.requires.le_lo.2,
       );
     }
-
-pub overflow_add-k : goal.overflow_add-k
-overflow_add-k c =
-    omega (arith, c.loop-k-test.true, c.requires.fittable.runnable.halves.sizes.k_small)
-
-pub loop-k-smaller : goal.loop-k-smaller
-loop-k-smaller c = omega (arith, c.loop-k-test.true)
 
 pub loop-k-preserved : goal.loop-k-preserved
 loop-k-preserved c =
@@ -70,22 +61,20 @@ loop-k-preserved c =
     let o₀ = found (goal.at.loop-k-preserved c).Start in
     let l = c.loop-k in
     let n = c.fit_of_k-t in
-    let most = c.loop-k-test.true in
+    let least : a.lo ≤ l.k = omega arith in
     let w = a.weights.now in
     let x = a.coords.now in
     let o = arrays l.labels l.responsibilities l.group_weights l.directions l.concentrations l.logw in
     let z = n.new in
     let e = n.auto in
     let o' = arrays z.labels z.responsibilities z.group_weights z.directions z.concentrations z.logw in (
-      omega (arith, l.invariant.0),
-      omega (arith, most),
       lengths_of_law o o' (length l.work) _ (length l.work_u32) _ e.labels e.responsibilities e.group_weights e.directions
-          e.concentrations e.logw e.work e.work_u32 ∙ l.invariant.2,
-      fitted_turn o₀ w x a.d a.s a.lo l.k (l.k - a.lo) l.t n.result o o' n.ensures l.invariant.4 l.invariant.0
-          refl l.invariant.3,
-      tails_turn o₀ w x a.d a.s a.lo l.k (l.k - a.lo) l.t n.result o o' n.ensures l.invariant.4,
-      small_turn o₀ w x a.d a.s a.lo l.k (l.k - a.lo) l.t n.result o o' n.ensures l.invariant.4 l.invariant.0
-          l.invariant.5,
+          e.concentrations e.logw e.work e.work_u32 ∙ l.invariant.0,
+      fitted_turn o₀ w x a.d a.s a.lo l.k (l.k - a.lo) l.t n.result o o' n.ensures l.invariant.2 least
+          refl l.invariant.1,
+      tails_turn o₀ w x a.d a.s a.lo l.k (l.k - a.lo) l.t n.result o o' n.ensures l.invariant.2,
+      small_turn o₀ w x a.d a.s a.lo l.k (l.k - a.lo) l.t n.result o o' n.ensures l.invariant.2 least
+          l.invariant.3,
     )
 
 -- an array is as long as found
@@ -93,14 +82,14 @@ kept : (c : After-loop-k) → let l = c.loop-k in let a = c.args in
     let o = arrays a.labels.now a.responsibilities.now a.group_weights.now a.directions.now a.concentrations.now a.logw.now in
     lengths_of (arrays l.labels l.responsibilities l.group_weights l.directions l.concentrations l.logw) (length l.work)
     (length l.work_u32) ≡ lengths_of o (length a.work.now) (length a.work_u32.now)
-kept c = c.loop-k.invariant.2
+kept c = c.loop-k.invariant.0
 
 pub returns : goal.returns
 returns c =
     let a = c.args in
     let l = c.loop-k in
     fitted_end (found (goal.at.returns c).Start) a.weights.now a.coords.now a.d a.s a.lo a.hi l.k l.t _
-    (omega (arith, l.invariant.1, c.loop-k-test.false)) l.invariant.3
+    (omega arith) l.invariant.1
 
 pub shape_of-labels : goal.shape_of-labels
 shape_of-labels c = ap (λ (l : Lengths). l.labels) (kept (goal.at.shape_of-labels c).After-loop-k)

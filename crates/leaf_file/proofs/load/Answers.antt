@@ -12,18 +12,18 @@ use Rattle.leaf_file.proofs.load.Goals as goal
 
 pub loop-i-init : goal.loop-i-init
 unfolding tabulate
-loop-i-init c = (omega arith, refl, refl)
+loop-i-init c = refl
 
 pub loop-i-preserved : goal.loop-i-preserved
 loop-i-preserved c =
     let l = c.loop-i in
     let a = c.args in
     let f : ℕ → Float = λ (n : ℕ). f64_at a.bytes.now (a.at + 8 * n) in
-    (omega arith, search rules, listed_turn f l.out l.i c.f64_at.result (omega arith) c.f64_at.ensures l.invariant.2)
+    listed_turn f l.out l.i c.f64_at.result (omega arith) c.f64_at.ensures l.invariant
 
 pub returns : goal.returns
 returns c =
     let l = c.loop-i in
     let a = c.args in
     let f : ℕ → Float = λ (n : ℕ). f64_at a.bytes.now (a.at + 8 * n) in
-    listed_end f l.out l.i (length a.out.now) (omega arith) (omega arith) l.invariant.2
+    listed_end f l.out l.i (length a.out.now) (omega arith) (omega arith) l.invariant

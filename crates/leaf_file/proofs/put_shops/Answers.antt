@@ -19,18 +19,16 @@ more labels l r s at i e f p q = rw add-one (put_both (shop_lines labels i) (sho
 
 pub loop-i-init : goal.loop-i-init
 unfolding shop_lines
-loop-i-init c = (omega arith, refl, omega arith, put_none c.args.out.now c.args.at)
+loop-i-init c = (omega arith, put_none c.args.out.now c.args.at)
 
 pub loop-i-preserved : goal.loop-i-preserved
 loop-i-preserved c =
     let l = c.loop-i in
     let a = c.args in
     let v = c.put_shop-end in (
-      omega arith,
-      search rules,
-      omega (arith, v.ensures.upper_bound, l.invariant.2),
+      omega (arith, v.ensures.upper_bound, l.invariant.0),
       more a.labels.now a.out.now l.out _ a.at l.i
-          l.end _ l.invariant.3 v.ensures.put,
+          l.end _ l.invariant.1 v.ensures.put,
     )
 
 pub returns : goal.returns
@@ -38,4 +36,4 @@ returns c =
     let l = c.loop-i in
     let a = c.args in
     let e : l.i ≡ length a.labels.now = omega arith in
-    subst (λ (n : ℕ). Put (shop_lines a.labels.now n) a.out.now l.out a.at l.end) e l.invariant.3
+    subst (λ (n : ℕ). Put (shop_lines a.labels.now n) a.out.now l.out a.at l.end) e l.invariant.1
