@@ -62,8 +62,8 @@ module _ (m k d : ℕ) (coords : List Float) (u : List ℕ) (s : State) (ls : le
   pub norms_four : (w : List Float) (scale i : ℕ) (f : List Float) → scale ≡ scale_at m k d → i + 4 ≤ m → f ≡ four_norms coords d i
       → state_in m k d w u ≡ normed coords d i s
       → let at = scale + i in
-      state_in m k d (set (set (set (set w at (get_or f 0 nan)) (at + 1) (get_or f 1 nan)) (at + 2) (get_or f 2 nan)) (at + 3) (get_or f 3 nan)) u
-      ≡ normed coords d (i + 4) s
+      let w₁ = set (set w at (get_or f 0 nan)) (at + 1) (get_or f 1 nan) in
+      state_in m k d (set (set w₁ (at + 2) (get_or f 2 nan)) (at + 3) (get_or f 3 nan)) u ≡ normed coords d (i + 4) s
   norms_four w scale i f es h e g =
       let at = scale + i in
       let p₂ : i + 1 + 1 ≡ i + 2 = omega arith in
