@@ -242,8 +242,9 @@ module _ (x u : Float) (h : T (low x)) (l : Lifted (floor_of (add binary64 (turn
       ∙ ap (of_int binary64)
       (minus_same (4503599627370496 + b) 4503599627371719 b 1223 (omega arith) ∙ minus_below b n.k 1223 e ∙ sym n.whole)
 
-  pub low_two : (p w : Float) → p ≡ series_of x (sub binary64 u (number 4503599627371719)) → w ≡ power_of (digits_of u) → digits_of u < 202 →
-      mul binary64 (mul binary64 p w) (fin false 1 (negsuc 199)) ≡ exp_by x (floor_of (turns_of x))
+  pub low_two : (p w : Float) → p ≡ series_of x (sub binary64 u (number 4503599627371719)) → w ≡ power_of (digits_of u)
+      → digits_of u < 202
+      → mul binary64 (mul binary64 p w) (fin false 1 (negsuc 199)) ≡ exp_by x (floor_of (turns_of x))
   low_two p w i j o =
       rw (i, j)
       (by_two x (sub binary64 u (number 4503599627371719)) (power_of (digits_of u)) (floor_of (turns_of x))

@@ -35,8 +35,11 @@ series_end j [] h = refl
 series_end j (x ∷ s) h =
     ap₂ (λ (y : Term) (ys : List Term). y ∷ ys) (ap (λ (n : ℕ). summed n x) h) (series_end j s h)
 
--- ---- between the borders
-pub all_inner : (x : List Float) → All (λ v. T (inside v)) x → map (λ (t : Term). mul binary64 t.p t.w) (map (summed 13) (map begun x)) ≡ map exp_of x
+-- ---- between the borders: the sum times 2^n
+abbrev pub ended : Term → Float
+ended t = mul binary64 t.p t.w
+
+pub all_inner : (x : List Float) → All (λ v. T (inside v)) x → map ended (map (summed 13) (map begun x)) ≡ map exp_of x
 all_inner [] h = refl
 all_inner (v ∷ x) h =
     let i = All-head (λ v. T (inside v)) v x h in

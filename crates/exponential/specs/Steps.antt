@@ -51,12 +51,10 @@ pub record OnePower (x n w : Float) : Type 0 where
 
 -- ---- the series on its way
 
--- where the series of x begins past n, with w beside it, and with n and 2^n of x itself
-abbrev pub started : Float → Float → Float → Term
-started x n w = record { r = left_of x n; p = number 1; w = w }
-
+-- where the series of x begins: what is left of x past its whole number, with 2^n beside it
 abbrev pub begun : Float → Term
-begun x = started x (of_int binary64 (floor_of (turns_of x))) (fin false 1 (floor_of (turns_of x)))
+begun x =
+    record { r = left_of x (of_int binary64 (floor_of (turns_of x))); p = number 1; w = fin false 1 (floor_of (turns_of x)) }
 
 -- one step, p = 1 + (r·p)/j, and the j last steps
 abbrev pub stepped : Float → Term → Term

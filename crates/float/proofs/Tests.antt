@@ -10,7 +10,7 @@ use lib.Dec.{T, eqb, eqb→eq, lt→ltb}
 use lib.Pow.{pow_pos}
 use borrow.Author.Tests.{ltb-true, ltb-false, le-ltb, lt-ltb}
 use lib.Ieee.{Float, nan, inf, fin, binary64, up, down, lt, ne, eq, neg, is_nan, fits}
-use lib.Ieee.Fits.{and_l, and_r, and_i, eq→eqb, up_pos}
+use lib.Ieee.Fits.{and_l, and_i, eq→eqb, up_pos}
 use lib.Ieee.Compare.{differs_from_itself}
 use lib.Ieee.Positive.{positive}
 use Rattle.float.specs.Arithmetic.{plus_zero, abs_of}
@@ -87,11 +87,6 @@ positive_is (inf false) = refl
 positive_is (fin true m e) = refl
 positive_is (fin false zero e) = rw (le-ltb (0 * down e) (0 * up e * 1) (omega arith)) refl
 positive_is (fin false (suc m) e) = rw (lt-ltb (0 * down e) (suc m * up e * 1) (omega (arith, mul-pos (zero-lt-suc m) (up_pos e))), lt-ltb 0 (suc m) (zero-lt-suc m)) refl
-
-pub both_positive : (x w : Float) {p q : Bool} → p ≡ positive x → q ≡ positive w → (p && q) ≡ true → T (positive x) × T (positive w)
-both_positive x w {p} {q} e f h =
-    let t = of_true (p && q) h in
-    (subst T e (and_l p q t), subst T f (and_r p q t))
 
 -- ---- the absolute value: the sign turned round below zero, and +0 for both zeros
 pub abs_negative : (x : Float) → lt x plus_zero ≡ true → neg x ≡ abs_of x

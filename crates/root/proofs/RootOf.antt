@@ -1,6 +1,9 @@
 -- The root of a positive float from its 53 leading digits, and the cases of the root: from x in units of 2^−1074, a whole number with e + 1
 -- binary digits, the definition's radicand is m·2^(e % 2)·2^52, and of that the nearest root is the one. Assumes nothing.
-use Rattle.std.proofs.Common.{◌≡◌, ℕ, zero, suc, ◌+◌, ◌-◌, ◌*◌, ◌/◌, ◌%◌, ◌^◌, ◌<◌, ◌≤◌, true, false, T, ℤ, pos, negsuc, sym, refl, ap, ◌∙◌, subst, ap₂, true≢false, le_trans, le_of_eq, lt_of_lt_of_le, lt_of_le_of_lt, mul-le-mul_right, mul_assoc, mul_comm, lt_of_mul-lt-mul_right, mul-lt-mul_of_pos_right, mul-pos, pow-suc, lt_of_not-le, mul_right_comm, not-le_of_lt, mul-div_cancel, mul_left_comm, arith, lit≤, pow_pos, pow_mono, pow-add, ltb-true}
+use Rattle.std.proofs.Common.{◌≡◌, ℕ, zero, suc, ◌+◌, ◌-◌, ◌*◌, ◌/◌, ◌%◌, ◌^◌, ◌<◌, ◌≤◌, true, false, T, ℤ, pos, negsuc, sym, refl, ap, ◌∙◌}
+use Rattle.std.proofs.Common.{subst, ap₂, true≢false, le_trans, le_of_eq, lt_of_lt_of_le, lt_of_le_of_lt, mul-le-mul_right, mul_assoc}
+use Rattle.std.proofs.Common.{mul_comm, lt_of_mul-lt-mul_right, mul-lt-mul_of_pos_right, mul-pos, pow-suc, lt_of_not-le, mul_right_comm}
+use Rattle.std.proofs.Common.{not-le_of_lt, mul-div_cancel, mul_left_comm, arith, lit≤, pow_pos, pow_mono, pow-add, ltb-true}
 use lib.Ieee.{Float, nan, inf, fin, binary64, up, down, round, size, eq, lt, fits}
 use lib.Ieee.Digits.{size-lt, size-le, size_reaches}
 use lib.Ieee.Positive.{num, den, positive}

@@ -1,6 +1,8 @@
 -- Whole square roots: one place more of a root, the nearest whole number once no place is open, the whole part that the definition takes,
 -- and the nearest whole number, by squares that lie on both sides of the number. Assumes nothing.
-use Rattle.std.proofs.Common.{◌≡◌, ℕ, zero, suc, ◌+◌, ◌-◌, ◌*◌, ◌/◌, ◌%◌, ◌^◌, ◌<◌, ◌≤◌, cond, leb, sym, ap, ◌∙◌, subst, ap₂, lt_of_le_of_lt, mul-le-mul_right, mul_assoc, mul_comm, add-mul, mul-le-mul, pow-suc, lt_of_not-le, mul-add, not-le_of_lt, mul_left_comm, arith, lit<, pow_pos, le-leb}
+use Rattle.std.proofs.Common.{◌≡◌, ℕ, zero, suc, ◌+◌, ◌-◌, ◌*◌, ◌/◌, ◌%◌, ◌^◌, ◌<◌, ◌≤◌, cond, leb, sym, ap, ◌∙◌, subst, ap₂}
+use Rattle.std.proofs.Common.{lt_of_le_of_lt, mul-le-mul_right, mul_assoc, mul_comm, add-mul, mul-le-mul, pow-suc, lt_of_not-le, mul-add}
+use Rattle.std.proofs.Common.{not-le_of_lt, mul_left_comm, arith, lit<, pow_pos, le-leb}
 use Prim.{yes, no}
 use native.Mathlib.Decide.{dec_le}
 use borrow.Author.Tests.{lt-leb}

@@ -1,10 +1,13 @@
--- `exponential::begin` meets its contract, by what its two calls ensure. Assumes nothing.
-use Rattle.std.proofs.Common.{ap₂, ◌∙◌}
-use lib.Ieee.{Float}
-use Rattle.exponential.specs.Steps.{started}
+-- `exponential::begin` meets its contract, by what `power` ensures; a literal's bit pattern is the whole number. Assumes nothing.
+use Rattle.std.proofs.Common.{ap₂}
+use lib.Ieee.{Float, of_bits, of_int}
+use Rattle.float.specs.Arithmetic.{number}
+use Rattle.exponential.specs.Exponential.{left_of}
+use Rattle.exponential.specs.declared.Term.{Term}
 use Rattle.exponential.proofs.begin.Goals as goal
 
 pub returns : goal.returns
+unfolding of_bits of_int
 returns c =
-    let p = c.power-p.ensures in
-    c.start.ensures ∙ ap₂ (λ (n w : Float). started c.args.x n w) p.whole p.power
+    let e = c.power-e.ensures in
+    ap₂ {C = Term} (λ (n w : Float). record { r = left_of c.args.x n; p = number 1; w = w }) e.whole e.power

@@ -1,11 +1,9 @@
 -- `exponential::exp` meets its contract: a case of `exp_of` for each answer. Assumes nothing.
-use Rattle.std.proofs.Common.{T, List, [], get_or, ap, ◌∙◌, arith}
-use Rattle.std.proofs.lemmas.List.Elements.{All-nil, All-cons}
-use lib.Ieee.{Float, nan, of_bits, of_int, div}
+use mathlib.Core.Path.{◌∙◌}
+use lib.Ieee.{of_bits, of_int, div}
 use Rattle.float.proofs.Tests.{is_number}
-use Rattle.exponential.specs.Steps.{inside}
-use Rattle.exponential.proofs.Exponential.{by_nan, by_high, by_low, by_inner, is_low_law, low_inner, is_inside}
-use Rattle.exponential.proofs.exp.Goals.{Else-x-4}
+use Rattle.exponential.proofs.Exponential.{by_nan, by_high, by_low, by_inner, is_low_law, low_inner, is_inside, inside_inner}
+use Rattle.exponential.proofs.exp.Goals.{Else-x-3, Else-x-4}
 use Rattle.exponential.proofs.exp.Goals as goal
 
 pub returns-then-x : goal.returns-then-x
@@ -30,12 +28,13 @@ returns-then-x-3 c =
     let b = low_inner x (low_exp-requires (goal.at.returns-then-x-3 c).Else-x-4) in
     c.low_exp.ensures ∙ by_inner x b.0 b.1
 
-pub inner_exps-requires : goal.inner_exps-requires
+pub inner_exp-requires : goal.inner_exp-requires
 unfolding of_bits of_int
-inner_exps-requires c =
-    let p : Float → Type 0 = λ v. T (inside v) in
-    let h : p c.args.x = is_inside c.args.x c.if-x.false c.if-x-2.false c.if-x-3.false in
-    (omega arith, (omega arith, All-cons p c.args.x [] h (All-nil p)))
+inner_exp-requires c =
+    is_inside c.args.x c.if-x.false c.if-x-2.false c.if-x-3.false
 
 pub returns : goal.returns
-returns c = ap (λ (l : List Float). get_or l 0 nan) c.inner_exps.ensures
+returns c =
+    let x = c.args.x in
+    let b = inside_inner x (inner_exp-requires (goal.at.returns c).Else-x-3) in
+    c.inner_exp.ensures ∙ by_inner x b.0 b.1

@@ -4,7 +4,7 @@ use lib.Ieee.{binary64, mul}
 use Rattle.exponential.specs.Steps.{begun, summed}
 use Rattle.exponential.specs.declared.Term.{Term}
 use Rattle.float.proofs.Arrays.{callable_on, map_is}
-use Rattle.exponential.proofs.Several.{all_inner}
+use Rattle.exponential.proofs.Several.{ended, all_inner}
 use Rattle.exponential.proofs.inner_exps.Goals as goal
 
 pub map-requires : goal.map-requires
@@ -13,8 +13,8 @@ map-requires g c =
 
 pub returns : goal.returns
 returns g c =
-    map_is _ _ (λ q x y v k. search rules) _ _ (λ (t : Term). mul binary64 t.p t.w) (search rules) c.map-2.ensures.items (λ x y q k. search rules)
-    ∙ ap (map (λ (t : Term). mul binary64 t.p t.w))
-    (c.series-s.ensures
+    map_is _ _ (λ q x y v k. search rules) _ _ ended (search rules) c.map-2.ensures.items (λ x y q k. search rules)
+    ∙ ap (map ended)
+    (c.series_each-s.ensures
     ∙ ap (map (summed 13)) (map_is _ _ (λ q x y v k. refl) _ _ begun (search rules) c.map.ensures.items (λ x y q k. search rules)))
     ∙ all_inner c.args.x c.requires.inside

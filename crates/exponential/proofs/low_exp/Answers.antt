@@ -1,15 +1,9 @@
 -- `exponential::low_exp` meets its contract: b is the field of 2^(n + 200), and it says whether n is under −1021. Assumes nothing.
-use Rattle.std.proofs.Common.{List, get_or, ap, ◌∙◌, arith}
-use lib.Ieee.{nan, of_bits, of_int}
-use Rattle.exponential.specs.Exponential.{exp_from}
-use Rattle.exponential.specs.declared.Term.{Term}
+use native.Mathlib.Omega.{arith}
+use lib.Ieee.{of_bits, of_int}
 use Rattle.exponential.proofs.Floor.{lifted_number, field_within}
 use Rattle.exponential.proofs.Low.{low_whole, low_field, low_two, low_one}
 use Rattle.exponential.proofs.low_exp.Goals as goal
-
--- what an access past the end would read
-abbrev none : Term
-none = record { r = nan; p = nan; w = nan }
 
 pub lifted-u-requires : goal.lifted-u-requires
 unfolding of_bits of_int
@@ -27,9 +21,7 @@ pub returns-then-b-lt202 : goal.returns-then-b-lt202
 unfolding of_bits of_int
 returns-then-b-lt202 c =
     low_two c.args.x c.lifted-u.result c.requires c.lifted-u.ensures _ _
-    (ap (λ (l : List Term). (get_or l 0 none).p) c.series.ensures ∙ ap (λ (t : Term). exp_from 13 t.r t.p) c.start.ensures)
-    (ap (λ (l : List Term). (get_or l 0 none).w) c.series.ensures ∙ ap (λ (t : Term). t.w) c.start.ensures ∙ c.pow2.ensures)
-    c.if-b-lt202.true
+    c.series-p.ensures c.pow2.ensures c.if-b-lt202.true
 
 pub pow2-requires-2 : goal.pow2-requires-2
 unfolding of_bits of_int
@@ -41,5 +33,4 @@ pub returns : goal.returns
 unfolding of_bits of_int
 returns c =
     low_one c.args.x c.lifted-u.result c.requires c.lifted-u.ensures _ _
-    (ap (λ (l : List Term). (get_or l 0 none).p) c.series.ensures ∙ ap (λ (t : Term). exp_from 13 t.r t.p) c.start.ensures)
-    c.pow2-2.ensures c.if-b-lt202.false
+    c.series-p.ensures c.pow2-2.ensures c.if-b-lt202.false
