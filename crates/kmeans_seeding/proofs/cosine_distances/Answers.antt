@@ -2,12 +2,11 @@
 -- literals are computed.
 use mathlib.Core.Path.{◌≡◌, refl, ap, ◌∙◌}
 use mathlib.Core.List.{List, ◌++◌}
-use Prim.Native.Nat.{ℕ, ◌+◌}
+use Prim.Native.Nat.{ℕ}
 use native.Mathlib.Omega.{arith}
 use lib.ListN.{length, get_or, drop}
 use lib.Ieee.{Float, nan, binary64, sub, of_bits, of_int}
 use Rattle.float.specs.Arithmetic.{number, plus_zero, max_of}
-use Rattle.rows.specs.Rows.{row_of}
 use Rattle.rows.specs.Tabulate.{tabulate}
 use Rattle.rows.proofs.Fills.{front_end}
 use Rattle.rows.proofs.Tabulate.{tabulate_length, tabulated_turn, tabulated_next}

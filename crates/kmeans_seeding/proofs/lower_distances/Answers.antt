@@ -1,6 +1,6 @@
 -- `kmeans_seeding::lower_distances` meets its contract.
 use mathlib.Core.Path.{◌≡◌, ap, ◌∙◌}
-use Prim.Native.Nat.{ℕ, ◌+◌, ◌*◌, ◌-◌, ◌%◌, ◌≤◌}
+use Prim.Native.Nat.{ℕ, ◌+◌, ◌*◌, ◌≤◌}
 use native.Mathlib.Omega.{arith}
 use Rattle.kmeans_layout.specs.Areas.{state_in}
 use Rattle.kmeans_layout.proofs.Regions.{length_low}

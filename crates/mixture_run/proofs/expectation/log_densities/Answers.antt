@@ -4,7 +4,7 @@ use mathlib.Core.List.{List, ◌++◌}
 use Prim.Native.Nat.{ℕ, ◌+◌}
 use native.Mathlib.Omega.{arith}
 use lib.ListN.{length, get_or, drop}
-use lib.Ieee.{Float, nan, binary64, add, mul}
+use lib.Ieee.{Float, nan}
 use Rattle.rows.specs.Tabulate.{tabulate}
 use Rattle.rows.proofs.Fills.{front_end}
 use Rattle.rows.proofs.Tabulate.{tabulate_length, tabulated_turn, tabulated_next}
