@@ -25,22 +25,6 @@ halves_at r =
     halves_of (length a.work.now) _ (length a.work_u32.now) _ _ (length a.weights.now) a.k a.d a.s.rounds
     r.four_runs-r.auto.work r.requires.fittable.runnable
 
-pub score_at-score-requires : goal.score_at-score-requires
-score_at-score-requires c =
-    let z = (halves_at (goal.at.score_at-score-requires c).After-four_runs-r).sizes in
-    (z.k_some, z.k_small, z.kd_small)
-
-pub plus-counts-requires : goal.plus-counts-requires
-plus-counts-requires c =
-    (at_most_more (omega arith) c.requires.at_most.0, at_most_more (omega arith) c.four_runs-r.ensures.small)
-
-pub fill_outputs-requires : goal.fill_outputs-requires
-fill_outputs-requires c =
-    let a = c.args in
-    let o = found (goal.at.fill_outputs-requires c).Start in
-    fillable _ (length a.weights.now) (length a.coords.now) (length a.weights.now) a.k a.d a.s.rounds
-    (lengths_of o (length a.work.now) (length a.work_u32.now)) c.four_runs-r.auto.work c.requires.fittable
-
 pub returns-then-beats : goal.returns-then-beats
 returns-then-beats c =
     let a = c.args in

@@ -38,23 +38,6 @@ loop-k-init c =
       rw c.none.ensures (at_most_none (of_runs (4 * (a.lo - a.lo)))),
     )
 
-pub fit_of_k-t-requires : goal.fit_of_k-t-requires
-fit_of_k-t-requires c =
-    let a = c.args in
-    let o = found (goal.at.fit_of_k-t-requires c).Start in
-    let l = c.loop-k in
-    let most : l.k ≤ a.hi = omega arith in
-    let m = length a.weights.now in
-    let n = length a.coords.now in
-    let v = fittable_below m n m a.hi l.k a.d a.s.rounds (lengths_of o (length a.work.now) (length a.work_u32.now))
-    (omega (arith, c.requires.le_lo.0)) most c.requires.fittable in record {
-      fittable = fittable_of m n m l.k a.d a.s.rounds _ _ l.invariant.0 v;
-      at_most = (
-        at_most_more (omega (arith, most, c.requires.le_lo.0, c.requires.fittable.runnable.halves.sizes.k_small)) l.invariant.3,
-        c.requires.le_lo.2,
-      );
-    }
-
 pub loop-k-preserved : goal.loop-k-preserved
 loop-k-preserved c =
     let a = c.args in
@@ -76,41 +59,3 @@ loop-k-preserved c =
       small_turn o₀ w x a.d a.s a.lo l.k (l.k - a.lo) l.t n.result o o' n.ensures l.invariant.2 least
           l.invariant.3,
     )
-
--- an array is as long as found
-kept : (c : After-loop-k) → let l = c.loop-k in let a = c.args in
-    let o = arrays a.labels.now a.responsibilities.now a.group_weights.now a.directions.now a.concentrations.now a.logw.now in
-    lengths_of (arrays l.labels l.responsibilities l.group_weights l.directions l.concentrations l.logw) (length l.work)
-    (length l.work_u32) ≡ lengths_of o (length a.work.now) (length a.work_u32.now)
-kept c = c.loop-k.invariant.0
-
-pub returns : goal.returns
-returns c =
-    let a = c.args in
-    let l = c.loop-k in
-    fitted_end (found (goal.at.returns c).Start) a.weights.now a.coords.now a.d a.s a.lo a.hi l.k l.t _
-    (omega arith) l.invariant.1
-
-pub shape_of-labels : goal.shape_of-labels
-shape_of-labels c = ap (λ (l : Lengths). l.labels) (kept (goal.at.shape_of-labels c).After-loop-k)
-
-pub shape_of-responsibilities : goal.shape_of-responsibilities
-shape_of-responsibilities c = ap (λ (l : Lengths). l.responsibilities) (kept (goal.at.shape_of-responsibilities c).After-loop-k)
-
-pub shape_of-group_weights : goal.shape_of-group_weights
-shape_of-group_weights c = ap (λ (l : Lengths). l.weights) (kept (goal.at.shape_of-group_weights c).After-loop-k)
-
-pub shape_of-directions : goal.shape_of-directions
-shape_of-directions c = ap (λ (l : Lengths). l.directions) (kept (goal.at.shape_of-directions c).After-loop-k)
-
-pub shape_of-concentrations : goal.shape_of-concentrations
-shape_of-concentrations c = ap (λ (l : Lengths). l.concentrations) (kept (goal.at.shape_of-concentrations c).After-loop-k)
-
-pub shape_of-logw : goal.shape_of-logw
-shape_of-logw c = ap (λ (l : Lengths). l.logw) (kept (goal.at.shape_of-logw c).After-loop-k)
-
-pub shape_of-work : goal.shape_of-work
-shape_of-work c = ap (λ (l : Lengths). l.work) (kept (goal.at.shape_of-work c).After-loop-k)
-
-pub shape_of-work_u32 : goal.shape_of-work_u32
-shape_of-work_u32 c = ap (λ (l : Lengths). l.work_u32) (kept (goal.at.shape_of-work_u32 c).After-loop-k)
