@@ -1,12 +1,9 @@
 -- `auto_tries::fit_of_k` meets its contract: what the four runs keep is the lone fit, by what the calls ensure; the outputs are
 -- written where its score beats the one held. Assumes nothing.
-use native.Mathlib.Omega.{arith}
 use lib.ListN.{length}
-use Rattle.counts.proofs.Sums.{at_most_more}
 use Rattle.mixture_restarts.specs.Halves.{TwoHalves}
 use Rattle.mixture_restarts.proofs.Halves.{halves_of}
-use Rattle.mixture_outputs.specs.Outputs.{Outputs, arrays, lengths_of}
-use Rattle.mixture_outputs.proofs.Refusals.{fillable}
+use Rattle.mixture_outputs.specs.Outputs.{Outputs, arrays}
 use Rattle.auto_tries.proofs.Numbers.{fitted_kept, fitted_left}
 use Rattle.auto_tries.proofs.fit_of_k.Goals.{After-four_runs-r, Start}
 use Rattle.auto_tries.proofs.fit_of_k.Goals as goal

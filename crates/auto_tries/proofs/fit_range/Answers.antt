@@ -1,5 +1,5 @@
 -- `auto_tries::fit_range` meets its contract.
-use mathlib.Core.Path.{◌≡◌, refl, ap, ◌∙◌}
+use mathlib.Core.Path.{refl, ap}
 use mathlib.Core.Bool.{true}
 use Prim.Native.Nat.{◌*◌, ◌-◌, ◌≤◌}
 use native.Mathlib.Omega.{arith}
@@ -7,14 +7,12 @@ use lib.ListN.{length}
 use lib.Ieee.{inf, of_bits, div, neg}
 use Rattle.counts.specs.Counts.{of_runs}
 use Rattle.counts.specs.declared.Counts.{Counts}
-use Rattle.counts.proofs.Sums.{at_most_none, at_most_more}
-use Rattle.mixture_outputs.specs.Outputs.{Outputs, lengths_of, arrays}
-use Rattle.mixture_outputs.specs.declared.Lengths.{Lengths}
+use Rattle.counts.proofs.Sums.{at_most_none}
+use Rattle.mixture_outputs.specs.Outputs.{Outputs, arrays}
 use Rattle.auto_choice.specs.declared.Choice.TheVariants.{Nothing}
 use Rattle.auto_tries.specs.declared.Tally.{Tally}
-use Rattle.auto_tries.proofs.Room.{fittable_below, fittable_of, lengths_of_law}
 use Rattle.auto_tries.proofs.Tails.{tails_start}
-use Rattle.auto_tries.proofs.Numbers.{fitted_start, fitted_turn, fitted_end, tails_turn, small_turn}
+use Rattle.auto_tries.proofs.Numbers.{fitted_start, fitted_turn, tails_turn, small_turn}
 use Rattle.auto_tries.proofs.fit_range.Goals.{After-loop-k, Start}
 use Rattle.auto_tries.proofs.fit_range.Goals as goal
 
@@ -32,7 +30,6 @@ unfolding div neg of_bits
 loop-k-init c =
     let a = c.args in
     let o = found (goal.at.loop-k-init c).Start in (
-      refl,
       fitted_start o a.weights.now a.coords.now a.d a.s a.lo _ (ap begun c.none.ensures),
       tails_start (length a.weights.now) a.lo a.d o,
       rw c.none.ensures (at_most_none (of_runs (4 * (a.lo - a.lo)))),
@@ -49,13 +46,10 @@ loop-k-preserved c =
     let x = a.coords.now in
     let o = arrays l.labels l.responsibilities l.group_weights l.directions l.concentrations l.logw in
     let z = n.new in
-    let e = n.auto in
     let o' = arrays z.labels z.responsibilities z.group_weights z.directions z.concentrations z.logw in (
-      lengths_of_law o o' (length l.work) _ (length l.work_u32) _ e.labels e.responsibilities e.group_weights e.directions
-          e.concentrations e.logw e.work e.work_u32 ∙ l.invariant.0,
-      fitted_turn o₀ w x a.d a.s a.lo l.k (l.k - a.lo) l.t n.result o o' n.ensures l.invariant.2 least
-          refl l.invariant.1,
-      tails_turn o₀ w x a.d a.s a.lo l.k (l.k - a.lo) l.t n.result o o' n.ensures l.invariant.2,
-      small_turn o₀ w x a.d a.s a.lo l.k (l.k - a.lo) l.t n.result o o' n.ensures l.invariant.2 least
-          l.invariant.3,
+      fitted_turn o₀ w x a.d a.s a.lo l.k (l.k - a.lo) l.t n.result o o' n.ensures l.invariant.1 least
+          refl l.invariant.0,
+      tails_turn o₀ w x a.d a.s a.lo l.k (l.k - a.lo) l.t n.result o o' n.ensures l.invariant.1,
+      small_turn o₀ w x a.d a.s a.lo l.k (l.k - a.lo) l.t n.result o o' n.ensures l.invariant.1 least
+          l.invariant.2,
     )
