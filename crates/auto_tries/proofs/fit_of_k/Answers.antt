@@ -1,12 +1,9 @@
 -- `auto_tries::fit_of_k` meets its contract: what the four runs keep is the lone fit, by what the calls ensure; the outputs are
 -- written where its score beats the one held. Assumes nothing.
-use native.Mathlib.Omega.{arith}
 use lib.ListN.{length}
-use Rattle.counts.proofs.Sums.{at_most_more}
 use Rattle.mixture_restarts.specs.Halves.{TwoHalves}
 use Rattle.mixture_restarts.proofs.Halves.{halves_of}
-use Rattle.mixture_outputs.specs.Outputs.{Outputs, arrays, lengths_of}
-use Rattle.mixture_outputs.proofs.Refusals.{fillable}
+use Rattle.mixture_outputs.specs.Outputs.{Outputs, arrays}
 use Rattle.auto_tries.proofs.Numbers.{fitted_kept, fitted_left}
 use Rattle.auto_tries.proofs.fit_of_k.Goals.{After-four_runs-r, Start}
 use Rattle.auto_tries.proofs.fit_of_k.Goals as goal
@@ -24,22 +21,6 @@ halves_at r =
     let a = r.args in
     halves_of (length a.work.now) _ (length a.work_u32.now) _ _ (length a.weights.now) a.k a.d a.s.rounds
     r.four_runs-r.auto.work r.requires.fittable.runnable
-
-pub score_at-score-requires : goal.score_at-score-requires
-score_at-score-requires c =
-    let z = (halves_at (goal.at.score_at-score-requires c).After-four_runs-r).sizes in
-    (z.k_some, z.k_small, z.kd_small)
-
-pub plus-counts-requires : goal.plus-counts-requires
-plus-counts-requires c =
-    (at_most_more (omega arith) c.requires.at_most.0, at_most_more (omega arith) c.four_runs-r.ensures.small)
-
-pub fill_outputs-requires : goal.fill_outputs-requires
-fill_outputs-requires c =
-    let a = c.args in
-    let o = found (goal.at.fill_outputs-requires c).Start in
-    fillable _ (length a.weights.now) (length a.coords.now) (length a.weights.now) a.k a.d a.s.rounds
-    (lengths_of o (length a.work.now) (length a.work_u32.now)) c.four_runs-r.auto.work c.requires.fittable
 
 pub returns-then-beats : goal.returns-then-beats
 returns-then-beats c =

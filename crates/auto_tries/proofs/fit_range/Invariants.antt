@@ -1,11 +1,10 @@
 -- `auto_tries::fit_range` meets its contract. The loop's invariant: before number k the tally and the arrays are what the
--- definition has after k − lo numbers; the arrays are as long as found, past what the numbers below k fill they are as found,
+-- definition has after k − lo numbers; past what the numbers below k fill they are as found,
 -- and the counts are small. Assumes nothing.
-use mathlib.Core.Path.{◌≡◌}
 use Prim.Native.Nat.{◌*◌, ◌-◌}
 use lib.ListN.{length}
 use Rattle.counts.specs.Counts.{AtMost, of_runs}
-use Rattle.mixture_outputs.specs.Outputs.{lengths_of, arrays}
+use Rattle.mixture_outputs.specs.Outputs.{arrays}
 use Rattle.auto_tries.specs.Tries.{Tails, Fitted}
 use Rattle.auto_tries.proofs.fit_range.Given as goal
 
@@ -14,6 +13,5 @@ invariant-loop-k l =
     let z = l.initial in
     let o₀ = arrays z.labels z.responsibilities z.group_weights z.directions z.concentrations z.logw in
     let o = arrays l.labels l.responsibilities l.group_weights l.directions l.concentrations l.logw in
-    (lengths_of o (length l.work) (length l.work_u32) ≡ lengths_of o₀ (length z.work) (length z.work_u32))
-    × Fitted l.weights l.coords l.d l.s o₀ l.lo (l.k - l.lo) l.t o × Tails (length l.weights) l.k l.d o o₀
+    Fitted l.weights l.coords l.d l.s o₀ l.lo (l.k - l.lo) l.t o × Tails (length l.weights) l.k l.d o o₀
     × AtMost (of_runs (4 * (l.k - l.lo))) l.t.counts
