@@ -31,8 +31,8 @@ module _ (test : Float → Float → Bool) where
   unfolding place_up_to
   place_one v = either (λ (i : ℕ). i ≡ 0) (test (get_or v 0 nan) (get_or v 0 nan)) 0 0 refl refl
 
-  pub place_turn : (v : List Float) (best best' i : ℕ) (t : Bool) → best ≡ place_up_to test v i → t ≡ test (get_or v i nan) (get_or v best nan)
-      → best' ≡ cond t i best → best' ≡ place_up_to test v (i + 1)
+  pub place_turn : (v : List Float) (best best' i : ℕ) (t : Bool) → best ≡ place_up_to test v i
+      → t ≡ test (get_or v i nan) (get_or v best nan) → best' ≡ cond t i best → best' ≡ place_up_to test v (i + 1)
   unfolding place_up_to
   place_turn v best best' i t e g h = rw (add-one, ← e, ← g) h
 

@@ -12,13 +12,16 @@ loop-i-init g c = (omega arith, omega arith, λ test h. sym (place_one test c.ar
 pub loop-i-preserved : goal.loop-i-preserved
 loop-i-preserved g c =
     let v = c.args.v.now in
-    let l = c.loop-i in (
+    let l = c.loop-i in
+    let best = c.if-passes.best in (
       omega arith,
       elim c.if-passes.branch [ then-passes w ↦ omega arith | else-passes w ↦ omega arith ],
-      λ test h. elim c.if-passes.branch [
-        | then-passes w ↦ place_turn test v l.best c.if-passes.best l.i true (l.invariant.2 test h) (sym w.if-passes.true ∙ h _ _ _ c.passes.ensures) w.best-is
-        | else-passes w ↦ place_turn test v l.best c.if-passes.best l.i false (l.invariant.2 test h) (sym w.if-passes.false ∙ h _ _ _ c.passes.ensures) w.best-is
-      ],
+      λ test h.
+          let told = h _ _ _ c.passes.ensures in
+          elim c.if-passes.branch [
+            | then-passes w ↦ place_turn test v l.best best l.i true (l.invariant.2 test h) (sym w.if-passes.true ∙ told) w.best-is
+            | else-passes w ↦ place_turn test v l.best best l.i false (l.invariant.2 test h) (sym w.if-passes.false ∙ told) w.best-is
+          ],
     )
 
 pub returns : goal.returns
