@@ -1,6 +1,6 @@
 -- What the inner functions of this crate promise one another: the field of a power of two, and a series on its way. No
 -- definition of document 01 stands on this file. Definitions only.
-use Rattle.std.specs.Prelude.{◌≡◌, Bool, true, false, ◌&&◌, ℕ, ◌+◌, ◌*◌, ◌%◌, ◌≤◌, ◌<◌, T, ℤ, Float}
+use Rattle.std.specs.Prelude.{◌≡◌, Bool, true, false, ◌&&◌, ℕ, ◌+◌, ◌*◌, ◌%◌, ◌≤◌, ◌<◌, ℤ, Float}
 use Rattle.std.specs.Float.{nan, inf, fin, binary64}
 use Rattle.std.specs.Float.Ieee.{up, down, minus, add, mul, div, neg, lt, le, of_int, to_bits}
 use Rattle.float.specs.Arithmetic.{f64, number}

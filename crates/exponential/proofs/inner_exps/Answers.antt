@@ -1,8 +1,6 @@
 -- `exponential::inner_exps` meets its contract: each series begins at its number, and its sum is taken times the power. Assumes nothing.
-use Rattle.std.proofs.Common.{rules, map, refl, ap, ◌∙◌, List, arith}
-use lib.Ieee.{binary64, mul}
+use Rattle.std.proofs.Common.{rules, map, refl, ap, ◌∙◌, arith}
 use Rattle.exponential.specs.Steps.{begun, summed}
-use Rattle.exponential.specs.declared.Term.{Term}
 use Rattle.float.proofs.Arrays.{callable_on, map_is}
 use Rattle.exponential.proofs.Several.{ended, all_inner}
 use Rattle.exponential.proofs.inner_exps.Goals as goal

@@ -1,7 +1,6 @@
 -- `exponential::series_each` meets its contract.
 use Rattle.std.proofs.Common.{rules, ◌≡◌, ◌+◌, ◌-◌, length, sym, ap, ◌∙◌, arith}
 use Rattle.std.proofs.lemmas.List.{length-map}
-use lib.Ieee.{in_float, of_bits, of_int}
 use Rattle.float.specs.Arithmetic.{number}
 use Rattle.exponential.specs.Steps.{stepped, summed}
 use Rattle.float.proofs.Arrays.{map_is}

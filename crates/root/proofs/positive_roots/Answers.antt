@@ -1,5 +1,5 @@
 -- `root::positive_roots` meets its contract.
-use Rattle.std.proofs.Common.{rules, ◌/◌, ◌^◌, refl, arith}
+use Rattle.std.proofs.Common.{rules, ◌^◌, refl, arith}
 use Rattle.std.proofs.lemmas.Slice.Zip.{AllZip-map}
 use Rattle.root.specs.Root.{root_of}
 use Rattle.root.specs.Steps.{Open, Placed}
