@@ -3,14 +3,14 @@
 use mathlib.Core.Path.{◌≡◌, ap, sym, ◌∙◌}
 use mathlib.Core.List.{List}
 use mathlib.Core.Bool.{Bool, true, false, not, cond}
-use Prim.Native.Nat.{ℕ, suc, ◌+◌, ◌*◌, ◌-◌, ◌≤◌, max}
+use Prim.Native.Nat.{ℕ, suc, ◌+◌, ◌*◌, ◌-◌, ◌≤◌}
 use native.Mathlib.Omega.{arith}
 use lib.ListN.{length, take, drop}
 use lib.Seq.{take-take}
 use lib.Ieee.{Float, le}
 use Rattle.rows.specs.Rows.{part, put_part}
 use Rattle.rows.proofs.Rows.{length_part}
-use Rattle.counts.specs.Counts.{plus_of, AtMost, of_runs}
+use Rattle.counts.specs.Counts.{plus_of}
 use Rattle.counts.proofs.Sums.{at_most_more, at_most_plus}
 use Rattle.kmeans_layout.specs.State.{State}
 use Rattle.kmeans_layout.specs.Areas.{state_in}
@@ -20,7 +20,7 @@ use Rattle.kmeans_layout.proofs.Halves.{put_there, held_left}
 use Rattle.kmeans_lloyd.specs.Results.{Result, result_of}
 use Rattle.kmeans_lloyd.specs.Runs.{Runnable as RunRunnable, RunDone}
 use Rattle.kmeans_lloyd.specs.declared.RunEnd.{RunEnd}
-use Rattle.kmeans_restarts.specs.Restarts.{counted, keep, restarts_up_to, kmeans_of}
+use Rattle.kmeans_restarts.specs.Restarts.{counted, keep, restarts_up_to}
 use Rattle.kmeans_restarts.specs.Halves.{state_at, Runnable, Fillable, InHalf, RunAt, RunBeside, Holds, Restarted}
 use Rattle.kmeans_restarts.specs.declared.Restarts.{Restarts}
 
@@ -37,10 +37,6 @@ module _ (m k d : ℕ) (w : List Float) (u : List ℕ) (a b : ℕ) where
       rw (e, f) (sym (take-take (k * d) (half m k d) (drop a w) h) ∙ centers_are m k d (part w a (half m k d)) (part u b (m + k)))
 
 -- ---- one run in one half
-
--- arrays of the same lengths serve as well
-pub runnable_of : (w w' u u' x y m k d rounds : ℕ) → w' ≡ w → u' ≡ u → Runnable w u x y m k d rounds → Runnable w' u' x y m k d rounds
-runnable_of w w' u u' x y m k d rounds e f v = rw (e, f) v
 
 -- the half that is lent is as long as a run asks
 pub runnable : (m k d rounds a b q p weights coords : ℕ) (w : List Float) (u : List ℕ) → q ≡ half m k d → p ≡ m + k
@@ -82,11 +78,6 @@ run_done m k d a b q p w x u y result r eq ep lx ly hw hu e =
       generator = e.generator;
       small = e.small;
     }
-
--- the same run at places that are named otherwise
-pub run_at_of : (result : Result) (w w' : List Float) (u u' : List ℕ) (a a' b b' m k d : ℕ) (r : RunEnd) → a ≡ a' → b ≡ b'
-    → RunAt result w w' u u' a b m k d r → RunAt result w w' u u' a' b' m k d r
-run_at_of result w w' u u' a a' b b' m k d r e f t = rw (← e, ← f) t
 
 -- ---- one restart more
 module _ (m k d : ℕ) (w w' : List Float) (u u' : List ℕ) (run : Result) (r : RunEnd) where
@@ -156,11 +147,6 @@ pub first_held : (result : Result) (w w' : List Float) (u u' : List ℕ) (m k d 
 first_held result w w' u u' m k d r t =
     record { there = t.there; cohesion = t.cohesion; counts = t.counts; generator = t.generator; small = t.small }
 
--- after t runs, 64 at most
-pub held_small : (result : Result) (w : List Float) (u : List ℕ) (m k d t : ℕ) (h : Restarts) → t ≤ 64
-    → Holds result w u m k d t h → AtMost (of_runs 64) h.held.counts
-held_small result w u m k d t h le v = at_most_more (omega arith) v.small
-
 module _ (weights coords : List Float) (m k d rounds seed : ℕ) where
   pub restart_turn : (t : ℕ) (w w' : List Float) (u u' : List ℕ) (h q : Restarts) → 1 ≤ t
       → Holds (restarts_up_to weights coords m k d rounds seed (t - 1)) w u m k d t h
@@ -174,21 +160,6 @@ module _ (weights coords : List Float) (m k d rounds seed : ℕ) where
       let f : result_of weights coords m k d rounds h.generator ≡ run =
       ap (λ (n : ℕ). result_of weights coords m k d rounds n) v.generator in
       rw e (kept_turn m k d t w w' u u' held run h q v (rw f at x))
-
-  pub restart_end : (restarts t : ℕ) (w : List Float) (u : List ℕ) (h : Restarts) → t ≡ max restarts 1 → restarts ≤ 64
-      → Holds (restarts_up_to weights coords m k d rounds seed (t - 1)) w u m k d t h
-      → Holds (kmeans_of weights coords m k d rounds restarts seed) w u m k d 64 h
-  restart_end restarts t w u h e le v =
-      let g : t ≤ 64 = omega arith in
-      let f : restarts_up_to weights coords m k d rounds seed (t - 1) ≡ kmeans_of weights coords m k d rounds restarts seed = rw e in
-      let v' : Holds (kmeans_of weights coords m k d rounds restarts seed) w u m k d t h = rw f at v in
-      record {
-        there = v'.there;
-        cohesion = v'.cohesion;
-        counts = v'.counts;
-        generator = v'.generator;
-        small = held_small (restarts_up_to weights coords m k d rounds seed (t - 1)) w u m k d t h g v;
-      }
 
 -- arrays of the same lengths can be filled from as well
 pub fillable_of : (labels directions w w' u u' m k d : ℕ) → w' ≡ w → u' ≡ u → Fillable labels directions w u m k d

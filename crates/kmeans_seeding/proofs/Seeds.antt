@@ -31,11 +31,7 @@ use Rattle.kmeans_seeding.specs.Distances.{first_distances, lowered_by, chanced,
 use Rattle.kmeans_layout.proofs.Regions.{with_low, with_high, put_low_all, high_are, length_centers, set_low, set_high, get_low}
 use Rattle.kmeans_layout.proofs.Regions.{row_centers, put_row_centers, length_low, length_high}
 
--- what a seeding asks goes by the length of the area, and holds what is asked of the area alone
-pub seeding_kept : (work work' weights coords m k d : ℕ) → work' ≡ work → Seeding work weights coords m k d
-    → Seeding work' weights coords m k d
-seeding_kept work work' weights coords m k d e s = rw e s
-
+-- a seeding asks what is asked of the area alone, which goes by its length
 pub seeding_area : (work work' weights coords m k d : ℕ) → work' ≡ work → Seeding work weights coords m k d → Area work' m k d
 seeding_area work work' weights coords m k d e s =
     rw e (record { sizes = s.sizes; work_long = s.work_long })

@@ -22,15 +22,6 @@ seed_center-requires c =
       leaf_of = (leaf_of c.weighted_pick-p.result.index a.m a.d below, group_of 0 a.k a.d s.sizes.k_some);
     }
 
-pub first_distances-requires : goal.first_distances-requires
-first_distances-requires c =
-    let a = c.args in
-    let s = c.requires in (
-      seeding_area (length a.work.now) _ (length a.weights.now) (length a.coords.now) a.m a.k a.d
-          c.seed_center.auto.work s,
-      s.coords_long,
-    )
-
 pub loop-c-init : goal.loop-c-init
 loop-c-init c =
     let a = c.args in

@@ -1,14 +1,6 @@
 -- cohesion_of answers the cohesion of the labels and leaves the state: the sums that accumulate makes, and their norms. Assumes nothing.
-use lib.ListN.{length}
-use Rattle.kmeans_layout.proofs.Sizes.{sized_of, area_of}
 use Rattle.kmeans_sums.proofs.Sums.{cohesion_done}
 use Rattle.kmeans_sums.proofs.cohesion_of.Goals as goal
-
-pub add_norms-requires : goal.add_norms-requires
-add_norms-requires c =
-    let a = c.args in
-    area_of _ _ (length a.coords.now) a.m a.k a.d
-    (sized_of _ _ _ _ (length a.coords.now) a.m a.k a.d c.accumulate.auto.work c.accumulate.auto.work_u32 c.requires.sized)
 
 pub returns : goal.returns
 returns c =
