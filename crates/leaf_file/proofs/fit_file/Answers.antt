@@ -10,12 +10,6 @@ use borrow.Author.Rules.{rules}
 use Rattle.leaf_file.proofs.fit_file.Goals.{Else-code-ne0}
 use Rattle.leaf_file.proofs.fit_file.Goals as goal
 
-pub returns-then-code-ne0 : goal.returns-then-code-ne0
-returns-then-code-ne0 c =
-    let a = c.args in
-    let both = file_refused a.bytes.now a.labels.now _ c.file_refusal-code.ensures c.if-code-ne0.true in
-    record { fact = both.0; leaves_keep_best = both.1 }
-
 -- nothing is refused
 none : (c : Else-code-ne0) → file_refusal c.args.bytes.now ≡ 0
 none c = sym c.file_refusal-code.ensures ∙ search rules
@@ -34,11 +28,3 @@ pub fit_sized-requires : goal.fit_sized-requires
 fit_sized-requires c = (sized c.args.bytes.now _ _
     c.u32_at-m.ensures.0 c.u32_at-d.ensures.0
     (none (goal.at.fit_sized-requires c).Else-code-ne0)).1
-
-pub returns : goal.returns
-returns c =
-    let a = c.args in
-    let e = c.fit_sized.ensures in
-    let both = file_fitted a.bytes.now a.labels.now _ _ _ c.u32_at-m.ensures.0 c.u32_at-d.ensures.0 (none (goal.at.returns c).Else-code-ne0)
-    (e.fact, e.leaves_keep_best) in
-    record { fact = both.0; leaves_keep_best = both.1 }
