@@ -116,10 +116,6 @@ module _ (o₀ : Outputs) (weights coords : List Float) (d : ℕ) (s : Settings)
         outputs = refl;
       })
 
-  pub fitted_end : (hi k : ℕ) (t : Tally) (o : Outputs) → k ≡ hi + 1 → Fitted weights coords d s o₀ lo (k - lo) t o
-      → Fitted weights coords d s o₀ lo (hi + 1 - lo) t o
-  fitted_end hi k t o e h = rw e at h
-
   module _ (k n : ℕ) (t q : Tally) (o o' : Outputs) (fit : FitOfK weights coords d s k t q o o') (tails : Tails (length weights) k d o o₀)
     where
       abbrev beaten : Bool

@@ -40,20 +40,3 @@ module _ (weights coords : List Float) (d : ℕ) (labels : List ℕ) where
         subst (λ (o : Outcome). AnswerKeepsBest (room labels) weights coords d settings 1 4 work_room work_u32_room e.answer
             o.outputs) q best',
       )
-
--- the fit of the numbers that a file holds is the fit of its leaves
-pub fit_read : (bytes : List ℕ) (m d : ℕ) (labels : List ℕ) (ws cs : List Float) (x : FileFit) → ws ≡ f64s_at bytes 8 m
-    → cs ≡ f64s_at bytes (8 + 8 * m) (m * d)
-    → (x ≡ file_fit_by (Ok tt) (record { d = d; weights = ws; coords = cs }) labels)
-    × (LeavesKeepBest (record { d = d; weights = ws; coords = cs }) labels x.answer)
-    → (x ≡ file_fit_by (Ok tt) (leaves_of bytes m d) labels) × (LeavesKeepBest (leaves_of bytes m d) labels x.answer)
-fit_read bytes m d labels ws cs x e f p =
-    subst (λ (l : Leaves). (x ≡ file_fit_by (Ok tt) l labels) × (LeavesKeepBest l labels x.answer))
-    (ap₂ (λ (w v : List Float). record { d = d; weights = w; coords = v }) e f) p
-
--- the front of an array, after f 0, f 1, .. were read into it
-pub front_read : (f : ℕ → Float) (w v : List Float) (n : ℕ) → n ≤ length w → v ≡ tabulate f (length (take n w))
-    → take n (v ++ drop n w) ≡ tabulate f n
-front_read f w v n h e =
-    let g : v ≡ tabulate f n = e ∙ ap (tabulate f) (length-take-le n w h) in
-    take_at v (drop n w) n (ap length g ∙ tabulate_length f n) ∙ g

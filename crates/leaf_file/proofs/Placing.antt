@@ -1,4 +1,4 @@
--- Text put at a place: nothing, one byte, a word, and one text after another; and a decimal digit by digit. By the laws of `take` and `drop`.
+-- Text put at a place: nothing, a word, and one text after another; and a decimal digit by digit. By the laws of `take` and `drop`.
 -- Assumes nothing.
 use mathlib.Core.Path.{◌≡◌, refl, sym, ap, subst, ◌∙◌}
 use mathlib.Core.List.{List, [], ◌∷◌, ◌++◌, append_assoc, append-nil}
@@ -14,14 +14,6 @@ use Rattle.leaf_file.specs.Texts.{Put}
 
 pub put_none : (l : List ℕ) (at : ℕ) → Put [] l l at at
 put_none l at = record { ends = omega arith; front = sym (append-nil (take at l)); rest = refl }
-
-pub put_one : (l : List ℕ) (at b : ℕ) → at < length l → Put (b ∷ []) l (set l at b) at (at + 1)
-put_one l at b h =
-    record {
-      ends = refl;
-      front = rw add-one (take-suc-set l at b h);
-      rest = drop-set-lt (at + 1) l at b (omega arith);
-    }
 
 -- a word, as the code copies it to where it cuts
 pub put_copied : (w v l : List ℕ) (at : ℕ) → at + length w ≤ length l → v ≡ w

@@ -20,10 +20,3 @@ loop-i-preserved c =
     let a = c.args in
     let f : ℕ → Float = λ (n : ℕ). f64_at a.bytes.now (a.at + 8 * n) in
     listed_turn f l.out l.i c.f64_at.result (omega arith) c.f64_at.ensures l.invariant
-
-pub returns : goal.returns
-returns c =
-    let l = c.loop-i in
-    let a = c.args in
-    let f : ℕ → Float = λ (n : ℕ). f64_at a.bytes.now (a.at + 8 * n) in
-    listed_end f l.out l.i (length a.out.now) (omega arith) (omega arith) l.invariant

@@ -30,10 +30,3 @@ loop-i-preserved c =
       more a.labels.now a.out.now l.out _ a.at l.i
           l.end _ l.invariant.1 v.ensures.put,
     )
-
-pub returns : goal.returns
-returns c =
-    let l = c.loop-i in
-    let a = c.args in
-    let e : l.i ≡ length a.labels.now = omega arith in
-    subst (λ (n : ℕ). Put (shop_lines a.labels.now n) a.out.now l.out a.at l.end) e l.invariant.1
