@@ -23,11 +23,9 @@ pub(crate) enum Kind {
 
 impl From<u64> for Kind {
     fn from(number: u64) -> Kind {
-        if let Ok(operation) = Operation::try_from(number) {
-            return Kind::Gives(operation);
-        }
         match number {
             0 => Kind::Draws,
+            1..=6 => Kind::Gives(Operation::from(number)),
             7 => Kind::Between(Operation::Exp),
             8 => Kind::Between(Operation::Ln),
             9 => Kind::RestartSeed,

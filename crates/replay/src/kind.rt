@@ -30,10 +30,8 @@ pub(crate) enum Kind {
 
 impl From<u64> for Kind {
     fn from(number: u64) -> Kind {
-        if let Ok(operation) = Operation::try_from(number) {
-            return Kind::Arithmetic(operation);
-        }
         match number {
+            1..=6 => Kind::Arithmetic(Operation::from(number)),
             7 => Kind::Draw,
             8 => Kind::Draws,
             9 => Kind::Product,

@@ -1,24 +1,20 @@
--- The functions that examples are of, and the numbers that the lists have for them. Definitions only.
-use Rattle.std.specs.Prelude.{◌≡◌, ◌⊎◌, ℕ, ◌<◌, Float, Result, MatchResult}
+-- The functions that examples are of, and the kinds that name them. Definitions only.
+use Rattle.std.specs.Prelude.{cond, ℕ, eqb, Float}
 use Rattle.float.specs.Arithmetic.{max_of, clamp_of, abs_of}
 use Rattle.root.specs.Root.{root_of}
 use Rattle.exponential.specs.Exponential.{exp_of}
 use Rattle.logarithm.specs.Logarithm.{ln_of}
 use Rattle.words.specs.declared.Operation.{Operation}
 use Rattle.words.specs.declared.Operation.TheVariants.{Root, Exp, Ln, Max, Clamp, Abs}
-use Rattle.words.specs.declared.UnknownOperation.{UnknownOperation}
 
-abbrev pub number_of : Operation → ℕ
-number_of Root = 1
-number_of Exp = 2
-number_of Ln = 3
-number_of Max = 4
-number_of Clamp = 5
-number_of Abs = 6
-
--- the result is the function with this number, or an error with a number that no function has
-abbrev pub Numbered : ℕ → Result Operation UnknownOperation → Type 0
-Numbered n r = MatchResult r (λ operation. number_of operation ≡ n) (λ e. (e.0 ≡ n) × ((n < 1) ⊎ (6 < n)))
+-- the function that a kind of example names: 1 to 5, and abs for any other
+abbrev pub operation_of : ℕ → Operation
+operation_of kind =
+    cond (eqb kind 1) Root
+    (cond (eqb kind 2) Exp
+    (cond (eqb kind 3) Ln
+    (cond (eqb kind 4) Max
+    (cond (eqb kind 5) Clamp Abs))))
 
 -- what a function gives
 abbrev pub arithmetic_of : Operation → (x y z : Float) → Float

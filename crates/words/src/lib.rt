@@ -9,7 +9,7 @@ ghost use Rattle.std.specs.Float.Ieee.{of_bits, to_bits};
 ghost use Rattle.words.specs.Words.{Counted, digit_of, words_of, place_of};
 ghost use Rattle.words.specs.Words.{plus_of, element_of, values_up_to, byte_of, bytes_up_to};
 ghost use Rattle.words.specs.Words.{due_at, AreBytes};
-ghost use Rattle.words.specs.Arithmetic.{Numbered, arithmetic_of};
+ghost use Rattle.words.specs.Arithmetic.{operation_of, arithmetic_of};
 
 // The smaller of two numbers.
 pub fn least(a: usize, b: usize) -> usize
@@ -187,25 +187,18 @@ pub enum Operation {
     Abs,
 }
 
-// A number that no function has.
-#[derive(Clone, Copy, Debug, PartialEq, Eq, Hash)]
-pub struct UnknownOperation(pub u64);
+// By the kind of an example; abs for a kind that names none.
+impl From<u64> for Operation {
+    ghost from_gives = { λ kind operation. operation ≡ operation_of kind };
 
-// By the numbers that the lists have.
-impl TryFrom<u64> for Operation {
-    type Error = UnknownOperation;
-
-    ghost try_from_gives = { Numbered };
-
-    fn try_from(number: u64) -> Result<Self, UnknownOperation> {
-        match number {
-            1 => Ok(Operation::Root),
-            2 => Ok(Operation::Exp),
-            3 => Ok(Operation::Ln),
-            4 => Ok(Operation::Max),
-            5 => Ok(Operation::Clamp),
-            6 => Ok(Operation::Abs),
-            _ => Err(UnknownOperation(number)),
+    fn from(kind: u64) -> Operation {
+        match kind {
+            1 => Operation::Root,
+            2 => Operation::Exp,
+            3 => Operation::Ln,
+            4 => Operation::Max,
+            5 => Operation::Clamp,
+            _ => Operation::Abs,
         }
     }
 }
