@@ -231,10 +231,5 @@ pub(crate) fn holds<F: FnOnce(&[f64], &[f64], &[u64], usize) -> bool>(line: &[u6
     let m = lists::load(&mut weights, line, 9);
     let at = lists::after(line, 9);
     let n = lists::load(&mut coords, line, at);
-    test(
-        &weights[..m],
-        &coords[..n],
-        line,
-        lists::after(line, at),
-    )
+    test(&weights[..m], &coords[..n], line, lists::after(line, at))
 }

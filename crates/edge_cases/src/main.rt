@@ -23,9 +23,7 @@ fn holds(kind: Kind, line: &[u64]) -> bool {
         Kind::Draws => true,
         Kind::Gives(operation) => numbers::gives(operation, line),
         Kind::Between(operation) => numbers::between(operation, line),
-        Kind::RestartSeed => {
-            rng::restart_seed(word(line, 1), word(line, 2)) == word(line, 4)
-        }
+        Kind::RestartSeed => { rng::restart_seed(word(line, 1), word(line, 2)) == word(line, 4) }
         Kind::Clustering => fits::holds(line, fits::clustering_holds),
         Kind::Mixture => fits::holds(line, fits::fit_answer_holds),
         Kind::Choice => fits::holds(line, fits::choice_holds),
