@@ -63,6 +63,7 @@ fn run_line(rt: &impl Print, text: &[u8]) -> io::Result<()> {
     run_words(rt, &line[..n])
 }
 
+// The loop goes from line end to line end and counts no index: split would give one more, empty line at the end.
 fn run_list(rt: &impl Print, text: &[u8]) -> io::Result<()> {
     let mut from = 0;
     while from < text.len() {

@@ -58,6 +58,7 @@ pub(crate) fn spherical_agrees(case: &[u64], ins: usize) -> bool {
     })
 }
 
+// A function and no From, since Kappa is of another crate.
 fn kappa_of(x: u64) -> mixture_kappa::Kappa {
     if x == 0 {
         mixture_kappa::Kappa::Free
