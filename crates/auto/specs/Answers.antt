@@ -17,9 +17,9 @@ pub record Numbers : Type 0 where
   pub counts : Counts
 
 -- the number of the refusal, 7 where no number has a score
-abbrev pub number_of_none : NotChosen → ℕ
-number_of_none (Refused e) = number_of e
-number_of_none (Unscored counts) = 7
+abbrev pub number_of_not_chosen : NotChosen → ℕ
+number_of_not_chosen (Refused e) = number_of e
+number_of_not_chosen (Unscored counts) = 7
 
 -- what an answer does not have is as found; 7 has the counts
 abbrev pub numbers_of : Numbers → Result Chosen NotChosen → Numbers
@@ -32,7 +32,13 @@ numbers_of found (Err (Refused e)) =
       counts = found.counts;
     }
 numbers_of found (Err (Unscored counts)) =
-    record { refusal = 7; groups = found.groups; loglik = found.loglik; score = found.score; counts = counts }
+    record {
+      refusal = number_of_not_chosen (Unscored counts);
+      groups = found.groups;
+      loglik = found.loglik;
+      score = found.score;
+      counts = counts;
+    }
 numbers_of found (Ok c) =
     record { refusal = 0; groups = c.k; loglik = c.loglik; score = c.score; counts = c.counts }
 

@@ -7,7 +7,7 @@ ghost use Rattle.std.specs.Prelude.{◌≡◌, length};
 ghost use Rattle.mixture_kappa.specs.declared.Kappa.TheVariants.{Free};
 ghost use Rattle.mixture_outputs.specs.Outputs.{arrays};
 ghost use Rattle.auto.specs.Outcome.{answered, outcome};
-ghost use Rattle.auto.specs.Answers.{number_of_none, AnswerLabelsFirst};
+ghost use Rattle.auto.specs.Answers.{number_of_not_chosen, AnswerLabelsFirst};
 ghost use Rattle.auto.specs.Best.{AnswerKeepsBest};
 ghost use Rattle.auto.specs.Tallied.{answer_of};
 ghost use Rattle.auto.specs.declared.NotChosen.TheVariants.{Refused};
@@ -39,7 +39,7 @@ impl From<Refusal> for NotChosen {
 }
 
 impl From<NotChosen> for u32 {
-    ghost from_gives = { λ e n. n ≡ number_of_none e };
+    ghost from_gives = { λ e n. n ≡ number_of_not_chosen e };
 
     fn from(e: NotChosen) -> u32 {
         match e {

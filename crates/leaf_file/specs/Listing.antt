@@ -6,7 +6,7 @@ use Rattle.limits.specs.declared.Refusal.{Refusal}
 use Rattle.counts.specs.declared.Counts.{Counts}
 use Rattle.auto.specs.declared.Chosen.{Chosen}
 use Rattle.auto.specs.declared.NotChosen.{NotChosen}
-use Rattle.auto.specs.Answers.{number_of_none}
+use Rattle.auto.specs.Answers.{number_of_not_chosen}
 use Rattle.leaf_file.specs.LeafFile.{Leaves, leaves_fit, file_refusal, leaves_in}
 
 -- ---- numbers
@@ -70,7 +70,7 @@ groups_text k counts labels =
 -- these, or a refusal alone
 abbrev pub text_of : Result Chosen NotChosen → List ℕ → List ℕ
 text_of (Ok c) labels = groups_text c.k c.counts labels
-text_of (Err e) labels = refused_text (number_of_none e)
+text_of (Err e) labels = refused_text (number_of_not_chosen e)
 
 -- the labels of 64 leaves, before they are filled
 abbrev pub blank : List ℕ

@@ -83,6 +83,12 @@ struct Shape {
     d: usize,
 }
 
+// The outputs of a case with m labels and k groups: word 1 has the number of coordinates.
+fn shape_of(case: &[u64], m: usize, k: usize) -> Shape {
+    let d = word(case, 1) as usize;
+    Shape { m, k, d }
+}
+
 // Whether the six outputs of that shape are as p says: the place after them.
 fn outputs_agree(
     s: Shape,
@@ -112,11 +118,7 @@ fn fit_agrees(
     at: usize,
     form: Form,
 ) -> Option<Place> {
-    let s = Shape {
-        m: weights.len(),
-        k: word(case, 2) as usize,
-        d: word(case, 1) as usize,
-    };
+    let s = shape_of(case, weights.len(), word(case, 2) as usize);
     let mut labels = [7u32; 132];
     let mut responsibilities = [7.5; 6500];
     let mut group_weights = [7.5; 68];
@@ -169,11 +171,7 @@ fn labelled(k: usize, m: usize) -> usize {
 // the number, the log-likelihood, the score, made, saved, and a digest of each output.
 fn choice_agrees(case: &[u64], weights: &[f64], coords: &[f64], at: usize) -> Option<Place> {
     let k = word(case, at) as usize;
-    let s = Shape {
-        m: labelled(k, weights.len()),
-        k,
-        d: word(case, 1) as usize,
-    };
+    let s = shape_of(case, labelled(k, weights.len()), k);
     let mut labels = [7u32; 132];
     let mut responsibilities = [7.5; 1024];
     let mut group_weights = [7.5; 68];
