@@ -69,7 +69,9 @@ module _ (o : Outputs) (weights coords : List Float) (d kMin kMax : ℕ) (s : Se
   in_range : outcome_in o weights coords d s lo hi work workU32 ≡ whole
   in_range = rw (el, eh)
 
-  module _ (t : Tally) (r : Result Chosen NotChosen) (o' : Outputs) (fit : Fitted weights coords d s o lo (hi + 1 - lo) t o') (er : r ≡ answer_of t) where
+  module _
+      (t : Tally) (r : Result Chosen NotChosen) (o' : Outputs) (fit : Fitted weights coords d s o lo (hi + 1 - lo) t o')
+      (er : r ≡ answer_of t) where
     done_in : ◌≡◌ {A = Outcome} (record { answer = r; outputs = o' }) (ended o weights coords d s lo hi)
     done_in =
         let c = chosen_of weights coords d s lo (hi + 1 - lo) in

@@ -1,5 +1,6 @@
 -- Document 01, 'Choosing the number of groups': the clamped range, the score and the choice. Definitions only.
-use Rattle.std.specs.Prelude.{List, Bool, true, false, ◌⊎◌, ℕ, zero, suc, ◌+◌, ◌≤◌, ◌<◌, min, max, T, Float, Option, Some, None}
+use Rattle.std.specs.Prelude.{List, Bool, true, false, ◌⊎◌, ℕ, zero, suc, ◌+◌, ◌≤◌, ◌<◌, min, max, T}
+use Rattle.std.specs.Prelude.{Float, Option, Some, None}
 use Rattle.std.specs.Float.{inf, binary64}
 use Rattle.std.specs.Float.Ieee.{add, mul, neg, lt, le, is_nan}
 use Rattle.float.specs.Arithmetic.{number, minus_zero, sum_from}

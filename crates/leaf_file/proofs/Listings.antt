@@ -31,7 +31,8 @@ text_listed bytes x m e h =
     ∙ text_by (file_refusal bytes) (leaves_in bytes) m (λ z. h z ∙ sym (tabulate_length _ (whole_at bytes 0 4)))
 
 -- the listing of a file, put at the start of an array
-pub list_end : (bytes l r : List ℕ) (x : FileFit) (m e : ℕ) → x ≡ file_fit bytes blank → (file_refusal bytes ≡ Ok tt → m ≡ whole_at bytes 0 4)
+pub list_end : (bytes l r : List ℕ) (x : FileFit) (m e : ℕ) → x ≡ file_fit bytes blank
+    → (file_refusal bytes ≡ Ok tt → m ≡ whole_at bytes 0 4)
     → Put (text_of x.answer (take m x.labels)) l r 0 e → ((e ≡ length (listing bytes)) × (r ≡ listing bytes ++ drop e l))
     × (Counted e r)
 list_end bytes l r x m e p h q =

@@ -38,7 +38,8 @@ refused_long : (n m d : ℕ) → 8712 < n → refusal_by n m d ≡ code (leb m 6
 refused_long n m d h = by (leb m 64 && leb d 16) (λ t. let b = both (leb m 64) (leb d 16) t in
     ne_eqb n (8 + 8 * m + 8 * (m * d)) (never n m d h (leb-true m 64 b.0) (leb-true d 16 b.1)))
   where
-    by : (b : Bool) → (b ≡ true → eqb n (8 + 8 * m + 8 * (m * d)) ≡ false) → need b FileSizes (need (eqb n (8 + 8 * m + 8 * (m * d))) FileLength (Ok tt)) ≡ code b
+    by : (b : Bool) → (b ≡ true → eqb n (8 + 8 * m + 8 * (m * d)) ≡ false)
+        → need b FileSizes (need (eqb n (8 + 8 * m + 8 * (m * d))) FileLength (Ok tt)) ≡ code b
     by true f = rw (f refl)
     by false f = refl
 

@@ -27,10 +27,6 @@ use Rattle.mixture_restarts.specs.declared.Runs.{Runs}
 
 -- ---- one run in one half
 
--- arrays of the same lengths serve as well
-pub runnable_of : (w w' u u' x y m k d rounds : ℕ) → w' ≡ w → u' ≡ u → Runnable w u x y m k d rounds → Runnable w' u' x y m k d rounds
-runnable_of w w' u u' x y m k d rounds e f v = rw (e, f) v
-
 pub halves_of : (w w' u x y m k d rounds : ℕ) → w' ≡ w → Runnable w u x y m k d rounds → TwoHalves w' m k d
 halves_of w w' u x y m k d rounds e r = rw e r.halves
 
@@ -58,11 +54,6 @@ run_done m k d a q w x once r e l h done =
       counts = done.counts;
       small = done.small;
     }
-
--- the same run at a place that is named otherwise
-pub run_at_of : (once : Once) (w w' : List Float) (a a' m k d : ℕ) (r : RunEnd) → a ≡ a' → RunAt once w w' a m k d r
-    → RunAt once w w' a' m k d r
-run_at_of once w w' a a' m k d r e t = rw (← e) t
 
 -- ---- one run more
 module _ (m k d : ℕ) (w w' : List Float) (run : Once) (r : RunEnd) where
@@ -130,10 +121,6 @@ module _ (s : Settings) (weights coords : List Float) (m k d : ℕ) where
       let f : t + 1 - 1 ≡ suc (t - 1) = omega arith in
       let g : suc (t - 1) ≡ t = omega arith in
       rw (f, g) (kept_turn m k d t w w' held (run_of s weights coords m k d t) h q r v x e)
-
-  pub runs_end : (t : ℕ) (w : List Float) (h : Held) → t ≡ 3 → Holds (runs_up_to s weights coords m k d (t - 1)) w m k d t h
-      → Holds (runs_up_to s weights coords m k d 2) w m k d 3 h
-  runs_end t w h e v = rw e at v
 
 -- ---- the keeper
 
