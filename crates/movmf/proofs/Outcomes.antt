@@ -42,7 +42,7 @@ module _ (o : Outputs) (weights coords : List Float) (d k : ℕ) (s : Settings) 
       → Both (runs_up_to s weights coords (length weights) k d 2) (run_of s weights coords (length weights) k d 3) w (length weights) k d r
       → loglik ≡ kept_loglik r.held r.last → o' ≡ written (length weights) k d (kept_em (length weights) k d w r) o
       → ◌≡◌ {A = Outcome} (record { answer = Ok (record { k = k; loglik = loglik; counts = r.counts }); outputs = o' })
-          (outcome o weights coords d k s work workU32)
+      (outcome o weights coords d k s work workU32)
   done e w r loglik o' b el eo =
       let m = length weights in
       let em = fit_em s weights coords m k d w r b in
