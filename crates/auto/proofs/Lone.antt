@@ -35,7 +35,7 @@ not_refused weights coords d kMax k s l some most e =
     let m = length weights in
     let hi = highest kMax m in
     let r = admitted weights coords d hi s l (highest_some kMax m hi refl) e in
-    let below = in_leaves kMax m k r.fittable.runnable.halves.sizes.m_some most in
+    let below = in_leaves kMax m k r.sizes.m_some most in
     let few : k ≤ most_groups = omega (arith, most, leb-true hi most_groups r.admitted) in
     fewer_groups (leb hi most_groups) (groups_ok k m) weights coords d hi k s l (few_ok k m some few below) most e
 

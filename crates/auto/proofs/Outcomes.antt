@@ -12,7 +12,7 @@ use borrow.Author.Tests.{leb-true}
 use Rattle.counts.specs.declared.Counts.{Counts}
 use Rattle.limits.specs.Limits.{most_groups}
 use Rattle.mixture_kappa.specs.declared.Settings.{Settings}
-use Rattle.mixture_outputs.specs.Outputs.{Outputs, lengths_of}
+use Rattle.mixture_outputs.specs.Outputs.{Outputs, arrays, lengths_of}
 use Rattle.mixture_outputs.specs.declared.Lengths.{Lengths}
 use Rattle.mixture_restarts.proofs.Lengths.{fit_resp}
 use Rattle.mixture_outputs.specs.Labels.{LabelsFirst}
@@ -108,3 +108,18 @@ module _ (o : Outputs) (weights coords : List Float) (d kMin kMax : ℕ) (s : Se
         subst (λ (x : Outputs). LabelsFirst m 0 k x) (sym (b.values z).2)
         (written_first m k d (lone weights coords d s k).em o (omega (arith, first, (b.kept_is_best z).least))
         (fit_resp s weights coords m k d)) refl
+
+-- ---- of arrays that hold the same
+pub best_of : (o : Outputs) (weights coords : List Float) (d : ℕ) (s : Settings) (kMin kMax work workU32 : ℕ) (a : Result Chosen NotChosen)
+    (o' : Outputs) (labels : List ℕ) (responsibilities groupWeights directions concentrations logw : List Float)
+    → AnswerKeepsBest o weights coords d s kMin kMax work workU32 a o' → labels ≡ o'.labels → responsibilities ≡ o'.responsibilities
+    → groupWeights ≡ o'.weights → directions ≡ o'.directions → concentrations ≡ o'.concentrations → logw ≡ o'.logw
+    → AnswerKeepsBest o weights coords d s kMin kMax work workU32 a
+    (arrays labels responsibilities groupWeights directions concentrations logw)
+best_of o weights coords d s kMin kMax work workU32 a o' labels responsibilities groupWeights directions concentrations logw best
+    el er ew ed ec eg = rw (el, er, ew, ed, ec, eg) best
+
+pub first_of : (m : ℕ) (a : Result Chosen NotChosen) (o : Outputs) (labels : List ℕ) (responsibilities : List Float)
+    → AnswerLabelsFirst m a o → labels ≡ o.labels → responsibilities ≡ o.responsibilities
+    → AnswerLabelsFirst m a (arrays labels responsibilities o.weights o.directions o.concentrations o.logw)
+first_of m a o labels responsibilities first el er = rw (el, er) first

@@ -6,13 +6,16 @@
 ghost use Rattle.std.specs.Prelude.{◌≡◌, length};
 ghost use Rattle.mixture_kappa.specs.declared.Kappa.TheVariants.{Free};
 ghost use Rattle.mixture_outputs.specs.Outputs.{arrays};
+ghost use Rattle.mixture_outputs.specs.Lent.{outputs_of, SameArrays};
 ghost use Rattle.auto.specs.Outcome.{answered, outcome};
 ghost use Rattle.auto.specs.Answers.{number_of_not_chosen, AnswerLabelsFirst};
 ghost use Rattle.auto.specs.Best.{AnswerKeepsBest};
 ghost use Rattle.auto.specs.Tallied.{answer_of};
 ghost use Rattle.auto.specs.declared.NotChosen.TheVariants.{Refused};
 
-use limits::Refusal;
+use limits::{Leaves, Refusal};
+use mixture_kappa::Settings;
+use mixture_outputs::Arrays;
 
 // What a call finds: the number kept, its log-likelihood and score, and the counts.
 #[derive(Clone, Copy)]
@@ -64,6 +67,33 @@ fn answer(t: auto_tries::Tally) -> Result<Chosen, NotChosen>
     }
 }
 
+// The mixture fit of these leaves with the best number of groups. The two work arrays come singly, since a struct of
+// them would have to say that their lengths stay.
+fn fit(
+    leaves: Leaves,
+    d: usize,
+    k_min: usize,
+    k_max: usize,
+    s: Settings,
+    o: &mut Arrays,
+    work: &mut [f64],
+    work_u32: &mut [u32],
+) -> Result<Chosen, NotChosen>
+    ensures same { SameArrays o.old o.new }
+    ensures fitted { answered result (outputs_of o.new) ≡ outcome (outputs_of o.old) leaves.entry.weights.now
+        leaves.entry.coords.now d s k_min k_max (length work.old) (length work_u32.old) }
+    ensures keeps_best { AnswerKeepsBest (outputs_of o.old) leaves.entry.weights.now leaves.entry.coords.now d s k_min
+        k_max (length work.old) (length work_u32.old) result (outputs_of o.new) }
+    ensures labels_first { AnswerLabelsFirst (length leaves.entry.weights.now) result (outputs_of o.new) }
+{
+    let hi = auto_choice::highest_number(k_max, leaves.weights.len());
+    let lo = auto_choice::lowest_number(k_min, hi);
+    let l = o.lengths(work.len(), work_u32.len());
+    mixture_outputs::check(leaves, d, hi, hi <= limits::MOST_GROUPS, s, l)?;
+    let ln_total = logarithm::ln(vector::sum(leaves.weights));
+    answer(auto_tries::fit_range(leaves, d, lo, hi, s, ln_total, o, work, work_u32))
+}
+
 // The mixture fit of m leaves (m weights, m * d coordinates) with the best number of groups from k_min to k_max, as far
 // as there are leaves. The outputs are those of `movmf_with` and must be long enough for the greatest number; a refusal
 // changes none of them. The work arrays' contents afterwards are free.
@@ -73,7 +103,7 @@ pub fn movmf_auto_with(
     d: usize,
     k_min: usize,
     k_max: usize,
-    s: mixture_kappa::Settings,
+    s: Settings,
     labels: &mut [u32],
     responsibilities: &mut [f64],
     group_weights: &mut [f64],
@@ -99,40 +129,16 @@ pub fn movmf_auto_with(
         (arrays labels.new responsibilities.new group_weights.new
         directions.new concentrations.new logw.new) }
 {
-    let m = weights.len();
-    let hi = auto_choice::highest_number(k_max, m);
-    let lo = auto_choice::lowest_number(k_min, hi);
-    let l = mixture_outputs::Lengths {
-        labels: labels.len(),
-        responsibilities: responsibilities.len(),
-        weights: group_weights.len(),
-        directions: directions.len(),
-        concentrations: concentrations.len(),
-        logw: logw.len(),
-        work: work.len(),
-        work_u32: work_u32.len(),
-    };
-    let groups = hi <= limits::MOST_GROUPS;
-    mixture_outputs::check(weights, coords, d, hi, groups, s, l)?;
-    let ln_total = logarithm::ln(vector::sum(weights));
-    let t = auto_tries::fit_range(
-        weights,
-        coords,
-        d,
-        lo,
-        hi,
-        s,
-        ln_total,
+    let mut o = Arrays {
         labels,
         responsibilities,
-        group_weights,
+        weights: group_weights,
         directions,
         concentrations,
         logw,
-        work,
-        work_u32,
-    );
-    answer(t)
+    };
+    let leaves = Leaves { weights, coords };
+    fit(leaves, d, k_min, k_max, s, &mut o, work, work_u32)
 }
 
 // The same, each group with a concentration of its own.
@@ -170,7 +176,7 @@ pub fn movmf_auto(
         (arrays labels.new responsibilities.new group_weights.new
         directions.new concentrations.new logw.new) }
 {
-    let s = mixture_kappa::Settings {
+    let s = Settings {
         rounds,
         seed,
         kappa: mixture_kappa::Kappa::Free,

@@ -1,2 +1,3 @@
 pub mod Tails
 pub mod Numbers
+pub mod Below

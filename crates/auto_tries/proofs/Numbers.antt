@@ -13,13 +13,11 @@ use Rattle.counts.specs.declared.Counts.{Counts}
 use Rattle.counts.proofs.Sums.{at_most_more, at_most_plus}
 use Rattle.mixture_kappa.specs.declared.Settings.{Settings}
 use Rattle.mixture_run.specs.Mixture.{Em}
-use Rattle.mixture_run.specs.Areas.{Area}
-use Rattle.mixture_run.proofs.Regions.{resp_r, weights_r, directions_r, kappas_r, length_in}
-use Rattle.mixture_restarts.specs.Runs.{run_of, runs_up_to, fit_of}
-use Rattle.mixture_restarts.specs.Halves.{TwoHalves, Both, kept_loglik, kept_part_of, kept_em}
+use Rattle.mixture_run.specs.Areas.{parts_of, em_of}
+use Rattle.mixture_run.specs.declared.layout.Area.{Area}
+use Rattle.mixture_restarts.specs.Kept.{kept_loglik}
 use Rattle.mixture_restarts.specs.declared.Runs.{Runs}
 use Rattle.mixture_outputs.specs.Outputs.{Outputs, written}
-use Rattle.mixture_outputs.proofs.Kept.{kept_area, fit_em, fit_counts}
 use Rattle.std.specs.Prelude.{None}
 use Rattle.auto_choice.specs.Choice.{Choice, number_with, total_of, score_by, held_score, choose_by, choose, chosen}
 use Rattle.auto_tries.specs.Lone.{lone, score, chosen_of, counts_of, written_by}
@@ -27,35 +25,34 @@ use Rattle.auto_tries.specs.Tries.{Full, Tails, loglik_by, FitOfK, Fitted}
 use Rattle.auto_tries.specs.declared.Tally.{Tally}
 use Rattle.auto_tries.proofs.Tails.{tails_more, tails_written, written_same}
 
--- ---- one number fitted
-module _ (weights coords : List Float) (d k : ℕ) (s : Settings) (w : List Float) (r : Runs)
-    (b : Both (runs_up_to s weights coords (length weights) k d 2) (run_of s weights coords (length weights) k d 3) w
-    (length weights) k d r) where
+-- ---- one number fitted, of which an area has what is found
+module _ (weights coords : List Float) (d k : ℕ) (s : Settings) (a : Area) (r : Runs)
+    (em : em_of (parts_of a) (kept_loglik r.held r.last) ≡ (lone weights coords d s k).em)
+    (fit : r.counts ≡ (lone weights coords d s k).counts) (few : AtMost (of_runs 4) r.counts)
+    (leaves : a.warm.shape.m ≡ length weights) (groups : a.warm.shape.k ≡ k) (row : a.warm.shape.d ≡ d) where
   abbrev m : ℕ
   m = length weights
 
   abbrev found : Em
-  found = (fit_of s weights coords m k d).em
+  found = (lone weights coords d s k).em
 
-  -- what is found is a part of an area, so its lists are as long as the regions
-  full_of : TwoHalves (length w) m k d → Full m k d found
-  full_of h =
-      let area = kept_part_of m k d w r in
-      let a : Area (length area) m k d = kept_area m k d w r h area refl in
-      let e : Full m k d (kept_em m k d w r) =
+  -- its lists are as long as those of the area
+  full : Full m k d found
+  full =
+      let e : Full a.warm.shape.m a.warm.shape.k a.warm.shape.d (em_of (parts_of a) (kept_loglik r.held r.last)) =
       record {
-        resp = length_in resp_r m k d area a.work_long;
-        weights = length_in weights_r m k d area a.work_long;
-        directions = length_in directions_r m k d area a.work_long;
-        kappas = length_in kappas_r m k d area a.work_long;
+        resp = a.sized.responsibilities_long;
+        weights = a.sized.weights_long;
+        directions = a.warm.sized.centers_long;
+        kappas = a.sized.kappas_long;
       } in
-      subst (Full m k d) (fit_em s weights coords m k d w r b) e
+      rw (leaves, groups, row, em) at e
 
   module _ (t : Tally) (loglik lnTotal x : Float) (beats : Bool) (counts : Counts) (el : loglik ≡ kept_loglik r.held r.last)
       (en : lnTotal ≡ ln_of (total_of weights)) (ex : x ≡ score_by s.kappa k d loglik lnTotal) (eb : beats ≡ lt x (held_score t.choice))
-      (ec : counts ≡ plus_of t.counts r.counts) (h : TwoHalves (length w) m k d) where
+      (ec : counts ≡ plus_of t.counts r.counts) where
     loglik_is : loglik ≡ found.loglik
-    loglik_is = el ∙ ap (λ (y : Em). y.loglik) (fit_em s weights coords m k d w r b)
+    loglik_is = el ∙ ap (λ (y : Em). y.loglik) em
 
     score_is : x ≡ score weights coords d s k
     score_is = ex ∙ ap₂ (score_by s.kappa k d) loglik_is en
@@ -68,24 +65,21 @@ module _ (weights coords : List Float) (d k : ℕ) (s : Settings) (w : List Floa
         ap (λ (z : Float). choose_by y (number_with k z) t.choice) score_is
         ∙ ap (λ (z : Bool). choose_by z (number_with k (score weights coords d s k)) t.choice) (sym (test_is y e))
 
-    counts_are : r.counts ≡ (lone weights coords d s k).counts
-    counts_are = fit_counts s weights coords m k d w r b
-
     counted : counts ≡ plus_of t.counts (lone weights coords d s k).counts
-    counted = ec ∙ ap (plus_of t.counts) counts_are
+    counted = ec ∙ ap (plus_of t.counts) fit
 
     small : AtMost (of_runs 4) (lone weights coords d s k).counts
-    small = subst (AtMost (of_runs 4)) counts_are b.small
+    small = subst (AtMost (of_runs 4)) fit few
 
-    pub fitted_kept : (o o' : Outputs) → beats ≡ true → o' ≡ written m k d (kept_em m k d w r) o
+    pub fitted_kept : (o o' : Outputs) → beats ≡ true → o' ≡ written m k d found o
         → FitOfK weights coords d s k t (record { choice = number_with k x; loglik = loglik; counts = counts }) o o'
     fitted_kept o o' taken eo =
         record {
           choice = choice_is true taken;
           counts = counted;
-          kept = λ e. (loglik_is, eo ∙ ap (λ (y : Em). written m k d y o) (fit_em s weights coords m k d w r b));
+          kept = λ e. (loglik_is, eo);
           left = λ e. absurd (true≢false (sym (test_is true taken) ∙ e));
-          full = full_of h;
+          full = full;
           small = small;
         }
 
@@ -97,7 +91,7 @@ module _ (weights coords : List Float) (d k : ℕ) (s : Settings) (w : List Floa
           counts = counted;
           kept = λ e. absurd (true≢false (sym e ∙ test_is false left));
           left = λ e. (refl, refl);
-          full = full_of h;
+          full = full;
           small = small;
         }
 

@@ -1,15 +1,28 @@
 -- What the functions that fit the numbers one after the other ask and promise: the tally so far, the rest of each
 -- output as found, and one number more. No definition of document 01 stands on this file.
-use Rattle.std.specs.Prelude.{◌≡◌, List, true, false, ℕ, ◌*◌, length, drop, Float, Some, None}
+use Rattle.std.specs.Prelude.{◌≡◌, List, true, false, ℕ, ◌+◌, ◌*◌, ◌≤◌, length, drop, Float, Some, None}
 use Rattle.std.specs.Float.{inf}
 use Rattle.std.specs.Float.Ieee.{lt}
 use Rattle.counts.specs.Counts.{plus_of, AtMost, of_runs}
 use Rattle.mixture_kappa.specs.declared.Settings.{Settings}
 use Rattle.mixture_run.specs.Mixture.{Em}
+use Rattle.limits.specs.Limits.{most_rounds}
+use Rattle.limits.specs.Sizes.{Sizes}
+use Rattle.kmeans_layout.specs.Sized.{half}
 use Rattle.mixture_outputs.specs.Outputs.{Outputs, written}
+use Rattle.mixture_outputs.specs.Lent.{Fits}
 use Rattle.auto_choice.specs.Choice.{Choice, held_score, choose}
 use Rattle.auto_tries.specs.Lone.{lone, score, chosen_of, counts_of, written_by}
 use Rattle.auto_tries.specs.declared.Tally.{Tally}
+
+-- a fit of k groups may be made: sizes and rounds are within their limits, and all arrays are long enough
+pub record Fittable (weights coords : List Float) (k d rounds : ℕ) (o : Outputs) (work workU32 : ℕ) : Type 0 where
+  pub sizes : Sizes (length weights) k d
+  pub coords_long : length coords ≡ length weights * d
+  pub rounds_small : rounds ≤ most_rounds
+  pub outputs_long : Fits o (length weights) k d
+  pub work_long : half (length weights) k d + half (length weights) k d ≤ work
+  pub work_u32_long : (length weights + k) + (length weights + k) ≤ workU32
 
 -- what is found is as long as k groups make it
 pub record Full (m k d : ℕ) (em : Em) : Type 0 where

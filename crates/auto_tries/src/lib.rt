@@ -6,10 +6,14 @@
 ghost use Rattle.std.specs.Prelude.{◌≡◌, ◌+◌, ◌-◌, ◌≤◌, length};
 ghost use Rattle.logarithm.specs.Logarithm.{ln_of};
 ghost use Rattle.counts.specs.Counts.{AtMost, of_runs};
-ghost use Rattle.mixture_outputs.specs.Outputs.{arrays, lengths_of};
-ghost use Rattle.mixture_outputs.specs.Fillable.{Fittable};
+ghost use Rattle.mixture_outputs.specs.Lent.{outputs_of, SameArrays};
 ghost use Rattle.auto_choice.specs.Choice.{total_of};
-ghost use Rattle.auto_tries.specs.Tries.{FitOfK, Fitted};
+ghost use Rattle.auto_tries.specs.Tries.{Fittable, FitOfK, Fitted};
+
+use limits::{Leaves, Shape};
+use mixture_kappa::Settings;
+use mixture_outputs::Arrays;
+use mixture_restarts::Halves;
 
 // After some numbers: the choice with its log-likelihood, and the counts of all fits.
 #[derive(Clone, Copy)]
@@ -19,55 +23,34 @@ pub struct Tally {
     pub counts: counts::Counts,
 }
 
-// The fit of k, which is written into the outputs where its score beats the one held.
+// The fit of k, which is written into the outputs where its score beats the one held. The two work arrays come singly,
+// since a struct of them would have to say that their lengths stay.
 fn fit_of_k(
-    weights: &[f64],
-    coords: &[f64],
+    leaves: Leaves,
     d: usize,
     k: usize,
-    s: mixture_kappa::Settings,
+    s: Settings,
     ln_total: f64,
     t: Tally,
-    labels: &mut [u32],
-    responsibilities: &mut [f64],
-    group_weights: &mut [f64],
-    directions: &mut [f64],
-    concentrations: &mut [f64],
-    logw: &mut [f64],
+    o: &mut Arrays,
     work: &mut [f64],
     work_u32: &mut [u32],
 ) -> Tally
-    requires fittable { Fittable (length weights.now) (length coords.now) (length weights.now) k d s.rounds
-        (lengths_of (arrays labels.old responsibilities.old group_weights.old directions.old
-        concentrations.old logw.old) (length work.old) (length work_u32.old)) }
-    requires at_most { (AtMost (of_runs 252) t.counts) × (ln_total ≡ ln_of (total_of weights.now)) }
-    ensures { FitOfK weights.now coords.now d s k t result
-        (arrays labels.old responsibilities.old group_weights.old
-        directions.old concentrations.old logw.old)
-        (arrays labels.new responsibilities.new group_weights.new
-        directions.new concentrations.new logw.new) }
+    requires fittable { Fittable (leaves.weights.now) (leaves.coords.now) k d s.rounds (outputs_of o.old)
+        (length work.old) (length work_u32.old) }
+    requires at_most { (AtMost (of_runs 252) t.counts) × (ln_total ≡ ln_of (total_of leaves.weights.now)) }
+    ensures same { SameArrays o.old o.new }
+    ensures fit { FitOfK leaves.entry.weights.now leaves.entry.coords.now d s k t result (outputs_of o.old)
+        (outputs_of o.new) }
 {
-    let m = weights.len();
-    let r = mixture_restarts::four_runs(work, work_u32, weights, coords, s, m, k, d);
+    let m = leaves.weights.len();
+    let mut halves = Halves::of(Shape { m, k, d }, leaves, work, work_u32);
+    let r = mixture_restarts::four_runs(&mut halves, s);
     let loglik = mixture_restarts::kept_loglik(r);
-    let kappa = s.kappa;
-    let score = auto_choice::score_at(kappa, k, d, loglik, ln_total);
+    let score = auto_choice::score_at(s.kappa, k, d, loglik, ln_total);
     let counts = counts::plus(t.counts, r.counts);
-    let choice = t.choice;
-    if auto_choice::beats(score, choice) {
-        mixture_outputs::fill_outputs(
-            labels,
-            responsibilities,
-            group_weights,
-            directions,
-            concentrations,
-            logw,
-            work,
-            r,
-            m,
-            k,
-            d,
-        );
+    if auto_choice::beats(score, t.choice) {
+        mixture_outputs::fill_outputs(o, mixture_restarts::kept(&halves, r));
         return Tally {
             choice: Some(auto_choice::Scored { k, score }),
             loglik,
@@ -75,7 +58,7 @@ fn fit_of_k(
         };
     }
     Tally {
-        choice,
+        choice: t.choice,
         loglik: t.loglik,
         counts,
     }
@@ -83,31 +66,22 @@ fn fit_of_k(
 
 // Every number from lo to hi, in rising order.
 pub fn fit_range(
-    weights: &[f64],
-    coords: &[f64],
+    leaves: Leaves,
     d: usize,
     lo: usize,
     hi: usize,
-    s: mixture_kappa::Settings,
+    s: Settings,
     ln_total: f64,
-    labels: &mut [u32],
-    responsibilities: &mut [f64],
-    group_weights: &mut [f64],
-    directions: &mut [f64],
-    concentrations: &mut [f64],
-    logw: &mut [f64],
+    o: &mut Arrays,
     work: &mut [f64],
     work_u32: &mut [u32],
 ) -> Tally
-    requires fittable { Fittable (length weights.now) (length coords.now) (length weights.now) hi d s.rounds
-        (lengths_of (arrays labels.old responsibilities.old group_weights.old directions.old
-        concentrations.old logw.old) (length work.old) (length work_u32.old)) }
-    requires le_lo { (1 ≤ lo) × (lo ≤ hi) × (ln_total ≡ ln_of (total_of weights.now)) }
-    ensures { Fitted weights.now coords.now d s
-        (arrays labels.old responsibilities.old group_weights.old
-        directions.old concentrations.old logw.old) lo (hi + 1 - lo) result
-        (arrays labels.new responsibilities.new group_weights.new
-        directions.new concentrations.new logw.new) }
+    requires fittable { Fittable (leaves.weights.now) (leaves.coords.now) hi d s.rounds (outputs_of o.old)
+        (length work.old) (length work_u32.old) }
+    requires le_lo { (1 ≤ lo) × (lo ≤ hi) × (ln_total ≡ ln_of (total_of leaves.weights.now)) }
+    ensures same { SameArrays o.old o.new }
+    ensures fitted { Fitted leaves.entry.weights.now leaves.entry.coords.now d s (outputs_of o.old) lo (hi + 1 - lo)
+        result (outputs_of o.new) }
 {
     let mut t = Tally {
         choice: None,
@@ -115,23 +89,7 @@ pub fn fit_range(
         counts: counts::none(),
     };
     for k in lo..hi + 1 {
-        t = fit_of_k(
-            weights,
-            coords,
-            d,
-            k,
-            s,
-            ln_total,
-            t,
-            labels,
-            responsibilities,
-            group_weights,
-            directions,
-            concentrations,
-            logw,
-            work,
-            work_u32,
-        );
+        t = fit_of_k(leaves, d, k, s, ln_total, t, o, work, work_u32);
     }
     t
 }

@@ -129,7 +129,7 @@ pub fn log_vmf_norm_from(dim: usize, kappa: f64, start: f64) -> f64
     nu * logarithm::ln(kappa) - half_d * gamma::LN_TAU - log_iv(nu, kappa, start)
 }
 
-// The log normalizing constant of the density in dim dimensions.
+// The log normalizing constant of the density in dim dimensions, as the Rust has it: the table is read for each.
 pub fn log_vmf_norm(dim: usize, kappa: f64) -> f64
     requires { Dimension dim }
     ensures { result ≡ log_vmf_norm_of dim kappa }

@@ -1,6 +1,6 @@
 // What crosses the border to C (document 01, 'Refusals by call'): the kind of a Kappa, and the numbers of an answer,
-// which are put into what is lent; the number of the refusal goes back, 0 for none. C has no Result,
-// so refusals and kinds are numbers here and in `station`.
+// which are put into what is lent; the number of the refusal goes back, 0 for none. C has no Result, so refusals and
+// kinds are numbers here and in `station`; and each answer has numbers of its own, so that each has a giver of its own.
 #![tactic(auto)]
 
 ghost use Rattle.std.specs.Prelude.{◌≡◌};

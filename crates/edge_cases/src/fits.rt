@@ -3,33 +3,40 @@ ghost use Rattle.std.specs.Prelude.{◌≡◌, ◌≤◌};
 
 use super::lists;
 use auto::{Chosen, NotChosen};
+use limits::Leaves;
 use words::{plus, word};
 
-// The numbers of a call: words 4 to 8.
+// A call of a line: its leaves; its numbers, words 4 to 8; and from word `at` on the lengths of its arrays.
 #[derive(Clone, Copy)]
-struct Call {
+pub(crate) struct Call<'a> {
+    line: &'a [u64],
+    leaves: Leaves<'a>,
     d: usize,
     k_min: usize,
     k: usize,
     rounds: usize,
     restarts: usize,
+    at: usize,
 }
 
-fn call_of(line: &[u64]) -> Call {
+fn call_of<'a>(line: &'a [u64], leaves: Leaves<'a>, at: usize) -> Call<'a> {
     Call {
+        line,
+        leaves,
         d: word(line, 4) as usize,
         k_min: word(line, 5) as usize,
         k: word(line, 6) as usize,
         rounds: word(line, 7) as usize,
         restarts: word(line, 8) as usize,
+        at,
     }
 }
 
-// The length of array i, where the lengths are from word `at` on; no more than there is room for.
-fn room(line: &[u64], at: usize, i: usize, most: usize) -> usize
+// The length of array i of a call; no more than there is room for.
+fn room(c: Call, i: usize, most: usize) -> usize
     ensures { result ≤ most }
 {
-    words::least(word(line, plus(at, i)) as usize, most)
+    words::least(word(c.line, plus(c.at, i)) as usize, most)
 }
 
 // The number of a refusal, or 0.
@@ -56,26 +63,19 @@ fn answer_is(c: u32, same: bool, line: &[u64]) -> bool {
     u64::from(c) == word(line, 1) && (c == 0 || same)
 }
 
-// What spherical k-means answers with arrays of the lengths from word `at` on: labels, directions and the two work
-// arrays.
-fn clustered(
-    weights: &[f64],
-    coords: &[f64],
-    c: Call,
-    line: &[u64],
-    at: usize,
-    labels: &mut [u32],
-    directions: &mut [f64],
-) -> u32 {
+// Whether spherical k-means answers as word 1 says.
+pub(crate) fn clustering_holds(c: Call) -> bool {
+    let mut labels = [9u32; 4096];
+    let mut directions = [9.0; 256];
     let mut work = [0.0; 40980];
     let mut work_u32 = [0u32; 8194];
-    let i = room(line, at, 0, labels.len());
-    let j = room(line, at, 1, directions.len());
-    let n = room(line, at, 2, 40980);
-    let p = room(line, at, 3, 8194);
-    number_of(spherical::spherical_kmeans(
-        weights,
-        coords,
+    let i = room(c, 0, labels.len());
+    let j = room(c, 1, directions.len());
+    let n = room(c, 2, work.len());
+    let p = room(c, 3, work_u32.len());
+    let r = number_of(spherical::spherical_kmeans(
+        c.leaves.weights,
+        c.leaves.coords,
         c.d,
         c.k,
         c.rounds,
@@ -85,16 +85,9 @@ fn clustered(
         &mut directions[..j],
         &mut work[..n],
         &mut work_u32[..p],
-    ))
-}
-
-// Whether it answers as word 1 says.
-pub(crate) fn clustering_holds(weights: &[f64], coords: &[f64], line: &[u64], at: usize) -> bool {
-    let c = call_of(line);
-    let mut labels = [9u32; 4096];
-    let mut directions = [9.0; 256];
-    let r = clustered(weights, coords, c, line, at, &mut labels, &mut directions);
-    answer_is(r, labels_untouched(&labels) & untouched(&directions), line)
+    ));
+    let same = labels_untouched(&labels) & untouched(&directions);
+    answer_is(r, same, c.line)
 }
 
 fn settings(rounds: usize) -> mixture_kappa::Settings {
@@ -105,72 +98,69 @@ fn settings(rounds: usize) -> mixture_kappa::Settings {
     }
 }
 
-// What the mixture fit answers with arrays of the lengths from word `at` on.
-fn fitted(
-    weights: &[f64],
-    coords: &[f64],
-    c: Call,
-    line: &[u64],
-    at: usize,
-    labels: &mut [u32],
-    responsibilities: &mut [f64],
-    group_weights: &mut [f64],
-    directions: &mut [f64],
-    concentrations: &mut [f64],
-    logw: &mut [f64],
-) -> u32 {
+// The outputs of a mixture fit.
+#[derive(Drop)]
+struct Outputs {
+    labels: [u32; 8],
+    responsibilities: [f64; 32],
+    weights: [f64; 8],
+    directions: [f64; 16],
+    concentrations: [f64; 8],
+    logw: [f64; 8],
+}
+
+impl Outputs {
+    // As before a call: each number is 9.
+    fn new() -> Outputs {
+        Outputs {
+            labels: [9; 8],
+            responsibilities: [9.0; 32],
+            weights: [9.0; 8],
+            directions: [9.0; 16],
+            concentrations: [9.0; 8],
+            logw: [9.0; 8],
+        }
+    }
+
+    // Whether they are still so.
+    fn untouched(&self) -> bool {
+        let a = labels_untouched(&self.labels)
+            & untouched(&self.responsibilities)
+            & untouched(&self.directions);
+        let b = untouched(&self.weights) & untouched(&self.concentrations) & untouched(&self.logw);
+        a & b
+    }
+}
+
+// Whether the mixture fit answers as word 1 says.
+pub(crate) fn fit_answer_holds(c: Call) -> bool {
+    let mut o = Outputs::new();
     let mut work = [0.0; 256];
     let mut work_u32 = [0u32; 32];
-    let i1 = room(line, at, 0, labels.len());
-    let i2 = room(line, at, 1, responsibilities.len());
-    let i3 = room(line, at, 2, group_weights.len());
-    let i4 = room(line, at, 3, directions.len());
-    let i5 = room(line, at, 4, concentrations.len());
-    let i6 = room(line, at, 5, logw.len());
-    let i7 = room(line, at, 6, 256);
-    let i8 = room(line, at, 7, 32);
-    number_of(movmf::movmf_with(
-        weights,
-        coords,
+    let i1 = room(c, 0, o.labels.len());
+    let i2 = room(c, 1, o.responsibilities.len());
+    let i3 = room(c, 2, o.weights.len());
+    let i4 = room(c, 3, o.directions.len());
+    let i5 = room(c, 4, o.concentrations.len());
+    let i6 = room(c, 5, o.logw.len());
+    let i7 = room(c, 6, work.len());
+    let i8 = room(c, 7, work_u32.len());
+    let r = number_of(movmf::movmf_with(
+        c.leaves.weights,
+        c.leaves.coords,
         c.d,
         c.k,
         settings(c.rounds),
-        &mut labels[..i1],
-        &mut responsibilities[..i2],
-        &mut group_weights[..i3],
-        &mut directions[..i4],
-        &mut concentrations[..i5],
-        &mut logw[..i6],
+        &mut o.labels[..i1],
+        &mut o.responsibilities[..i2],
+        &mut o.weights[..i3],
+        &mut o.directions[..i4],
+        &mut o.concentrations[..i5],
+        &mut o.logw[..i6],
         &mut work[..i7],
         &mut work_u32[..i8],
-    ))
-}
-
-// Whether it answers as word 1 says.
-pub(crate) fn fit_answer_holds(weights: &[f64], coords: &[f64], line: &[u64], at: usize) -> bool {
-    let c = call_of(line);
-    let mut labels = [9u32; 8];
-    let mut responsibilities = [9.0; 32];
-    let mut group_weights = [9.0; 8];
-    let mut directions = [9.0; 16];
-    let mut concentrations = [9.0; 8];
-    let mut logw = [9.0; 8];
-    let r = fitted(
-        weights,
-        coords,
-        c,
-        line,
-        at,
-        &mut labels,
-        &mut responsibilities,
-        &mut group_weights,
-        &mut directions,
-        &mut concentrations,
-        &mut logw,
-    );
-    let a = labels_untouched(&labels) & untouched(&responsibilities) & untouched(&directions);
-    let b = untouched(&group_weights) & untouched(&concentrations) & untouched(&logw);
-    answer_is(r, a & b, line)
+    ));
+    answer_is(r, o.untouched(), c.line)
 }
 
 // Whether r is as words 1 to 3 say: refused with word 1; or with 7, and words 2 and 3 groups looked at and skipped; or
@@ -190,40 +180,32 @@ pub(crate) fn chosen_is(r: Result<Chosen, NotChosen>, same: bool, line: &[u64]) 
 }
 
 // Whether the automatic fit with small arrays answers so.
-pub(crate) fn choice_holds(weights: &[f64], coords: &[f64], line: &[u64], _at: usize) -> bool {
-    let c = call_of(line);
-    let mut labels = [9u32; 8];
-    let mut responsibilities = [9.0; 32];
-    let mut group_weights = [9.0; 8];
-    let mut directions = [9.0; 16];
-    let mut concentrations = [9.0; 8];
-    let mut logw = [9.0; 8];
+pub(crate) fn choice_holds(c: Call) -> bool {
+    let mut o = Outputs::new();
     let mut work = [0.0; 256];
     let mut work_u32 = [0u32; 32];
     let r = auto::movmf_auto_with(
-        weights,
-        coords,
+        c.leaves.weights,
+        c.leaves.coords,
         c.d,
         c.k_min,
         c.k,
         settings(c.rounds),
-        &mut labels,
-        &mut responsibilities,
-        &mut group_weights,
-        &mut directions,
-        &mut concentrations,
-        &mut logw,
+        &mut o.labels,
+        &mut o.responsibilities,
+        &mut o.weights,
+        &mut o.directions,
+        &mut o.concentrations,
+        &mut o.logw,
         &mut work,
         &mut work_u32,
     );
-    let a = labels_untouched(&labels) & untouched(&responsibilities) & untouched(&directions);
-    let b = untouched(&group_weights) & untouched(&concentrations) & untouched(&logw);
-    chosen_is(r, a & b, line)
+    chosen_is(r, o.untouched(), c.line)
 }
 
-// Whether the test holds of a line's leaves: the answer in words 1 to 3, d, k_min, k or k_max, rounds, restarts, the
-// weights, the coordinates, and from word `at` on the arrays' lengths.
-pub(crate) fn holds<F: FnOnce(&[f64], &[f64], &[u64], usize) -> bool>(line: &[u64], test: F) -> bool
+// Whether the test holds of a line's call: the answer in words 1 to 3, d, k_min, k or k_max, rounds, restarts, the
+// weights, the coordinates, and the arrays' lengths.
+pub(crate) fn holds<F: FnOnce(Call) -> bool>(line: &[u64], test: F) -> bool
     requires { F.IsAlwaysCallable test }
 {
     let mut weights = [0.0; 4097];
@@ -231,5 +213,9 @@ pub(crate) fn holds<F: FnOnce(&[f64], &[f64], &[u64], usize) -> bool>(line: &[u6
     let m = lists::load(&mut weights, line, 9);
     let at = lists::after(line, 9);
     let n = lists::load(&mut coords, line, at);
-    test(&weights[..m], &coords[..n], line, lists::after(line, at))
+    let leaves = Leaves {
+        weights: &weights[..m],
+        coords: &coords[..n],
+    };
+    test(call_of(line, leaves, lists::after(line, at)))
 }

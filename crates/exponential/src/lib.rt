@@ -182,7 +182,8 @@ pub fn exps<const N: usize>(x: [f64; N]) -> [f64; N]
     x.map(exp)
 }
 
-// Eight exponentials: side by side where all are from -708 to 709, else by fours.
+// Eight exponentials: side by side where all are from -708 to 709, else by fours. `exps` of eight would go one by one
+// there, or miss that four of them are zeros.
 pub fn exp8(x: [f64; 8]) -> [f64; 8]
     ensures { result ≡ map exp_of x }
 {

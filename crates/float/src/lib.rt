@@ -10,7 +10,8 @@ ghost use Rattle.std.specs.Float.Ieee.Positive.{positive};
 ghost use Rattle.float.specs.Arithmetic.{max_of, clamp_of, abs_of};
 ghost use Rattle.float.specs.Parts.{SplitOf, value_of, power_of};
 
-// The greater of two; with one NaN the other operand.
+// The greater of two; with one NaN the other operand. This one and the next two are no functions of the library, since
+// document 01 says what each does with a NaN and with either zero.
 pub fn max(x: f64, y: f64) -> f64
     ensures { result ≡ max_of x y }
 {
@@ -62,15 +63,6 @@ pub fn bits_of(x: f64) -> u64
     }
 }
 
-// Four floats, for what is computed of four at once.
-#[derive(Clone, Copy)]
-pub struct Four {
-    pub x0: f64,
-    pub x1: f64,
-    pub x2: f64,
-    pub x3: f64,
-}
-
 // 2^(n - 1023): the float whose exponent's field is n.
 pub fn pow2(n: u64) -> f64
     requires { (0 < n) × (n < 2047) }
@@ -86,7 +78,8 @@ pub struct Digits {
     pub e: u64,
 }
 
-// A positive x as m * 2^e * 2^-1126, where m has 53 binary digits.
+// A positive x as m * 2^e * 2^-1126, where m has 53 binary digits. The loop counts nothing: a subnormal number is
+// doubled until it has as many.
 pub fn split(x: f64) -> Digits
     requires { T (positive x) }
     ensures { SplitOf x result.m result.e }

@@ -20,11 +20,9 @@ use Rattle.kmeans_bounds.specs.declared.Slowest.{Slowest}
 use Rattle.kmeans_layout.specs.State.{State}
 use Rattle.kmeans_assign.specs.Pass.{Pass, bounds_at, put_bounds, put_label, shift_leaf, shift_up_to, bounds_by, best_of, put_best}
 use Rattle.kmeans_assign.specs.Pass.{more_made, pass_leaf, pass_up_to}
-use Rattle.kmeans_layout.specs.Areas.{state_in, total, Labelled}
 use Rattle.kmeans_assign.specs.Turns.{Spent, LeafPlaced, LeafPassed, tallied, passed}
 use Rattle.kmeans_assign.specs.declared.Passed.{Passed}
-use Rattle.kmeans_layout.proofs.Regions.{get_labels, length_low, length_high}
-use Rattle.kmeans_assign.proofs.Passes.{shift_labels, pass_turn, leaf_placed, labelled_after_pass}
+use Rattle.kmeans_assign.proofs.Passes.{pass_turn}
 
 -- ---- two leaves
 module _ (i j : ℕ) (h : i < j) (s : State) where
@@ -110,12 +108,6 @@ module _ (coords : List Float) (k d it : ℕ) (t : Slowest) (s : State) where
       ap (on_state (shift_leaf k t n)) e ∙ sym (shift_late coords k d it t n (shift_up_to k t s n) n (omega arith)) in
       pass_turn coords k d it (shift_up_to k t s (n + 1)) n (shift_leaf k t n x) x' p p' r (rw add-one g) l f
 
-  pub fused_labelled : (m : ℕ) → Labelled m k s → 0 < k → (n : ℕ) (x : State) (p : Passed)
-      → passed x p ≡ pass_up_to coords k d it (shift_up_to k t s n) n → Labelled m k x
-  fused_labelled m l h n x p e =
-      let f : x ≡ (pass_up_to coords k d it (shift_up_to k t s n) n).state = ap (λ (q : Pass). q.state) e in
-      rw f (labelled_after_pass coords m k d it (shift_up_to k t s n) (rw (shift_labels k t s n) l) h n)
-
 -- ---- a leaf given new bounds from its dots
 module _ (k i : ℕ) (x : Bounds) (s : State) where
   best_anew : (b : Best) → lt plus_zero (get_or s.scale i nan) ≡ true → put_best k i b (put_bounds i x s) ≡ put_best k i b s
@@ -126,21 +118,19 @@ module _ (k i : ℕ) (x : Bounds) (s : State) where
   unfolding put_bounds
   bounds_same e f g = rw (get_or-set_same s.low i x.low nan f, get_or-set_same s.high i x.high nan g, ← e)
 
-module _ (m k d : ℕ) (w : List Float) (u : List ℕ) (coords : List Float) (it i : ℕ) (t : Slowest) where
-  pub leaf_anew : (s' : State) (own other : Float) (b : Bounds) (r : Bool) → total m k d ≤ length w → i < m
-      → own ≡ get_or (state_in m k d w u).drift (get_or (state_in m k d w u).labels i 0) nan → other ≡ other_than t (get_or u i 0)
-      → b ≡ bounds_at (state_in m k d w u) i → Spent k own other b
-      → LeafPlaced coords k d i (state_in m k d w u) s' r
-      → LeafPassed coords k d it i (shift_leaf k t i (state_in m k d w u)) s' (Some r)
+module _ (coords : List Float) (k d it i : ℕ) (t : Slowest) (s s' : State) where
+  pub leaf_anew : (own other : Float) (b : Bounds) (r : Bool) → i < length s.low → i < length s.high
+      → own ≡ get_or s.drift (get_or s.labels i 0) nan → other ≡ other_than t (get_or s.labels i 0) → b ≡ bounds_at s i
+      → Spent k own other b → LeafPlaced coords k d i s s' r → LeafPassed coords k d it i (shift_leaf k t i s) s' (Some r)
   unfolding put_bounds
-  leaf_anew s' own other b r g h eown eother eb spent l =
-      let s = state_in m k d w u in
+  leaf_anew own other b r hl hh eown eother eb spent l =
       let y = shift_of k t i s in
-      let ey : shifted_bounds (ltb 1 k) own other b ≡ y = rw (eb, eother, eown, get_labels m k d w u i 0 h) in
+      let ey : shifted_bounds (ltb 1 k) own other b ≡ y = rw (eb, eother, eown) in
       let stays : skips it (shifted_bounds (ltb 1 k) own other b) ≡ false = rw spent.several (spent.stays it) in
-      let hl : i < length s.low = rw (length_low m k d w u g) h in
-      let hh : i < length s.high = rw (length_high m k d w u g) h in
       let scaled : lt plus_zero (get_or s.scale i nan) ≡ true = ap (λ (o : Bounds). lt plus_zero o.scale) (sym eb) ∙ spent.scaled in
-      leaf_placed coords k d it i (shift_leaf k t i s) s' y false (sym (bounds_same k i y s refl hl hh))
-      (sym (ap (skips it) (sym ey) ∙ stays)) refl r
-      (record { change = l.change; state = l.state ∙ sym (best_anew k i y s (best_of coords k d s i) scaled) })
+      let h : skips it (bounds_at (put_bounds i y s) i) ≡ false =
+      ap (skips it) (bounds_same k i y s refl hl hh ∙ sym ey) ∙ stays in
+      record {
+        answer = rw h (ap Some l.change);
+        state = rw h (l.state ∙ sym (best_anew k i y s (best_of coords k d s i) scaled));
+      }

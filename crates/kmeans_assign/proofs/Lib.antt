@@ -1,5 +1,5 @@
 pub mod Cases
-pub mod Leaves
+pub mod Labels
 pub mod Passes
 pub mod Tallies
 pub mod Fused

@@ -7,7 +7,11 @@ use Rattle.kmeans_bounds.specs.declared.Bounds.{Bounds}
 use Rattle.kmeans_bounds.specs.Shifts.{skips}
 use Rattle.kmeans_bounds.specs.Products.{NeverSkipped}
 use Rattle.kmeans_layout.specs.State.{State}
-use Rattle.kmeans_assign.specs.Pass.{Pass, bounds_at, best_of, put_best, more_made, more_saved}
+use Rattle.kmeans_layout.specs.declared.Area.{Area}
+use Rattle.kmeans_layout.specs.Areas.{state_of}
+use Rattle.counts.specs.Counts.{AtMost, of_round}
+use Rattle.kmeans_bounds.specs.Shifts.{slowest_of}
+use Rattle.kmeans_assign.specs.Pass.{Pass, bounds_at, best_of, put_best, more_made, more_saved, pass_up_to, shift_up_to}
 use Rattle.kmeans_assign.specs.declared.Passed.{Passed}
 
 -- a leaf that no pass skips once its bounds are shifted, and whose new bounds come from its dots alone
@@ -35,3 +39,17 @@ tallied p (Some changed) k = record { changed = p.changed || changed; counts = m
 -- the pass of the definition that a state and an answer make
 abbrev pub passed : State → Passed → Pass
 passed s p = record { state = s; changed = p.changed; counts = p.counts }
+
+-- the pass of the definition is the area's after it, and its counts are small
+pub record PassDone (p : Pass) (a : Area) (answer : Passed) : Type 0 where
+  pub answer_is : passed (state_of a) answer ≡ p
+  pub small : AtMost of_round answer.counts
+
+-- over the bounds as they are, and over those shifted by the drifts
+abbrev pub passed_by : Area → ℕ → Pass
+passed_by a it = pass_up_to a.leaves.coords.now a.shape.k a.shape.d it (state_of a) a.shape.m
+
+abbrev pub fused_by : Area → ℕ → Pass
+fused_by a it =
+    let s = shift_up_to a.shape.k (slowest_of a.drift.now) (state_of a) a.shape.m in
+    pass_up_to a.leaves.coords.now a.shape.k a.shape.d it s a.shape.m

@@ -1,44 +1,40 @@
 // The assignment pass of a round of spherical k-means with its bounds, their shift and the skip (vmf.rs; document 01,
-// 'Spherical k-means'), in the work areas of a run: m leaves of d coordinates, k groups.
+// 'Spherical k-means'), in the work area of a run.
 #![tactic(auto)]
 
-ghost use Rattle.std.specs.Prelude.{◌≡◌, true, List, ℕ, ◌<◌, ◌≤◌, length, get_or};
+ghost use Rattle.std.specs.Prelude.{◌≡◌, true, not, ◌<◌, ◌≤◌, eqb, get_or};
 ghost use Rattle.counts.specs.Counts.{AtMost, of_round};
-ghost use Rattle.kmeans_bounds.specs.Shifts.{slowest_of, other_than};
-ghost use Rattle.kmeans_assign.specs.Pass.{bounds_at, put_bounds, shift_leaf, shift_up_to, bounds_by};
-ghost use Rattle.kmeans_assign.specs.Pass.{pass_up_to, pass_of};
-ghost use Rattle.kmeans_layout.specs.Areas.{state_in, Sized, LeafOf, Labelled, Area};
-ghost use Rattle.kmeans_assign.specs.Turns.{Spent, LeafPlaced, LeafPassed, tallied, passed};
+ghost use Rattle.kmeans_bounds.specs.Shifts.{other_than, slowest_of};
+ghost use Rattle.kmeans_layout.specs.Areas.{state_of, Same};
+ghost use Rattle.kmeans_assign.specs.Pass.{bounds_at, put_bounds, put_label, shift_leaf, bounds_by, best_of, pass_of};
+ghost use Rattle.kmeans_assign.specs.Turns.{Spent, LeafPlaced, LeafPassed, tallied, PassDone, passed_by, fused_by};
+
+use kmeans_bounds::Bounds;
+use kmeans_layout::Area;
 
 // ---- the bounds of a leaf
 
 // The bounds of leaf i.
-fn bounds_at(work: &[f64], i: usize, m: usize, k: usize, d: usize) -> kmeans_bounds::Bounds
-    requires area { Area (length work.now) m k d }
-    requires leaf_of { LeafOf i m d }
-    ensures { (u : List ℕ) → result ≡ bounds_at (state_in m k d work.now u) i }
+fn bounds_at(area: &Area, i: usize) -> Bounds
+    requires { i < area.now.shape.m }
+    ensures { result ≡ bounds_at (state_of area.now) i }
 {
-    let scale = kmeans_layout::scale_at(m, k, d);
-    let low = kmeans_layout::low_at(m, k, d);
-    let high = kmeans_layout::high_at(m, k, d);
-    kmeans_bounds::Bounds {
-        scale: work[scale + i],
-        low: work[low + i],
-        high: work[high + i],
+    Bounds {
+        scale: area.scale[i],
+        low: area.low[i],
+        high: area.high[i],
     }
 }
 
 // New bounds of leaf i.
-fn put_bounds(work: &mut [f64], i: usize, b: kmeans_bounds::Bounds, m: usize, k: usize, d: usize)
-    requires area { Area (length work.old) m k d }
-    requires leaf_of { LeafOf i m d }
-    ensures { (u : List ℕ) →
-        state_in m k d work.new u ≡ put_bounds i b (state_in m k d work.old u) }
+#[tactic(auto, unfolding(crate::specs::Pass::put_bounds))]
+fn put_bounds(area: &mut Area, i: usize, b: Bounds)
+    requires { i < area.old.shape.m }
+    ensures same { Same area.old area.new }
+    ensures state { state_of area.new ≡ put_bounds i b (state_of area.old) }
 {
-    let low = kmeans_layout::low_at(m, k, d);
-    let high = kmeans_layout::high_at(m, k, d);
-    work[low + i] = b.low;
-    work[high + i] = b.high;
+    area.low[i] = b.low;
+    area.high[i] = b.high;
 }
 
 // The smallest drift of the centres other than the leaf's own.
@@ -49,7 +45,7 @@ fn other_drift(t: kmeans_bounds::Slowest, label: usize) -> f64
 }
 
 // Whether the leaf is given new bounds from its dots however its own are shifted.
-fn is_spent(b: kmeans_bounds::Bounds, own: f64, other: f64, k: usize) -> bool
+fn is_spent(b: Bounds, own: f64, other: f64, k: usize) -> bool
     ensures { result ≡ true → Spent k own other b }
 {
     if k > 1 {
@@ -63,18 +59,18 @@ fn is_spent(b: kmeans_bounds::Bounds, own: f64, other: f64, k: usize) -> bool
 // ---- the pass
 
 // The bounds of a leaf from its best and its second best dot.
-fn bounds_by(b: kmeans_nearest::Best, o: kmeans_bounds::Bounds, k: usize) -> kmeans_bounds::Bounds
+fn bounds_by(b: kmeans_nearest::Best, o: Bounds, k: usize) -> Bounds
     ensures { result ≡ bounds_by k b o }
 {
     if o.scale > 0.0 {
         if k > 1 {
-            return kmeans_bounds::Bounds {
+            return Bounds {
                 scale: o.scale,
                 low: b.dot / o.scale,
                 high: b.second / o.scale,
             };
         }
-        return kmeans_bounds::Bounds {
+        return Bounds {
             scale: o.scale,
             low: b.dot / o.scale,
             high: -1.0 / 0.0,
@@ -83,93 +79,88 @@ fn bounds_by(b: kmeans_nearest::Best, o: kmeans_bounds::Bounds, k: usize) -> kme
     o
 }
 
-// Leaf i is given its best centre; whether its label changes.
-fn place_leaf(
-    work: &mut [f64],
-    work_u32: &mut [u32],
-    coords: &[f64],
-    i: usize,
-    m: usize,
-    k: usize,
-    d: usize,
-) -> bool
-    requires sized { Sized (length work.old) (length work_u32.old) (length coords.now) m k d }
-    requires leaf_of { LeafOf i m d }
-    ensures { LeafPlaced coords.now k d i
-        (state_in m k d work.old work_u32.old)
-        (state_in m k d work.new work_u32.new) result }
+// Leaf i is served so well, by centre c; whether its label changes.
+#[tactic(auto, using(crate::proofs::Labels::set_below), unfolding(crate::specs::Pass::put_label))]
+fn put_label(area: &mut Area, i: usize, v: f64, c: usize) -> bool
+    requires { (i < area.old.shape.m) × (c < area.old.shape.k) }
+    ensures same { Same area.old area.new }
+    ensures state { state_of area.new ≡ put_label i v c (state_of area.old) }
+    ensures change { result ≡ not (eqb (get_or area.old.labels.now i 0) c) }
 {
-    let kd = k * d;
+    let label = c as u32;
+    let changed = area.labels[i] != label;
+    area.served[i] = v;
+    area.labels[i] = label;
+    changed
+}
+
+// The best centre of leaf i, which is one of the k.
+#[tactic(auto, using(kmeans_nearest::proofs::Nearest::best_below))]
+fn best_of(area: &Area, i: usize) -> kmeans_nearest::Best
+    requires { i < area.now.shape.m }
+    ensures best { result ≡ best_of area.now.leaves.coords.now area.now.shape.k area.now.shape.d (state_of area.now) i }
+    ensures below { result.index < area.now.shape.k }
+{
+    let d = area.shape.d;
     let at = i * d;
-    let s = &work[..];
-    let b = kmeans_nearest::best_of(&coords[at..at + d], &s[..kd], k, d);
-    let o = bounds_at(s, i, m, k, d);
-    let served = kmeans_layout::served_at(m, k, d);
-    work[served + i] = b.dot;
-    put_bounds(work, i, bounds_by(b, o, k), m, k, d);
-    let label = b.index as u32;
-    let changed = work_u32[i] != label;
-    work_u32[i] = label;
+    kmeans_nearest::best_of(
+        &area.leaves.coords[at..at + d],
+        area.centers,
+        area.shape.k,
+        d,
+    )
+}
+
+// Leaf i is given its best centre; whether its label changes.
+fn place_leaf(area: &mut Area, i: usize) -> bool
+    requires { i < area.old.shape.m }
+    ensures same { Same area.old area.new }
+    ensures placed { LeafPlaced area.old.leaves.coords.now area.old.shape.k area.old.shape.d i (state_of area.old)
+        (state_of area.new) result }
+{
+    let b = best_of(area, i);
+    let n = bounds_by(b, bounds_at(area, i), area.shape.k);
+    let changed = put_label(area, i, b.dot, b.index);
+    put_bounds(area, i, n);
     changed
 }
 
 // Leaf i in a pass of round `it`: skipped (`None`), or given its best centre (whether its label changes).
-fn assign_leaf(
-    work: &mut [f64],
-    work_u32: &mut [u32],
-    coords: &[f64],
-    it: usize,
-    i: usize,
-    m: usize,
-    k: usize,
-    d: usize,
-) -> Option<bool>
-    requires sized { Sized (length work.old) (length work_u32.old) (length coords.now) m k d }
-    requires leaf_of { LeafOf i m d }
-    ensures { LeafPassed coords.now k d it i
-        (state_in m k d work.old work_u32.old)
-        (state_in m k d work.new work_u32.new) result }
+fn assign_leaf(area: &mut Area, it: usize, i: usize) -> Option<bool>
+    requires { i < area.old.shape.m }
+    ensures same { Same area.old area.new }
+    ensures passed { LeafPassed area.old.leaves.coords.now area.old.shape.k area.old.shape.d it i (state_of area.old)
+        (state_of area.new) result }
 {
-    let b = bounds_at(work, i, m, k, d);
+    let b = bounds_at(area, i);
     if kmeans_bounds::is_skipped(b, it) {
         return None;
     }
-    Some(place_leaf(work, work_u32, coords, i, m, k, d))
+    Some(place_leaf(area, i))
 }
 
 // Leaf i in a pass after the first round: its bounds are shifted by how far the centres turned, unless it gets new ones
 // anyway.
-fn turn_leaf(
-    work: &mut [f64],
-    work_u32: &mut [u32],
-    coords: &[f64],
-    t: kmeans_bounds::Slowest,
-    it: usize,
-    i: usize,
-    m: usize,
-    k: usize,
-    d: usize,
-) -> Option<bool>
-    requires sized { Sized (length work.old) (length work_u32.old) (length coords.now) m k d }
-    requires leaf_of { (LeafOf i m d) × (get_or work_u32.old i 0 < k) }
-    ensures { LeafPassed coords.now k d it i
-        (shift_leaf k t i (state_in m k d work.old work_u32.old))
-        (state_in m k d work.new work_u32.new) result }
+fn turn_leaf(area: &mut Area, t: kmeans_bounds::Slowest, it: usize, i: usize) -> Option<bool>
+    requires { i < area.old.shape.m }
+    ensures same { Same area.old area.new }
+    ensures passed { LeafPassed area.old.leaves.coords.now area.old.shape.k area.old.shape.d it i
+        (shift_leaf area.old.shape.k t i (state_of area.old)) (state_of area.new) result }
 {
-    let label = work_u32[i] as usize;
-    let drift = kmeans_layout::drift_at(m, k, d);
-    let own = work[drift + label];
+    let k = area.shape.k;
+    let label = area.labels[i] as usize;
+    let own = area.drift[label];
     let other = other_drift(t, label);
-    let b = bounds_at(work, i, m, k, d);
+    let b = bounds_at(area, i);
     if is_spent(b, own, other, k) {
-        return Some(place_leaf(work, work_u32, coords, i, m, k, d));
+        return Some(place_leaf(area, i));
     }
-    let s = kmeans_bounds::shifted(b, own, other, k > 1);
-    put_bounds(work, i, s, m, k, d);
-    assign_leaf(work, work_u32, coords, it, i, m, k, d)
+    put_bounds(area, i, kmeans_bounds::shifted(b, own, other, k > 1));
+    assign_leaf(area, it, i)
 }
 
-// What a pass answers: whether a label changed, and the products made and saved.
+// What a pass answers: whether a label changed, and the products made and saved. The counts are there whether a label
+// changed or not, so `changed` is no case.
 #[derive(Clone, Copy)]
 pub struct Passed {
     pub changed: bool,
@@ -202,80 +193,55 @@ fn tally(p: Passed, turn: Option<bool>, k: usize) -> Passed
 }
 
 // The pass of round `it` over the bounds as they are.
-fn assign(
-    work: &mut [f64],
-    work_u32: &mut [u32],
-    coords: &[f64],
-    it: usize,
-    m: usize,
-    k: usize,
-    d: usize,
-) -> Passed
-    requires { Sized (length work.old) (length work_u32.old) (length coords.now) m k d }
-    ensures result_after { passed (state_in m k d work.new work_u32.new) result
-        ≡ pass_up_to coords.now k d it (state_in m k d work.old work_u32.old) m }
-    ensures at_most { AtMost of_round result.counts }
+#[tactic(auto, using(crate::proofs::Passes::pass_turn), unfolding(crate::specs::Pass::pass_up_to))]
+fn assign(area: &mut Area, it: usize) -> Passed
+    ensures same { Same area.old area.new }
+    ensures done { PassDone (passed_by area.old it) area.new result }
 {
     let mut p = Passed {
         changed: false,
         counts: counts::none(),
     };
-    for i in 0..m {
-        let turn = assign_leaf(work, work_u32, coords, it, i, m, k, d);
-        p = tally(p, turn, k);
+    for i in 0..area.shape.m {
+        let turn = assign_leaf(area, it, i);
+        p = tally(p, turn, area.shape.k);
     }
     p
 }
 
-// The pass of round `it` after the first, with the shift of the bounds, leaf by leaf.
-fn shift_and_assign(
-    work: &mut [f64],
-    work_u32: &mut [u32],
-    coords: &[f64],
-    it: usize,
-    m: usize,
-    k: usize,
-    d: usize,
-) -> Passed
-    requires sized { Sized (length work.old) (length work_u32.old) (length coords.now) m k d }
-    requires labelled { Labelled m k (state_in m k d work.old work_u32.old) }
-    ensures result_after { passed (state_in m k d work.new work_u32.new) result
-        ≡ (let s = state_in m k d work.old work_u32.old in
-        pass_up_to coords.now k d it (shift_up_to k (slowest_of s.drift) s m) m) }
-    ensures at_most { AtMost of_round result.counts }
+// The two smallest drifts.
+fn slowest(area: &Area) -> kmeans_bounds::Slowest
+    ensures { result ≡ slowest_of area.now.drift.now }
 {
-    let drift = kmeans_layout::drift_at(m, k, d);
-    let s = &work[..];
-    let t = kmeans_bounds::two_smallest(&s[drift..drift + k]);
+    kmeans_bounds::two_smallest(area.drift)
+}
+
+// The pass of round `it` after the first, with the shift of the bounds, leaf by leaf.
+#[tactic(auto, unfolding(crate::specs::Pass::pass_up_to, crate::specs::Pass::shift_up_to))]
+fn shift_and_assign(area: &mut Area, it: usize) -> Passed
+    ensures same { Same area.old area.new }
+    ensures done { PassDone (fused_by area.old it) area.new result }
+{
+    let t = slowest(area);
     let mut p = Passed {
         changed: false,
         counts: counts::none(),
     };
-    for i in 0..m {
-        let turn = turn_leaf(work, work_u32, coords, t, it, i, m, k, d);
-        p = tally(p, turn, k);
+    for i in 0..area.shape.m {
+        let turn = turn_leaf(area, t, it, i);
+        p = tally(p, turn, area.shape.k);
     }
     p
 }
 
 // The pass, after the first round with the shift.
-pub fn pass(
-    work: &mut [f64],
-    work_u32: &mut [u32],
-    coords: &[f64],
-    it: usize,
-    m: usize,
-    k: usize,
-    d: usize,
-) -> Passed
-    requires sized { Sized (length work.old) (length work_u32.old) (length coords.now) m k d }
-    requires labelled { Labelled m k (state_in m k d work.old work_u32.old) }
-    ensures result_after { passed (state_in m k d work.new work_u32.new) result
-        ≡ pass_of coords.now m k d it (state_in m k d work.old work_u32.old) }
-    ensures at_most { AtMost of_round result.counts }
+pub fn pass(area: &mut Area, it: usize) -> Passed
+    ensures same { Same area.old area.new }
+    ensures done { PassDone (pass_of area.old.leaves.coords.now area.old.shape.m area.old.shape.k area.old.shape.d it
+        (state_of area.old)) area.new result }
 {
     if it > 0 {
-        return shift_and_assign(work, work_u32, coords, it, m, k, d);
+        return shift_and_assign(area, it);
     }
-    assign(work, work_u32, coords, it, m, k, d)
+    assign(area, it)
 }

@@ -21,7 +21,8 @@ fn sines(a: f64, p: f64) -> f64
     root::root(squares(a, p))
 }
 
-// A lower bound on a cosine after its centre turned by p.
+// A lower bound on a cosine after its centre turned by p. It and the upper one differ in the test, in the limit and in
+// a sign, so a function of both would be these two with a switch.
 fn shift_lower(l: f64, p: f64) -> f64
     ensures { result ≡ shift_lower l p }
 {

@@ -1,4 +1,4 @@
 pub mod State
+pub mod Sized
 pub mod Areas
 pub mod Kept
-pub mod Halves

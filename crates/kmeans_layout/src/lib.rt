@@ -1,113 +1,126 @@
-// The two lent work areas of a run of spherical k-means (document 01, 'Spherical k-means'): the f64 area holds centres,
-// sums, scale, low, high, served and drift, the u32 area labels and counts, side by side; specs/Areas.antt names the
-// places, and each is worked out here and nowhere else. Two runs stand in the two halves of the lent arrays, of which
-// one is held.
+// The work area of a run of spherical k-means (document 01, 'Spherical k-means'): its sizes and leaves, and the parts
+// of the lent arrays that it works in. Two runs stand in the two halves of the lent arrays, of which one is held.
 #![tactic(auto)]
 
-ghost use Rattle.std.specs.Prelude.{◌≡◌, ◌+◌, ◌≤◌, length, replicate};
-ghost use Rattle.rows.specs.Rows.{put_part};
-ghost use Rattle.counts.specs.Counts.{AtMost, of_call};
-ghost use Rattle.limits.specs.Sizes.{Sizes};
-ghost use Rattle.kmeans_layout.specs.Areas.{scale_at, low_at, high_at, served_at, drift_at};
-ghost use Rattle.kmeans_layout.specs.Halves.{half, held_at, free_at, held_after};
+ghost use Rattle.std.specs.Prelude.{◌≡◌, not, ◌≤◌, length};
+ghost use Rattle.counts.specs.Counts.{AtMost, of_call, plus_of};
+ghost use Rattle.kmeans_layout.specs.Sized.{Fit, Sized, Labelled, total, work_u32_total, half};
+ghost use Rattle.kmeans_layout.specs.Kept.{kept_of};
+ghost use Rattle.std.specs.Float.Ieee.{le};
 
-// n places from `at` on become x.
-pub fn fill_at(work: &mut [f64], at: usize, n: usize, x: f64)
-    requires { at + n ≤ length work.old }
-    ensures { work.new ≡ put_part work.old at n (replicate n x) }
-{
-    rows::fill(&mut work[at..at + n], x);
+use limits::{Leaves, Shape};
+
+// ---- the area
+
+// The sizes and the leaves of a run, and what it holds: centres and sums row by row; of each leaf its scale, its
+// bounds, how well it is served and its label; of each centre its drift and how many leaves it has.
+#[derive(Drop)]
+pub struct Area<'a> {
+    pub shape: Shape,
+    pub leaves: Leaves<'a>,
+    ghost fit: { Fit shape.m shape.d leaves.weights.now leaves.coords.now },
+    pub centers: &'a mut [f64],
+    pub sums: &'a mut [f64],
+    pub scale: &'a mut [f64],
+    pub low: &'a mut [f64],
+    pub high: &'a mut [f64],
+    pub served: &'a mut [f64],
+    pub drift: &'a mut [f64],
+    pub labels: &'a mut [u32],
+    pub counts: &'a mut [u32],
+    ghost sized: { Sized shape.m shape.k shape.d centers.now sums.now scale.now low.now high.now served.now drift.now
+        labels.now counts.now },
+    ghost labelled: { Labelled shape.m shape.k labels.now },
 }
 
-// ---- where the regions of the f64 area start; the centres stand first, then the sums
-
-pub fn scale_at(m: usize, k: usize, d: usize) -> usize
-    requires { Sizes m k d }
-    ensures { result ≡ scale_at m k d }
-{
-    let kd = k * d;
-    kd + kd
-}
-
-pub fn low_at(m: usize, k: usize, d: usize) -> usize
-    requires { Sizes m k d }
-    ensures { result ≡ low_at m k d }
-{
-    scale_at(m, k, d) + m
-}
-
-pub fn high_at(m: usize, k: usize, d: usize) -> usize
-    requires { Sizes m k d }
-    ensures { result ≡ high_at m k d }
-{
-    low_at(m, k, d) + m
-}
-
-pub fn served_at(m: usize, k: usize, d: usize) -> usize
-    requires { Sizes m k d }
-    ensures { result ≡ served_at m k d }
-{
-    high_at(m, k, d) + m
-}
-
-pub fn drift_at(m: usize, k: usize, d: usize) -> usize
-    requires { Sizes m k d }
-    ensures { result ≡ drift_at m k d }
-{
-    served_at(m, k, d) + m
+impl<'a> Area<'a> {
+    // An area in the two lent arrays; every label is 0.
+    pub fn of(
+        shape: Shape,
+        leaves: Leaves<'a>,
+        work: &'a mut [f64],
+        work_u32: &'a mut [u32],
+    ) -> Area<'a>
+        requires fit { Fit shape.m shape.d leaves.weights.now leaves.coords.now }
+        requires room { (total shape.m shape.k shape.d ≤ length work.old)
+            × (work_u32_total shape.m shape.k ≤ length work_u32.old) }
+        ensures { (result.shape ≡ shape) × (result.leaves ≡ leaves.entry) }
+    {
+        let kd = shape.k * shape.d;
+        let (centers, rest) = work.split_at_mut(kd);
+        let (sums, rest) = rest.split_at_mut(kd);
+        let (scale, rest) = rest.split_at_mut(shape.m);
+        let (low, rest) = rest.split_at_mut(shape.m);
+        let (high, rest) = rest.split_at_mut(shape.m);
+        let (served, rest) = rest.split_at_mut(shape.m);
+        let (drift, _) = rest.split_at_mut(shape.k);
+        let (labels, rest) = work_u32.split_at_mut(shape.m);
+        let (counts, _) = rest.split_at_mut(shape.k);
+        rows::fill(labels, 0);
+        Area {
+            shape,
+            leaves,
+            centers,
+            sums,
+            scale,
+            low,
+            high,
+            served,
+            drift,
+            labels,
+            counts,
+        }
+    }
 }
 
 // ---- the halves of the work arrays
 
+// How long an area is; in the u32 array it is m + k.
+pub fn total(shape: Shape) -> usize
+    ensures { result ≡ total shape.m shape.k shape.d }
+{
+    let kd = shape.k * shape.d;
+    kd + kd + 4 * shape.m + shape.k
+}
+
 // How long a half of the f64 array is; of the u32 array it is m + k.
-pub fn half(m: usize, k: usize, d: usize) -> usize
-    requires { Sizes m k d }
-    ensures { result ≡ half m k d }
+pub fn half(shape: Shape) -> usize
+    ensures { result ≡ half shape.m shape.k shape.d }
 {
-    let kd = k * d;
-    m * k + kd + kd + 4 * m + 8 * k
+    let kd = shape.k * shape.d;
+    shape.m * shape.k + kd + kd + 4 * shape.m + 8 * shape.k
 }
 
-// Where the free half starts, n being a half's length.
-pub fn free_at(second: bool, n: usize) -> usize
-    ensures { result ≡ free_at second n }
-{
-    if second { 0 } else { n }
-}
-
-// Where the held half starts.
-pub fn held_at(second: bool, n: usize) -> usize
-    ensures { result ≡ held_at second n }
-{
-    if second { n } else { 0 }
-}
-
-// What is held: the run in the first or the second half, its value, the greater the better, and the counts of all runs
-// so far.
+// What is held: the value of the held run, the greater the better, and the counts of all runs so far.
 #[derive(Clone, Copy)]
 pub struct Held {
-    pub second: bool,
     pub value: f64,
     pub counts: counts::Counts,
 }
 
-// After one run more, of this value and with these counts, which stands in the free half.
-pub fn keep(h: Held, value: f64, more: counts::Counts) -> Held
-    requires { (AtMost of_call h.counts) × (AtMost of_call more) }
-    ensures { result ≡ held_after h value more }
-{
-    let before = h.counts;
-    let counts = counts::plus(before, more);
-    if value <= h.value {
-        return Held {
-            second: h.second,
-            value: h.value,
-            counts,
-        };
+impl Held {
+    // Whether a run of this value replaces the held one.
+    pub fn gives_way(self, value: f64) -> bool
+        ensures { result ≡ not (le value self.value) }
+    {
+        !(value <= self.value)
     }
-    Held {
-        second: !h.second,
-        value,
-        counts,
+
+    // After one run more, of this value and with these counts.
+    pub fn after(self, value: f64, more: counts::Counts) -> Held
+        requires { (AtMost of_call self.counts) × (AtMost of_call more) }
+        ensures { result ≡ record {
+          value = kept_of self.value value self.value value;
+          counts = plus_of self.counts more;
+        } }
+    {
+        let counts = counts::plus(self.counts, more);
+        if self.gives_way(value) {
+            return Held { value, counts };
+        }
+        Held {
+            value: self.value,
+            counts,
+        }
     }
 }

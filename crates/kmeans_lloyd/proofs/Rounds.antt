@@ -1,9 +1,9 @@
--- The rounds over plain lists: a round that is made is one round of the definition's run, and labels stay below k. By the way each test
--- went, and by recursion on the rounds. Assumes nothing.
+-- The rounds over plain lists: a round that is made is one round of the definition's run. By the way each test went, and by recursion on
+-- the rounds. Assumes nothing.
 use mathlib.Core.Path.{◌≡◌, refl, ap, ◌∙◌}
 use mathlib.Core.List.{List}
 use mathlib.Core.Bool.{Bool, cond, true, false}
-use Prim.Native.Nat.{ℕ, zero, suc, ◌+◌, ◌*◌, ◌≤◌, ◌<◌}
+use Prim.Native.Nat.{ℕ, suc, ◌+◌, ◌*◌, ◌≤◌}
 use native.Mathlib.Omega.{arith}
 use lib.Ieee.{Float}
 use Rattle.counts.specs.declared.Counts.{Counts}
@@ -12,13 +12,9 @@ use Rattle.counts.proofs.Sums.{at_most_more, at_most_plus}
 use Rattle.kmeans_layout.specs.State.{State}
 use Rattle.kmeans_assign.specs.Pass.{pass_of}
 use Rattle.kmeans_update.specs.Update.{update_of}
-use Rattle.kmeans_lloyd.specs.Lloyd.{Run, ends_at, after_pass, after_update, rounds_from}
-use Rattle.kmeans_layout.specs.Areas.{Labelled}
+use Rattle.kmeans_lloyd.specs.Lloyd.{Run, ends_at, rounds_from}
 use Rattle.kmeans_lloyd.specs.Runs.{RoundDone, RunSoFar}
 use Rattle.std.specs.declared.ops.ControlFlow.TheVariants.{Continue, Break}
-use Rattle.kmeans_assign.proofs.Cases.{either}
-use Rattle.kmeans_assign.proofs.Passes.{labelled_of_pass}
-use Rattle.kmeans_update.proofs.Whole.{labelled_of_update}
 
 -- a run with one round more, n doubled by then
 abbrev counted : Run → State → Counts → ℕ → Run
@@ -55,28 +51,10 @@ module _ (weights coords : List Float) (m k d : ℕ) where
         let e = ending (ends_at it p) q p.counts done.answer in
         rw (more, e.0, e.1, rw e.0 at done.state)
 
-  pub labelled_of_round : (it : ℕ) (s s' : State) (q : Counts) → RoundDone weights coords m k d it s s' (Continue q) → 0 < k
-      → Labelled m k s → Labelled m k s'
-  labelled_of_round it s s' q done h l =
-      let p = pass_of coords m k d it s in
-      let e = going (ends_at it p) q p.counts done.answer in
-      rw (rw e.0 at done.state) (labelled_of_update m k p.state weights coords d (labelled_of_pass m k s coords d it h l))
-
   -- no round is left
   run_end : (n it : ℕ) (r run : Run) → n ≡ 0 → rounds_from weights coords m k d n it r ≡ run → r ≡ run
   unfolding rounds_from
   run_end n it r run e f = rw e at f
-
-  pub labelled_after_rounds : 0 < k → (n it : ℕ) (r : Run) → Labelled m k r.state
-      → Labelled m k (rounds_from weights coords m k d n it r).state
-  unfolding rounds_from
-  labelled_after_rounds h zero it r l = l
-  labelled_after_rounds h (suc n) it r l =
-      let p = pass_of coords m k d it r.state in
-      let f : Labelled m k p.state = labelled_of_pass m k r.state coords d it h l in
-      let next = after_update (after_pass r p) (update_of weights coords m k d p.state) in
-      either (λ (x : Run). Labelled m k x.state) (ends_at it p) (after_pass r p) (rounds_from weights coords m k d n (it + 1) next) f
-      (labelled_after_rounds h n (it + 1) next (labelled_of_update m k p.state weights coords d f))
 
 -- the definition's run where the code's state and counts are those after `it` rounds; the code does not count what it doubled
 abbrev running : ℕ → State → Counts → ℕ → Run

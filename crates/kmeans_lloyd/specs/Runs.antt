@@ -1,6 +1,6 @@
--- What the functions of the start, of a round and of a whole run ask and promise. No definition of document 01 stands
+-- What the functions of the start, of a round and of a whole run promise. No definition of document 01 stands
 -- on this file.
-use Rattle.std.specs.Prelude.{◌≡◌, List, cond, ℕ, ◌+◌, ◌≤◌, Float}
+use Rattle.std.specs.Prelude.{◌≡◌, List, cond, ℕ, ◌+◌, Float}
 use Rattle.std.specs.declared.ops.ControlFlow.{ControlFlow}
 use Rattle.std.specs.declared.ops.ControlFlow.TheVariants.{Continue, Break}
 use Rattle.counts.specs.declared.Counts.{Counts}
@@ -8,14 +8,15 @@ use Rattle.counts.specs.Counts.{AtMost, of_round, of_runs}
 use Rattle.rows.specs.Rows.{row_of}
 use Rattle.rows.specs.Tabulate.{tabulate}
 use Rattle.vector.specs.Vectors.{dot_of, norm_of}
-use Rattle.kmeans_lloyd.specs.Results.{Result}
+use Rattle.kmeans_lloyd.specs.Results.{Result, result_of}
 use Rattle.kmeans_layout.specs.State.{State}
 use Rattle.kmeans_update.specs.Update.{update_of}
 use Rattle.kmeans_assign.specs.Pass.{Pass, pass_of}
-use Rattle.kmeans_lloyd.specs.Lloyd.{Run, ends_at}
+use Rattle.kmeans_lloyd.specs.Lloyd.{Run, ends_at, fresh_run, rounds_from}
 use Rattle.kmeans_sums.specs.Sums.{sums_up_to}
 use Rattle.kmeans_lloyd.specs.declared.RunEnd.{RunEnd}
-use Rattle.kmeans_layout.specs.Areas.{state_in, sums_in, Sized, Labelled}
+use Rattle.kmeans_layout.specs.Areas.{state_of}
+use Rattle.kmeans_layout.specs.declared.Area.{Area}
 
 -- the dots with themselves, and the norms, of n leaves from leaf i on
 abbrev pub own_dots : (coords : List Float) (d i n : ℕ) → List Float
@@ -35,6 +36,11 @@ module _ (weights coords : List Float) (m k d it : ℕ) where
 
   abbrev pub RoundDone : (s s' : State) → ControlFlow Counts Counts → Type 0
   RoundDone s s' r = RoundBy (pass_of coords m k d it s) s' r
+
+-- the rounds of the definition from the state of an area
+abbrev pub rounds_in : Area → (rounds : ℕ) → Run
+rounds_in a rounds =
+    rounds_from a.leaves.weights.now a.leaves.coords.now a.shape.m a.shape.k a.shape.d rounds 0 (fresh_run (state_of a))
 
 -- the code's state and counts are those of a run of the definition so far
 pub record RunSoFar (run : Run) (s : State) (c : Counts) : Type 0 where
@@ -56,10 +62,11 @@ put_scale v s =
     }
 
 -- ---- a whole run
-pub record Runnable (work workU32 weights coords m k d rounds : ℕ) : Type 0 where
-  pub sized : Sized work workU32 coords m k d
-  pub weights_long : weights ≡ m
-  pub rounds_small : rounds ≤ 10000
+
+-- the run of the definition in an area
+abbrev pub result_in : Area → (rounds generator : ℕ) → Result
+result_in a rounds generator =
+    result_of a.leaves.weights.now a.leaves.coords.now a.shape.m a.shape.k a.shape.d rounds generator
 
 pub record RunDone (result : Result) (s : State) (r : RunEnd) : Type 0 where
   pub labels : s.labels ≡ result.labels
@@ -69,7 +76,7 @@ pub record RunDone (result : Result) (s : State) (r : RunEnd) : Type 0 where
   pub generator : r.generator ≡ result.generator
   pub small : AtMost (of_runs 1) r.counts
 
--- what a run leaves beside its result: labels below k, and the sums of the groups that they make
-pub record RunLeft (weights coords : List Float) (m k d : ℕ) (w : List Float) (u : List ℕ) : Type 0 where
-  pub labelled : Labelled m k (state_in m k d w u)
-  pub sums : sums_in k d w ≡ sums_up_to weights coords (state_in m k d w u).labels k d m
+-- what a run leaves beside its result: the sums of the groups that the labels make
+abbrev pub RunLeft : Area → Type 0
+RunLeft a =
+    a.sums.now ≡ sums_up_to a.leaves.weights.now a.leaves.coords.now a.labels.now a.shape.k a.shape.d a.shape.m

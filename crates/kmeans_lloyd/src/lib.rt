@@ -1,64 +1,44 @@
-// One run of spherical k-means in two lent work areas (vmf.rs; document 01, 'Spherical k-means'): seeding, rounds of
-// pass and update, and cohesion. m leaves of d coordinates, k groups.
+// One run of spherical k-means in its work area (vmf.rs; document 01, 'Spherical k-means'): seeding, rounds of pass and
+// update, and cohesion.
 #![tactic(auto)]
 
-ghost use Rattle.std.specs.Prelude.{◌≡◌, List, ℕ, ◌+◌, ◌*◌, ◌≤◌, length};
+ghost use Rattle.std.specs.Prelude.{◌≡◌, ◌+◌, ◌*◌, ◌≤◌, length};
+ghost use Rattle.limits.specs.Limits.{most_rounds};
 ghost use Rattle.kmeans_sums.specs.Sums.{norms_up_to};
-ghost use Rattle.kmeans_lloyd.specs.Lloyd.{started_from, fresh_run, rounds_from};
-ghost use Rattle.kmeans_lloyd.specs.Results.{result_of};
-ghost use Rattle.kmeans_layout.specs.Areas.{state_in, Sized, Labelled, Area};
-ghost use Rattle.kmeans_lloyd.specs.Runs.{RoundDone, RunSoFar, put_scale, own_dots, norms_from, Runnable, RunDone, RunLeft};
+ghost use Rattle.kmeans_layout.specs.Areas.{state_of, Same};
+ghost use Rattle.kmeans_lloyd.specs.Lloyd.{started_from};
+ghost use Rattle.kmeans_lloyd.specs.Runs.{RoundDone, RunSoFar, put_scale, own_dots, norms_from, rounds_in, result_in};
+ghost use Rattle.kmeans_lloyd.specs.Runs.{RunDone, RunLeft};
 
+use kmeans_layout::Area;
 use std::ops::ControlFlow;
 
 // ---- rounds
 
 // Round `it`: the pass, and unless it ends the run the update; its counts, as a break where it was the last.
-fn one_round(
-    work: &mut [f64],
-    work_u32: &mut [u32],
-    weights: &[f64],
-    coords: &[f64],
-    it: usize,
-    m: usize,
-    k: usize,
-    d: usize,
-) -> ControlFlow<counts::Counts, counts::Counts>
-    requires sized { Sized (length work.old) (length work_u32.old) (length coords.now) m k d }
-    requires weights_len { (length weights.now ≡ m) × Labelled m k (state_in m k d work.old work_u32.old) }
-    ensures { RoundDone weights.now coords.now m k d it
-        (state_in m k d work.old work_u32.old)
-        (state_in m k d work.new work_u32.new) result }
+fn one_round(area: &mut Area, it: usize) -> ControlFlow<counts::Counts, counts::Counts>
+    ensures same { Same area.old area.new }
+    ensures done { let z = area.old.shape in
+        let l = area.old.leaves in
+        RoundDone l.weights.now l.coords.now z.m z.k z.d it (state_of area.old) (state_of area.new) result }
 {
-    let p = kmeans_assign::pass(work, work_u32, coords, it, m, k, d);
+    let p = kmeans_assign::pass(area, it);
     if !p.changed & (it > 0) {
         return ControlFlow::Break(p.counts);
     }
-    kmeans_update::update(work, work_u32, weights, coords, m, k, d);
+    kmeans_update::update(area);
     ControlFlow::Continue(p.counts)
 }
 
 // Rounds until no label changes after the first, at most `rounds`.
-fn lloyd(
-    work: &mut [f64],
-    work_u32: &mut [u32],
-    weights: &[f64],
-    coords: &[f64],
-    m: usize,
-    k: usize,
-    d: usize,
-    rounds: usize,
-) -> counts::Counts
-    requires sized { Sized (length work.old) (length work_u32.old) (length coords.now) m k d }
-    requires weights_len { (length weights.now ≡ m) × (rounds ≤ 10000)
-        × Labelled m k (state_in m k d work.old work_u32.old) }
-    ensures { RunSoFar (rounds_from weights.now coords.now m k d rounds 0
-        (fresh_run (state_in m k d work.old work_u32.old)))
-        (state_in m k d work.new work_u32.new) result }
+fn lloyd(area: &mut Area, rounds: usize) -> counts::Counts
+    requires { rounds ≤ most_rounds }
+    ensures same { Same area.old area.new }
+    ensures done { RunSoFar (rounds_in area.old rounds) (state_of area.new) result }
 {
     let mut c = counts::none();
     for it in 0..rounds {
-        match one_round(work, work_u32, weights, coords, it, m, k, d) {
+        match one_round(area, it) {
             ControlFlow::Continue(n) => c = counts::plus(c, n),
             ControlFlow::Break(n) => return counts::plus(c, n),
         }
@@ -92,39 +72,40 @@ fn four_norms(coords: &[f64], i: usize, d: usize) -> [f64; 4]
 }
 
 // The norm of each leaf becomes its scale: by fours, then singly.
-fn leaf_norms(work: &mut [f64], coords: &[f64], m: usize, k: usize, d: usize)
-    requires { (Area (length work.old) m k d) × (length coords.now ≡ m * d) × (m * d ≤ 1048576) }
-    ensures { (u : List ℕ) → state_in m k d work.new u
-        ≡ put_scale (norms_up_to coords.now d m) (state_in m k d work.old u) }
+fn leaf_norms(area: &mut Area)
+    ensures same { Same area.old area.new }
+    ensures state { let z = area.old.shape in
+        let l = area.old.leaves in
+        state_of area.new
+        ≡ put_scale (norms_up_to l.coords.now z.d z.m) (state_of area.old) }
 {
-    let scale = kmeans_layout::scale_at(m, k, d);
+    let m = area.shape.m;
+    let d = area.shape.d;
+    let coords = area.leaves.coords;
     for b in 0..m / 4 {
-        let to = scale + 4 * b;
-        work[to..to + 4].copy_from_slice(&four_norms(coords, 4 * b, d));
+        let to = 4 * b;
+        area.scale[to..to + 4].copy_from_slice(&four_norms(coords, to, d));
     }
     for i in m - m % 4..m {
         let at = i * d;
-        work[scale + i] = vector::norm(&coords[at..at + d]);
+        area.scale[i] = vector::norm(&coords[at..at + d]);
     }
 }
 
 // Everything but the centres as before the first round.
-fn start(work: &mut [f64], work_u32: &mut [u32], coords: &[f64], m: usize, k: usize, d: usize)
-    requires { Sized (length work.old) (length work_u32.old) (length coords.now) m k d }
-    ensures { state_in m k d work.new work_u32.new
-        ≡ started_from coords.now m k d
-        (state_in m k d work.old work_u32.old).centers }
+fn start(area: &mut Area)
+    ensures same { Same area.old area.new }
+    ensures state { let z = area.old.shape in
+        let l = area.old.leaves in
+        state_of area.new ≡ started_from l.coords.now z.m z.k
+        z.d area.old.centers.now }
 {
-    let low = kmeans_layout::low_at(m, k, d);
-    let high = kmeans_layout::high_at(m, k, d);
-    let served = kmeans_layout::served_at(m, k, d);
-    let drift = kmeans_layout::drift_at(m, k, d);
-    leaf_norms(work, coords, m, k, d);
-    kmeans_layout::fill_at(work, low, m, -1.0 / 0.0);
-    kmeans_layout::fill_at(work, high, m, 1.0 / 0.0);
-    kmeans_layout::fill_at(work, served, m, -1.0 / 0.0);
-    kmeans_layout::fill_at(work, drift, k, 1.0);
-    rows::fill(&mut work_u32[..m], 0);
+    rows::fill(area.low, -1.0 / 0.0);
+    rows::fill(area.high, 1.0 / 0.0);
+    rows::fill(area.served, -1.0 / 0.0);
+    rows::fill(area.drift, 1.0);
+    rows::fill(area.labels, 0);
+    leaf_norms(area);
 }
 
 // ---- a whole run
@@ -138,29 +119,17 @@ pub struct RunEnd {
 }
 
 // One run of spherical k-means: seeding, rounds and cohesion. Labels, centres and the sums of the groups stay in the
-// areas.
-pub fn run(
-    work: &mut [f64],
-    work_u32: &mut [u32],
-    weights: &[f64],
-    coords: &[f64],
-    generator: u64,
-    m: usize,
-    k: usize,
-    d: usize,
-    rounds: usize,
-) -> RunEnd
-    requires { Runnable (length work.old) (length work_u32.old) (length weights.now) (length coords.now)
-        m k d rounds }
-    ensures run_done { RunDone (result_of weights.now coords.now m k d rounds generator)
-        (state_in m k d work.new work_u32.new) result }
-    ensures run_left { RunLeft weights.now coords.now m k d
-        work.new work_u32.new }
+// area.
+pub fn run(area: &mut Area, generator: u64, rounds: usize) -> RunEnd
+    requires { rounds ≤ most_rounds }
+    ensures same { Same area.old area.new }
+    ensures run_done { RunDone (result_in area.old rounds generator) (state_of area.new) result }
+    ensures run_left { RunLeft area.new }
 {
-    let next = kmeans_seeding::seed(work, weights, coords, generator, m, k, d);
-    start(work, work_u32, coords, m, k, d);
-    let c = lloyd(work, work_u32, weights, coords, m, k, d, rounds);
-    let cohesion = kmeans_sums::cohesion_of(work, work_u32, weights, coords, m, k, d);
+    let next = kmeans_seeding::seed(area, generator);
+    start(area);
+    let c = lloyd(area, rounds);
+    let cohesion = kmeans_sums::cohesion_of(area);
     RunEnd {
         cohesion,
         counts: c,

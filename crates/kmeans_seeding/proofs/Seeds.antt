@@ -1,5 +1,5 @@
--- Laws of the seeds, over plain lists: a region written place by place holds what is done before what it held, and each definition of
--- specs/Seeding.antt grows by one place or one centre a turn. Assumes nothing.
+-- Laws of the seeds: an array written place by place holds what is done before what it held, and each definition of specs/Seeding.antt
+-- grows by one place or one centre a turn. First over plain lists, then over areas. Assumes nothing.
 use mathlib.Core.Path.{◌≡◌, refl, ap, sym, subst, ◌∙◌}
 use mathlib.Core.List.{List, [], ◌∷◌, ◌++◌, append_assoc, append-nil}
 use mathlib.Core.Bool.{Bool, true, false, cond}
@@ -7,7 +7,7 @@ use Prim.Native.Nat.{ℕ, zero, suc, ◌+◌, ◌*◌, ◌-◌, ◌≤◌, ◌<�
 use native.Mathlib.Nat.{suc-mul, zero-mul, add-zero}
 use native.Mathlib.Numerals.{add-one}
 use native.Mathlib.Omega.{arith}
-use lib.ListN.{length, get_or, take, drop, set, replicate, length-append, length-replicate}
+use lib.ListN.{length, get_or, take, drop, set, replicate, length-append}
 use lib.Seq.{take-suc, take_all, take_at, length-take-le}
 use lib.IntN.{ℤ}
 use lib.Ieee.{Float, nan, inf, fin, is_nan, binary64, sub, mul, lt}
@@ -24,49 +24,27 @@ use Rattle.vector.proofs.Vectors.{dot_comm, unit_length}
 use Rattle.pick.proofs.Places.{pick_below}
 use Rattle.kmeans_nearest.specs.Blocks.{row_dots}
 use Rattle.kmeans_layout.specs.State.{State}
-use Rattle.kmeans_seeding.specs.Seeding.{cosine_distance, cosine_distances_up_to, lowered, chances, seed_row, seeds_up_to, seeds_of}
-use Rattle.kmeans_layout.specs.Areas.{Area, state_in, total, low_at, high_at}
+use Rattle.kmeans_layout.specs.Areas.{state_of, Same}
+use Rattle.kmeans_layout.specs.declared.Area.{Area}
+use Rattle.kmeans_seeding.specs.Seeding.{cosine_distance, cosine_distances_up_to, lowered, chances, seed_row, Seeds, seeds_up_to, seeds_of}
 use Rattle.kmeans_seeding.specs.Distances.{put_low, put_high, put_center, cosine_distances, lower_at, lower_from}
-use Rattle.kmeans_seeding.specs.Distances.{first_distances, lowered_by, chanced, Seeding, SeededNext, next_pick}
-use Rattle.kmeans_layout.proofs.Regions.{with_low, with_high, put_low_all, high_are, length_centers, set_low, set_high, get_low}
-use Rattle.kmeans_layout.proofs.Regions.{row_centers, put_row_centers, length_low, length_high}
-
--- a seeding asks what is asked of the area alone, which goes by its length
-pub seeding_area : (work work' weights coords m k d : ℕ) → work' ≡ work → Seeding work weights coords m k d → Area work' m k d
-seeding_area work work' weights coords m k d e s =
-    rw e (record { sizes = s.sizes; work_long = s.work_long })
-
--- a region of the state, of which the first i places are done: one place more
-module _ (m k d : ℕ) (w : List Float) (u : List ℕ) (s : State) (p : List Float) (i : ℕ) (v : Float) (h : i < m) (e : length p ≡ i) where
-  low_turn : length s.low ≡ m → state_in m k d w u ≡ put_low (p ++ drop i s.low) s
-      → state_in m k d (set w (low_at m k d + i) v) u ≡ put_low ((p ++ (v ∷ [])) ++ drop (i + 1) s.low) s
-  unfolding put_low
-  low_turn g f =
-      set_low m k d w u i v h ∙ ap (λ (t : State). with_low (set t.low i v) t) f
-      ∙ ap (λ (x : List Float). put_low x s) (front_turn nan p s.low i e v (omega arith))
-
-  high_turn : length s.high ≡ m → state_in m k d w u ≡ put_high (p ++ drop i s.high) s
-      → state_in m k d (set w (high_at m k d + i) v) u ≡ put_high ((p ++ (v ∷ [])) ++ drop (i + 1) s.high) s
-  unfolding put_high
-  high_turn g f =
-      set_high m k d w u i v h ∙ ap (λ (t : State). with_high (set t.high i v) t) f
-      ∙ ap (λ (x : List Float). put_high x s) (front_turn nan p s.high i e v (omega arith))
+use Rattle.kmeans_seeding.specs.Distances.{first_distances, lowered_by, chanced, SeededNext, next_pick}
 
 -- ---- the distances
 
--- how far n leaves are from a centre, the centre's row being the first of each dot
-module _ (m k d : ℕ) (w coords : List Float) (u : List ℕ) (c i n : ℕ) (h : c < k) where
-  pub distances_done : (f : List Float) → f ≡ row_dots (take (c * d + d - c * d) (drop (c * d) w)) coords d i n
-      → tabulate (λ (e : ℕ). max_of (sub binary64 (number 1) (get_or f e nan)) plus_zero) n
-      ≡ cosine_distances coords d (row_of (state_in m k d w u).centers d c) i n
-  distances_done f is =
-      let row = row_of (state_in m k d w u).centers d c in
-      let g : take (c * d + d - c * d) (drop (c * d) w) ≡ row = row_cut w d c ∙ row_centers m k d w u c h in
-      let dots : f ≡ row_dots row coords d i n = rw g at is in
-      tabulate_same (λ (e : ℕ). max_of (sub binary64 (number 1) (get_or f e nan)) plus_zero) _ n
-      (λ e l. let at : get_or f e nan ≡ dot_of row (row_of coords d (i + e)) =
-      rw dots (tabulate_at (λ (j : ℕ). dot_of row (row_of coords d (i + j))) n e nan l) in
-      rw (at, dot_comm minus_zero row (row_of coords d (i + e))))
+-- how far n leaves are from centre c, the centre's row being the first of each dot
+pub distances_done : (centers coords : List Float) (d c i n : ℕ) (f : List Float)
+    → f ≡ row_dots (take (c * d + d - c * d) (drop (c * d) centers)) coords d i n
+    → tabulate (λ (e : ℕ). max_of (sub binary64 (number 1) (get_or f e nan)) plus_zero) n
+    ≡ cosine_distances coords d (row_of centers d c) i n
+distances_done centers coords d c i n f is =
+    let row = row_of centers d c in
+    let g = row_cut centers d c in
+    let dots : f ≡ row_dots row coords d i n = rw g at is in
+    tabulate_same (λ (e : ℕ). max_of (sub binary64 (number 1) (get_or f e nan)) plus_zero) _ n
+    (λ e l. let at : get_or f e nan ≡ dot_of row (row_of coords d (i + e)) =
+    rw dots (tabulate_at (λ (j : ℕ). dot_of row (row_of coords d (i + j))) n e nan l) in
+    rw (at, dot_comm minus_zero row (row_of coords d (i + e))))
 
 -- one new distance more
 lower_more : (w : List Float) (at : ℕ) (vs : List Float) (v : Float)
@@ -84,77 +62,96 @@ lower_turn w w' f at e h is =
     rw (add-one, take-suc f e nan h, lower_more, l, is)
 
 -- the distances lowered where a further centre is nearer
-lowered_length : (coords : List Float) (d : ℕ) (row : List Float) (j : ℕ) (xs : List Float) → length (lowered coords d row j xs) ≡ length xs
-unfolding lowered
-lowered_length coords d row j [] = refl
-lowered_length coords d row j (x ∷ xs) = ap suc (lowered_length coords d row (suc j) xs)
+module _ (coords : List Float) (d : ℕ) (row : List Float) where
+  lowered_length : (j : ℕ) (xs : List Float) → length (lowered coords d row j xs) ≡ length xs
+  unfolding lowered
+  lowered_length j [] = refl
+  lowered_length j (x ∷ xs) = ap suc (lowered_length (suc j) xs)
 
-lowered_at : (coords : List Float) (d : ℕ) (row : List Float) (xs : List Float) (j i n : ℕ) → n ≡ j + i → i < length xs
-    → let v = cosine_distance (row_of coords d n) row in
-    let x = get_or xs i nan in
-    get_or (lowered coords d row j xs) i nan ≡ cond (lt v x) v x
-unfolding lowered
-lowered_at coords d row [] j i n e h = absurd (omega arith)
-lowered_at coords d row (x ∷ xs) j zero n e h = let f : n ≡ j = omega arith in rw f
-lowered_at coords d row (x ∷ xs) j (suc i) n e h = lowered_at coords d row xs (suc j) i n (omega arith) (omega arith)
+  lowered_at : (xs : List Float) (j i n : ℕ) → n ≡ j + i → i < length xs → let v = cosine_distance (row_of coords d n) row in
+      let x = get_or xs i nan in
+      get_or (lowered coords d row j xs) i nan ≡ cond (lt v x) v x
+  unfolding lowered
+  lowered_at [] j i n e h = absurd (omega arith)
+  lowered_at (x ∷ xs) j zero n e h = let f : n ≡ j = omega arith in rw f
+  lowered_at (x ∷ xs) j (suc i) n e h = lowered_at xs (suc j) i n (omega arith) (omega arith)
 
-abbrev pub lowering : List Float → (d c i : ℕ) → State → State
-lowering coords d c i s = put_low (take i (lowered coords d (row_of s.centers d c) 0 s.low) ++ drop i s.low) s
+  -- of which the first i are lowered
+  abbrev lowering : ℕ → List Float → List Float
+  lowering i xs = take i (lowered coords d row 0 xs) ++ drop i xs
 
-pub lowering_start : (coords : List Float) (d c : ℕ) (s : State) → s ≡ lowering coords d c 0 s
-unfolding put_low
-lowering_start coords d c s = refl
-
-module _ (m k d : ℕ) (coords : List Float) (u : List ℕ) (c : ℕ) (s : State) (ls : length s.low ≡ m) where
-  lowering_next : (w : List Float) (i at : ℕ) (v : Float) → i < m → at ≡ low_at m k d + i
-      → v ≡ cosine_distance (row_of coords d i) (row_of s.centers d c)
-      → state_in m k d w u ≡ lowering coords d c i s → state_in m k d (lower_at w at v) u ≡ lowering coords d c (i + 1) s
-  unfolding put_low lower_at
-  lowering_next w i at v h ea g f =
-      let row = row_of s.centers d c in
-      let new = lowered coords d row 0 s.low in
-      let held = get_or w (low_at m k d + i) nan in
+  lowering_next : (xs w : List Float) (i : ℕ) → i < length xs → w ≡ lowering i xs
+      → lower_at w i (cosine_distance (row_of coords d i) row) ≡ lowering (i + 1) xs
+  unfolding lower_at
+  lowering_next xs w i h g =
+      let new = lowered coords d row 0 xs in
+      let v = cosine_distance (row_of coords d i) row in
+      let held = get_or w i nan in
       let x = cond (lt v held) v held in
-      let ln : length new ≡ m = lowered_length coords d row 0 s.low ∙ ls in
+      let ln = lowered_length 0 xs in
       let lp : length (take i new) ≡ i = length-take-le i new (omega arith) in
-      let y : held ≡ get_or s.low i nan =
-      get_low m k d w u i nan h ∙ ap (λ (t : State). get_or t.low i nan) f ∙ front_next nan (take i new) s.low i lp (omega arith) in
-      let is : x ≡ get_or new i nan = rw (y, g) (sym (lowered_at coords d row s.low 0 i i (omega arith) (omega arith))) in
+      let y : held ≡ get_or xs i nan = rw g (front_next nan (take i new) xs i lp h) in
+      let is : x ≡ get_or new i nan = rw y (sym (lowered_at xs 0 i i (omega arith) h)) in
       let more : take i new ++ (x ∷ []) ≡ take (i + 1) new = rw (add-one, is) (sym (take-suc new i nan (omega arith))) in
-      rw ea (low_turn m k d w u s (take i new) i x h lp ls f) ∙ ap (λ (r : List Float). put_low (r ++ drop (i + 1) s.low) s) more
+      ap (λ (r : List Float). set r i x) g ∙ front_turn nan (take i new) xs i lp x h ∙ ap (λ (r : List Float). r ++ drop (i + 1) xs) more
 
-  -- n leaves, whose distances are taken from the area as it is
-  lowering_on : (w : List Float) (low i n : ℕ) → low ≡ low_at m k d → i + n ≤ m → state_in m k d w u ≡ lowering coords d c i s
-      → state_in m k d (lower_from w (low + i) (cosine_distances coords d (row_of s.centers d c) i n)) u ≡ lowering coords d c (i + n) s
+  -- n leaves more
+  lowering_more : (xs w : List Float) (i n : ℕ) → i + n ≤ length xs → w ≡ lowering i xs
+      → lower_from w i (cosine_distances coords d row i n) ≡ lowering (i + n) xs
   unfolding tabulate
-  lowering_on w low i zero el h g = let e : i + 0 ≡ i = omega arith in rw e g
-  lowering_on w low i (suc n) el h g =
-      let row = row_of s.centers d c in
+  lowering_more xs w i zero h g = let e : i + 0 ≡ i = omega arith in rw e g
+  lowering_more xs w i (suc n) h g =
       let vs = cosine_distances coords d row i n in
       let v = cosine_distance (row_of coords d (i + n)) row in
-      let w' = lower_from w (low + i) vs in
       let l : length vs ≡ n = tabulate_length (λ (e : ℕ). cosine_distance (row_of coords d (i + e)) row) n in
       let e : i + n + 1 ≡ i + suc n = omega arith in
-      let next =
-      lowering_next w' (i + n) (low + i + n) v (omega arith) (omega arith) refl (lowering_on w low i n el (omega arith) g) in
-      rw (lower_more w (low + i) vs v, l) (next ∙ ap (λ (j : ℕ). lowering coords d c j s) e)
+      let next = lowering_next xs (lower_from w i vs) (i + n) (omega arith) (lowering_more xs w i n (omega arith) g) in
+      rw (lower_more w i vs v, l) (next ∙ ap (λ (j : ℕ). lowering j xs) e)
 
-  pub lowering_block : (w : List Float) (low i n : ℕ) (f : List Float) → low ≡ low_at m k d → i + n ≤ m
-      → f ≡ cosine_distances coords d (row_of (state_in m k d w u).centers d c) i n
-      → state_in m k d w u ≡ lowering coords d c i s → state_in m k d (lower_from w (low + i) f) u ≡ lowering coords d c (i + n) s
-  unfolding put_low
-  lowering_block w low i n f el h is g =
-      let e : f ≡ cosine_distances coords d (row_of s.centers d c) i n =
-      is ∙ ap (λ (t : State). cosine_distances coords d (row_of t.centers d c) i n) g in
-      rw e (lowering_on w low i n el h g)
+  lowering_all : (xs : List Float) (i : ℕ) → i ≡ length xs → lowering i xs ≡ lowered coords d row 0 xs
+  lowering_all xs i e =
+      let new = lowered coords d row 0 xs in
+      let ln : length new ≤ i = omega (arith, lowered_length 0 xs) in
+      front_end (take i new) xs i (sym e) ∙ take_all i new ln
 
-  pub lowering_end : (w : List Float) (i : ℕ) → i ≡ m → state_in m k d w u ≡ lowering coords d c i s
-      → state_in m k d w u ≡ lowered_by coords d c s
-  lowering_end w i e f =
-      let new = lowered coords d (row_of s.centers d c) 0 s.low in
-      let ln : length new ≤ m = omega (arith, lowered_length coords d (row_of s.centers d c) 0 s.low) in
-      f ∙ ap (λ (n : ℕ). lowering coords d c n s) e ∙ ap (λ (x : List Float). put_low x s)
-      (front_end (take m new) s.low m ls ∙ take_all m new ln)
+-- the area whose first i distances are lowered where centre c is nearer
+pub record Lowered (a₀ a : Area) (c i : ℕ) : Type 0 where
+  pub same : Same a₀ a
+  pub state : let s = state_of a₀ in
+      state_of a ≡ put_low (lowering a₀.leaves.coords.now a₀.shape.d (row_of s.centers a₀.shape.d c) i s.low) s
+
+pub lowered_none : (a : Area) (c : ℕ) → Lowered a a c 0
+unfolding put_low
+lowered_none a c = record { same = (refl, refl); state = refl }
+
+-- n distances more, w being what they make of the distances
+pub lowered_more : (a₀ a a' : Area) (c i n j : ℕ) (f w : List Float) → i + n ≤ a₀.shape.m → j ≡ i + n → Lowered a₀ a c i
+    → f ≡ cosine_distances a.leaves.coords.now a.shape.d (row_of a.centers.now a.shape.d c) i n → w ≡ lower_from a.low.now i f
+    → Same a a' → state_of a' ≡ put_low w (state_of a) → Lowered a₀ a' c j
+unfolding put_low
+lowered_more a₀ a a' c i n j f w h e g is ew same st =
+    let d = a₀.shape.d in
+    let coords = a₀.leaves.coords.now in
+    let s = state_of a₀ in
+    let row = row_of s.centers d c in
+    let is₁ : f ≡ cosine_distances coords d (row_of a.centers.now d c) i n = rw (← g.same.0, ← g.same.1) is in
+    let is₂ : f ≡ cosine_distances coords d row i n =
+    is₁ ∙ ap (λ (t : State). cosine_distances coords d (row_of t.centers d c) i n) g.state in
+    let now : w ≡ lower_from (lowering coords d row i s.low) i f = ew ∙ ap (λ (t : State). lower_from t.low i f) g.state in
+    let more = lowering_more coords d row s.low (lowering coords d row i s.low) i n (omega (arith, a₀.sized.low_long)) refl in
+    record {
+      same = (same.0 ∙ g.same.0, same.1 ∙ g.same.1);
+      state = st ∙ ap (put_low w) g.state
+          ∙ ap (λ (x : List Float). put_low x s) (now ∙ ap (lower_from (lowering coords d row i s.low) i) is₂ ∙ more
+          ∙ ap (λ (z : ℕ). lowering coords d row z s.low) (sym e));
+    }
+
+pub lowered_end : (a₀ a : Area) (c i : ℕ) → i ≡ a₀.shape.m → Lowered a₀ a c i
+    → state_of a ≡ lowered_by a₀.leaves.coords.now a₀.shape.d c (state_of a₀)
+lowered_end a₀ a c i e g =
+    let s = state_of a₀ in
+    g.state ∙ ap (λ (x : List Float). put_low x s)
+    (lowering_all a₀.leaves.coords.now a₀.shape.d (row_of s.centers a₀.shape.d c) s.low i (omega (arith, a₀.sized.low_long)))
 
 -- infinite distances lowered are the distances: a cosine distance is at most an infinite one, and no NaN
 below_inf : (t : Bool) (s : Bool) (m : ℕ) (e : ℤ) → let v = cond t plus_zero (fin s m e) in cond (lt v (inf false)) v (inf false) ≡ v
@@ -181,19 +178,12 @@ lowered_inf coords d row i (suc n) =
     (sym (append_assoc (cosine_distances_up_to coords d row i) (a ∷ []) (lowered coords d row (suc i) (replicate n (inf false))))
     ∙ lowered_inf coords d row (suc i) n ∙ ap (cosine_distances_up_to coords d row) p)
 
-pub first_done : (m k d low : ℕ) (w w₁ w₂ coords : List Float) (u : List ℕ) → low ≡ low_at m k d → total m k d ≤ length w
-    → w₁ ≡ put_part w low m (replicate m (inf false))
-    → state_in m k d w₂ u ≡ lowered_by coords d 0 (state_in m k d w₁ u)
-    → state_in m k d w₂ u ≡ first_distances coords m d (state_in m k d w u)
-unfolding put_low cosine_distances_up_to
-first_done m k d low w w₁ w₂ coords u el t e f =
-    let s = state_in m k d w u in
-    let far = replicate m (inf false) in
+pub lowered_first : (coords : List Float) (d : ℕ) (row : List Float) (m : ℕ)
+    → lowered coords d row 0 (replicate m (inf false)) ≡ cosine_distances_up_to coords d row m
+unfolding cosine_distances_up_to
+lowered_first coords d row m =
     let p : 0 + m ≡ m = omega arith in
-    let s₁ : state_in m k d w₁ u ≡ with_low far s = rw (e, el) (put_low_all m k d w u far (length-replicate m (inf false)) t) in
-    let row = row_of s.centers d 0 in
-    f ∙ ap (lowered_by coords d 0) s₁ ∙ ap (λ (x : List Float). put_low x s)
-    (lowered_inf coords d row 0 m ∙ ap (cosine_distances_up_to coords d row) p)
+    lowered_inf coords d row 0 m ∙ ap (cosine_distances_up_to coords d row) p
 
 -- ---- the chances of the leaves
 chances_length : (ws xs : List Float) → length ws ≡ length xs → length (chances ws xs) ≡ length xs
@@ -211,51 +201,51 @@ chances_at (w ∷ ws) [] i h g = absurd (omega arith)
 chances_at (w ∷ ws) (x ∷ xs) zero h g = refl
 chances_at (w ∷ ws) (x ∷ xs) (suc i) h g = chances_at ws xs i (omega arith) (omega arith)
 
-abbrev pub chancing : List Float → ℕ → State → State
-chancing weights i s = put_high (take i (chances weights s.low) ++ drop i s.high) s
+-- the area of which the first i chances are written
+pub record Chanced (a₀ a : Area) (i : ℕ) : Type 0 where
+  pub same : Same a₀ a
+  pub state : let s = state_of a₀ in
+      state_of a ≡ put_high (take i (chances a₀.leaves.weights.now s.low) ++ drop i s.high) s
 
-pub chancing_start : (weights : List Float) (s : State) → s ≡ chancing weights 0 s
+pub chanced_none : (a : Area) → Chanced a a 0
 unfolding put_high
-chancing_start weights s = refl
+chanced_none a = record { same = (refl, refl); state = refl }
 
-module _ (m k d : ℕ) (w₀ weights : List Float) (u : List ℕ) (long : total m k d ≤ length w₀) (lw : length weights ≡ m) where
-  pub chancing_turn : (w : List Float) (low high i : ℕ) (x : Float) → low ≡ low_at m k d → high ≡ high_at m k d → i < m
-      → x ≡ mul binary64 (get_or weights i nan) (get_or w (low + i) nan) → state_in m k d w u ≡ chancing weights i (state_in m k d w₀ u)
-      → state_in m k d (set w (high + i) x) u ≡ chancing weights (i + 1) (state_in m k d w₀ u)
-  unfolding put_high
-  chancing_turn w low high i x el eh h ex f =
-      let s = state_in m k d w₀ u in
-      let new = chances weights s.low in
-      let ls : length s.low ≡ m = length_low m k d w₀ u long in
-      let ln : length new ≡ m = chances_length weights s.low (omega arith) ∙ ls in
-      let lp : length (take i new) ≡ i = length-take-le i new (omega arith) in
-      let y : get_or w (low + i) nan ≡ get_or s.low i nan = rw el (get_low m k d w u i nan h ∙ ap (λ (t : State). get_or t.low i nan) f) in
-      let at : x ≡ get_or new i nan = ex ∙ rw y (sym (chances_at weights s.low i (omega arith) (omega arith))) in
-      let more : take i new ++ (x ∷ []) ≡ take (i + 1) new = rw (add-one, at) (sym (take-suc new i nan (omega arith))) in
-      rw eh (high_turn m k d w u s (take i new) i x h lp (length_high m k d w₀ u long) f)
-      ∙ ap (λ (r : List Float). put_high (r ++ drop (i + 1) s.high) s) more
+pub chanced_more : (a₀ a a' : Area) (i : ℕ) → i < a₀.shape.m → Chanced a₀ a i → Same a a'
+    → state_of a' ≡ put_high (set a.high.now i (mul binary64 (get_or a.leaves.weights.now i nan) (get_or a.low.now i nan))) (state_of a)
+    → Chanced a₀ a' (i + 1)
+unfolding put_high
+chanced_more a₀ a a' i h g same st =
+    let ws = a₀.leaves.weights.now in
+    let s = state_of a₀ in
+    let new = chances ws s.low in
+    let x = mul binary64 (get_or ws i nan) (get_or s.low i nan) in
+    let ln : length new ≡ length s.low = chances_length ws s.low (omega (arith, a₀.fit.weights_long, a₀.sized.low_long)) in
+    let lp : length (take i new) ≡ i = length-take-le i new (omega (arith, a₀.sized.low_long)) in
+    let at : x ≡ get_or new i nan =
+    sym (chances_at ws s.low i (omega (arith, a₀.fit.weights_long)) (omega (arith, a₀.sized.low_long))) in
+    let more : take i new ++ (x ∷ []) ≡ take (i + 1) new =
+    rw (add-one, at) (sym (take-suc new i nan (omega (arith, a₀.sized.low_long)))) in
+    let now : state_of a' ≡ put_high (set a.high.now i (mul binary64 (get_or ws i nan) (get_or a.low.now i nan))) (state_of a) =
+    rw (← g.same.1) st in
+    record {
+      same = (same.0 ∙ g.same.0, same.1 ∙ g.same.1);
+      state = now
+          ∙ ap (λ (t : State). put_high (set t.high i (mul binary64 (get_or ws i nan) (get_or t.low i nan))) t) g.state
+          ∙ ap (λ (r : List Float). put_high r s)
+          (front_turn nan (take i new) s.high i lp x (omega (arith, a₀.sized.high_long))
+          ∙ ap (λ (r : List Float). r ++ drop (i + 1) s.high) more);
+    }
 
-  pub chancing_end : (w : List Float) (i : ℕ) → i ≡ m → state_in m k d w u ≡ chancing weights i (state_in m k d w₀ u)
-      → state_in m k d w u ≡ chanced weights (state_in m k d w₀ u)
-  chancing_end w i e f =
-      let s = state_in m k d w₀ u in
-      let new = chances weights s.low in
-      let ls : length s.low ≡ m = length_low m k d w₀ u long in
-      let ln : length new ≤ m = omega (arith, chances_length weights s.low (omega arith)) in
-      f ∙ ap (λ (n : ℕ). chancing weights n s) e ∙ ap (λ (x : List Float). put_high x s)
-      (front_end (take m new) s.high m (length_high m k d w₀ u long) ∙ take_all m new ln)
-
--- ---- a centre put in its row
-pub center_done : (m k d : ℕ) (w coords : List Float) (u : List ℕ) (c i : ℕ) (row : List Float) → c < k → i * d + d ≤ length coords
-    → total m k d ≤ length w
-    → row ≡ unit_vector (take (i * d + d - i * d) (drop (i * d) coords))
-    → state_in m k d (put_part w (c * d) (c * d + d - c * d) row) u ≡ put_center d c (unit_vector (row_of coords d i)) (state_in m k d w u)
-unfolding put_center
-center_done m k d w coords u c i row h g t e =
-    let f : c * d + d - c * d ≡ d = omega arith in
-    let e' : row ≡ unit_vector (row_of coords d i) = e ∙ ap unit_vector (row_cut coords d i) in
-    let l : length (unit_vector (row_of coords d i)) ≡ d = unit_length (row_of coords d i) ∙ length_part coords (i * d) d g in
-    rw (f, e') (put_row_centers m k d w u c (unit_vector (row_of coords d i)) l h t)
+pub chanced_end : (a₀ a : Area) (i : ℕ) → i ≡ a₀.shape.m → Chanced a₀ a i → state_of a ≡ chanced a₀.leaves.weights.now (state_of a₀)
+chanced_end a₀ a i e g =
+    let ws = a₀.leaves.weights.now in
+    let s = state_of a₀ in
+    let new = chances ws s.low in
+    let ln : length new ≤ i =
+    omega (arith, chances_length ws s.low (omega (arith, a₀.fit.weights_long, a₀.sized.low_long)), a₀.sized.low_long) in
+    g.state ∙ ap (λ (r : List Float). put_high r s)
+    (front_end (take i new) s.high i (omega (arith, a₀.sized.high_long)) ∙ take_all i new ln)
 
 -- ---- one centre more
 
@@ -263,52 +253,68 @@ center_done m k d w coords u c i row h g t e =
 seed_row_length : (coords : List Float) (m d i : ℕ) → length coords ≡ m * d → i < m → length (unit_vector (row_of coords d i)) ≡ d
 seed_row_length coords m d i e h = unit_length (row_of coords d i) ∙ length_part coords (i * d) d (omega (arith, row_within i m d h))
 
-index_below : (weights : List Float) (generator : ℕ) (s : State) (m : ℕ) → 0 < m → length weights ≡ m → length s.low ≡ m
-    → (next_pick weights generator s).index < m
-index_below weights generator s m h lw ls =
-    let l : length (chances weights s.low) ≡ m = chances_length weights s.low (omega arith) ∙ ls in
-    omega (arith, pick_below (chances weights s.low) generator (omega arith))
+pub first_below : (a : Area) (generator : ℕ) → (pick_of a.leaves.weights.now generator).index < a.shape.m
+first_below a generator =
+    let lw = a.fit.weights_long in
+    let some = a.shape.sizes.m_some in
+    omega (arith, pick_below a.leaves.weights.now generator (omega arith))
 
-module _ (m k d : ℕ) (w w₁ weights : List Float) (u : List ℕ) (generator : ℕ) (p : Picked) (t : total m k d ≤ length w)
-    (lw : length weights ≡ m) (e₁ : state_in m k d w₁ u ≡ chanced weights (state_in m k d w u))
-    (high : ℕ) (eh : high ≡ high_at m k d) (ep : p ≡ pick_of (take (high + m - high) (drop high w₁)) generator) where
-  next_is : p ≡ next_pick weights generator (state_in m k d w u)
-  unfolding put_high
-  next_is =
-      let f : high + m - high ≡ m = omega arith in
-      let g : take (high + m - high) (drop high w₁) ≡ chances weights (state_in m k d w u).low =
-      rw (f, eh) (high_are m k d w₁ u ∙ ap (λ (x : State). x.high) e₁) in
-      ep ∙ ap (λ (x : List Float). pick_of x generator) g
+index_below : (a : Area) (generator : ℕ) → (next_pick a.leaves.weights.now generator (state_of a)).index < a.shape.m
+index_below a generator =
+    let lw = a.fit.weights_long in
+    let ll = a.sized.low_long in
+    let some = a.shape.sizes.m_some in
+    let l = chances_length a.leaves.weights.now a.low.now (omega arith) in
+    omega (arith, pick_below (chances a.leaves.weights.now a.low.now) generator (omega arith))
 
-  pub next_below : 0 < m → p.index < m
-  next_below h =
-      rw next_is (index_below weights generator (state_in m k d w u) m h lw (length_low m k d w u t))
+-- a₁ has the chances, from which p is picked
+next_is : (a a₁ : Area) (generator : ℕ) (p : Picked) → state_of a₁ ≡ chanced a.leaves.weights.now (state_of a)
+    → p ≡ pick_of a₁.high.now generator → p ≡ next_pick a.leaves.weights.now generator (state_of a)
+unfolding put_high
+next_is a a₁ generator p e ep = ep ∙ ap (λ (x : State). pick_of x.high generator) e
 
-  pub next_done : (coords : List Float) (c : ℕ) (w₂ w₃ : List Float) → c < k → 0 < m → length coords ≡ m * d
-      → state_in m k d w₂ u ≡ put_center d c (seed_row coords d p) (state_in m k d w₁ u)
-      → state_in m k d w₃ u ≡ lowered_by coords d c (state_in m k d w₂ u)
-      → SeededNext weights coords d c generator (state_in m k d w u) (state_in m k d w₃ u) p.generator
-  unfolding put_low put_high put_center
-  next_done coords c w₂ w₃ h hm lc e₂ e₃ =
-      let s = state_in m k d w u in
-      let row = seed_row coords d p in
-      let lr : length row ≡ d = seed_row_length coords m d p.index lc (next_below hm) in
-      let s₂ : state_in m k d w₂ u ≡ put_center d c row (chanced weights s) = e₂ ∙ ap (put_center d c row) e₁ in
-      let within : c * d ≤ length s.centers = omega (arith, length_centers m k d w u t, row_within c k d h) in
-      let put : row_of (put_part s.centers (c * d) d row) d c ≡ row = part_put s.centers (c * d) d row lr within in
-      let s₃ : state_in m k d w₃ u ≡ lowered_by coords d c (put_center d c row (chanced weights s)) = e₃ ∙ ap (lowered_by coords d c) s₂ in
-      let same : row ≡ seed_row coords d (next_pick weights generator s) = ap (seed_row coords d) next_is in
-      record {
-        centers = ap (λ (x : State). x.centers) s₃ ∙ ap (put_part s.centers (c * d) d) same;
-        distances = ap (λ (x : State). x.low) s₃ ∙ ap (λ (r : List Float). lowered coords d r 0 s.low) (put ∙ same);
-        generator_is = ap (λ (x : Picked). x.generator) next_is;
-      }
+pub next_below : (a a₁ : Area) (generator : ℕ) (p : Picked) → Same a a₁ → state_of a₁ ≡ chanced a.leaves.weights.now (state_of a)
+    → p ≡ pick_of a₁.high.now generator → p.index < a₁.shape.m
+next_below a a₁ generator p same e ep = rw (same.0, next_is a a₁ generator p e ep) (index_below a generator)
 
--- ---- the seeds, of which c are chosen
-pub record Held (weights coords : List Float) (m d generator c : ℕ) (s : State) (r : ℕ) : Type 0 where
-  pub centers : take (c * d) s.centers ≡ (seeds_up_to weights coords m d generator (c - 1)).centers
-  pub distances : s.low ≡ (seeds_up_to weights coords m d generator (c - 1)).distances
-  pub generator_is : r ≡ (seeds_up_to weights coords m d generator (c - 1)).generator
+-- a₂ has the centre too, a₃ the distances
+pub next_done : (a a₁ a₂ a₃ : Area) (c generator : ℕ) (p : Picked) → c < a.shape.k
+    → Same a a₁ → state_of a₁ ≡ chanced a.leaves.weights.now (state_of a) → p ≡ pick_of a₁.high.now generator
+    → Same a₁ a₂ → state_of a₂ ≡ put_center a₁.shape.d c (seed_row a₁.leaves.coords.now a₁.shape.d p) (state_of a₁)
+    → state_of a₃ ≡ lowered_by a₂.leaves.coords.now a₂.shape.d c (state_of a₂)
+    → SeededNext a.leaves.weights.now a.leaves.coords.now a.shape.d c generator (state_of a) (state_of a₃) p.generator
+unfolding put_low put_high put_center
+next_done a a₁ a₂ a₃ c generator p h same₁ e₁ ep same₂ e₂ e₃ =
+    let ws = a.leaves.weights.now in
+    let coords = a.leaves.coords.now in
+    let d = a.shape.d in
+    let s = state_of a in
+    let q = next_pick ws generator s in
+    let row = seed_row coords d q in
+    let same = next_is a a₁ generator p e₁ ep in
+    let lr : length row ≡ d = seed_row_length coords a.shape.m d q.index a.fit.coords_long (index_below a generator) in
+    let within : c * d ≤ length s.centers = omega (arith, a.sized.centers_long, row_within c a.shape.k d h) in
+    let put : row_of (put_part s.centers (c * d) d row) d c ≡ row = part_put s.centers (c * d) d row lr within in
+    let s₂ : state_of a₂ ≡ put_center d c (seed_row coords d p) (state_of a₁) = rw (← same₁.0, ← same₁.1) e₂ in
+    let s₃ : state_of a₃ ≡ lowered_by coords d c (state_of a₂) = rw (← same₁.0, ← same₁.1, ← same₂.0, ← same₂.1) e₃ in
+    let is : state_of a₃ ≡ lowered_by coords d c (put_center d c row (chanced ws s)) =
+    s₃ ∙ ap (lowered_by coords d c)
+    (s₂ ∙ ap (λ (x : Picked). put_center d c (seed_row coords d x) (state_of a₁)) same ∙ ap (put_center d c row) e₁) in
+    record {
+      centers = ap (λ (x : State). x.centers) is;
+      distances = ap (λ (x : State). x.low) is ∙ ap (λ (r : List Float). lowered coords d r 0 s.low) put;
+      generator_is = ap (λ (x : Picked). x.generator) same;
+    }
+
+-- ---- the area with c seeds, nothing being said of the centres past them
+abbrev chosen : (a : Area) (generator c : ℕ) → Seeds
+chosen a generator c = seeds_up_to a.leaves.weights.now a.leaves.coords.now a.shape.m a.shape.d generator (c - 1)
+
+pub record Held (a₀ a : Area) (generator c r : ℕ) : Type 0 where
+  pub same : Same a₀ a
+  pub centers : take (c * a₀.shape.d) a.centers.now ≡ (chosen a₀ generator c).centers
+  pub distances : a.low.now ≡ (chosen a₀ generator c).distances
+  pub generator_is : r ≡ (chosen a₀ generator c).generator
 
 -- one row more of the rows at the front
 take_row : (l row : List Float) (c d : ℕ) → length row ≡ d → c * d ≤ length l
@@ -318,57 +324,68 @@ take_row l row c d e h =
     rw (add-one, suc-mul, ← append_assoc (take (c * d) l) row (drop d (drop (c * d) l)))
     (take_at (take (c * d) l ++ row) (drop d (drop (c * d) l)) (c * d + d) f)
 
--- the first leaf picked is one of the m
-pub first_below : (weights : List Float) (m generator : ℕ) (p : Picked) → 0 < m → length weights ≡ m → p ≡ pick_of weights generator
-    → p.index < m
-first_below weights m generator p h lw e = rw e (omega (arith, pick_below weights generator (omega arith)))
+pub held_first : (a a₁ a₂ : Area) (generator : ℕ) (p : Picked) → p ≡ pick_of a.leaves.weights.now generator
+    → Same a a₁ → state_of a₁ ≡ put_center a.shape.d 0 (seed_row a.leaves.coords.now a.shape.d p) (state_of a)
+    → Same a₁ a₂ → state_of a₂ ≡ first_distances a₁.leaves.coords.now a₁.shape.m a₁.shape.d (state_of a₁)
+    → Held a a₂ generator 1 p.generator
+unfolding put_center put_low seeds_up_to
+held_first a a₁ a₂ generator p e same₁ e₁ same₂ e₂ =
+    let coords = a.leaves.coords.now in
+    let m = a.shape.m in
+    let d = a.shape.d in
+    let s = state_of a in
+    let q = pick_of a.leaves.weights.now generator in
+    let row = seed_row coords d q in
+    let lr : length row ≡ d = seed_row_length coords m d q.index a.fit.coords_long (first_below a generator) in
+    let zeros : 0 * d ≤ length s.centers = rw zero-mul (omega arith) in
+    let put : row_of (put_part s.centers (0 * d) d row) d 0 ≡ row = part_put s.centers (0 * d) d row lr zeros in
+    let front : take (1 * d) (put_part s.centers (0 * d) d row) ≡ row = take_row s.centers row 0 d lr zeros ∙ rw zero-mul in
+    let s₂ : state_of a₂ ≡ first_distances coords m d (state_of a₁) = rw (← same₁.0, ← same₁.1) e₂ in
+    let is : state_of a₂ ≡ first_distances coords m d (put_center d 0 row s) =
+    s₂ ∙ ap (first_distances coords m d) (e₁ ∙ ap (λ (x : Picked). put_center d 0 (seed_row coords d x) s) e) in
+    record {
+      same = (same₂.0 ∙ same₁.0, same₂.1 ∙ same₁.1);
+      centers = ap (λ (x : State). take (1 * d) x.centers) is ∙ front;
+      distances = ap (λ (x : State). x.low) is ∙ ap (λ (r : List Float). cosine_distances_up_to coords d r m) put;
+      generator_is = ap (λ (x : Picked). x.generator) e;
+    }
 
-module _ (weights coords : List Float) (m k d generator : ℕ) (hm : 0 < m) (lw : length weights ≡ m) (lc : length coords ≡ m * d) where
-  pub held_first : (p : Picked) (s s₁ s₂ : State) → length s.centers ≡ k * d → p ≡ pick_of weights generator
-      → s₁ ≡ put_center d 0 (seed_row coords d p) s → s₂ ≡ first_distances coords m d s₁
-      → Held weights coords m d generator 1 s₂ p.generator
-  unfolding put_center put_low seeds_up_to
-  held_first p s s₁ s₂ ls e e₁ e₂ =
-      let row = seed_row coords d p in
-      let lr : length row ≡ d = seed_row_length coords m d p.index lc (first_below weights m generator p hm lw e) in
-      let zeros : 0 * d ≤ length s.centers = rw zero-mul (omega arith) in
-      let put : row_of (put_part s.centers (0 * d) d row) d 0 ≡ row = part_put s.centers (0 * d) d row lr zeros in
-      let front : take (1 * d) (put_part s.centers (0 * d) d row) ≡ row = take_row s.centers row 0 d lr zeros ∙ rw zero-mul in
-      let s₂' : s₂ ≡ first_distances coords m d (put_center d 0 row s) = e₂ ∙ ap (first_distances coords m d) e₁ in
-      let same : row ≡ seed_row coords d (pick_of weights generator) = ap (seed_row coords d) e in
-      record {
-        centers = ap (λ (x : State). take (1 * d) x.centers) s₂' ∙ front ∙ same;
-        distances = ap (λ (x : State). x.low) s₂' ∙ ap (λ (r : List Float). cosine_distances_up_to coords d r m) (put ∙ same);
-        generator_is = ap (λ (x : Picked). x.generator) e;
-      }
+pub held_turn : (a₀ a a' : Area) (generator c r r' : ℕ) → 0 < c → c < a₀.shape.k → Held a₀ a generator c r → Same a a'
+    → SeededNext a.leaves.weights.now a.leaves.coords.now a.shape.d c r (state_of a) (state_of a') r' → Held a₀ a' generator (c + 1) r'
+unfolding seeds_up_to
+held_turn a₀ a a' generator c r r' hc h g same n =
+    let coords = a₀.leaves.coords.now in
+    let d = a₀.shape.d in
+    let s = state_of a in
+    let before = chosen a₀ generator c in
+    let f : c + 1 - 1 ≡ suc (c - 1) = omega arith in
+    let n₁ : SeededNext a₀.leaves.weights.now coords d c r s (state_of a') r' = rw (← g.same.0, ← g.same.1) n in
+    let p = next_pick a₀.leaves.weights.now r s in
+    let q = pick_of (chances a₀.leaves.weights.now before.distances) before.generator in
+    let row = seed_row coords d p in
+    let below : p.index < a₀.shape.m = rw (← g.same.0, ← g.same.1) (index_below a r) in
+    let lr : length row ≡ d = seed_row_length coords a₀.shape.m d p.index a₀.fit.coords_long below in
+    let long : length s.centers ≡ a₀.shape.k * d = rw (← g.same.0) a.sized.centers_long in
+    let within : c * d ≤ length s.centers = omega (arith, row_within c a₀.shape.k d h) in
+    let pq : p ≡ q = rw (g.distances, g.generator_is) in
+    let same_row : row ≡ seed_row coords d q = ap (seed_row coords d) pq in
+    let grown : take ((c + 1) * d) a'.centers.now ≡ before.centers ++ row =
+    ap (λ (x : List Float). take ((c + 1) * d) x) n₁.centers ∙ take_row s.centers row c d lr within
+    ∙ ap (λ (x : List Float). x ++ row) g.centers in
+    let lower : a'.low.now ≡ lowered coords d row 0 before.distances =
+    n₁.distances ∙ ap (λ (x : List Float). lowered coords d row 0 x) g.distances in
+    record {
+      same = (same.0 ∙ g.same.0, same.1 ∙ g.same.1);
+      centers = rw f (grown ∙ ap (λ (x : List Float). before.centers ++ x) same_row);
+      distances = rw f (lower ∙ ap (λ (x : List Float). lowered coords d x 0 before.distances) same_row);
+      generator_is = rw f (n₁.generator_is ∙ ap (λ (x : Picked). x.generator) pq);
+    }
 
-  pub held_turn : (c r r' : ℕ) (s s' : State) → 0 < c → c < k → length s.centers ≡ k * d → length s.low ≡ m
-      → Held weights coords m d generator c s r → SeededNext weights coords d c r s s' r' → Held weights coords m d generator (c + 1) s' r'
-  unfolding seeds_up_to
-  held_turn c r r' s s' hc h ls ll g n =
-      let before = seeds_up_to weights coords m d generator (c - 1) in
-      let f : c + 1 - 1 ≡ suc (c - 1) = omega arith in
-      let p = next_pick weights r s in
-      let q = pick_of (chances weights before.distances) before.generator in
-      let row = seed_row coords d p in
-      let lr : length row ≡ d = seed_row_length coords m d p.index lc (index_below weights r s m hm lw ll) in
-      let within : c * d ≤ length s.centers = omega (arith, row_within c k d h) in
-      let same : p ≡ q = rw (g.distances, g.generator_is) in
-      let same_row : row ≡ seed_row coords d q = ap (seed_row coords d) same in
-      let grown : take ((c + 1) * d) s'.centers ≡ before.centers ++ row =
-      ap (λ (x : List Float). take ((c + 1) * d) x) n.centers ∙ take_row s.centers row c d lr within
-      ∙ ap (λ (x : List Float). x ++ row) g.centers in
-      let lower : s'.low ≡ lowered coords d row 0 before.distances =
-      n.distances ∙ ap (λ (x : List Float). lowered coords d row 0 x) g.distances in
-      record {
-        centers = rw f (grown ∙ ap (λ (x : List Float). before.centers ++ x) same_row);
-        distances = rw f (lower ∙ ap (λ (x : List Float). lowered coords d x 0 before.distances) same_row);
-        generator_is = rw f (n.generator_is ∙ ap (λ (x : Picked). x.generator) same);
-      }
-
-pub held_end : (weights coords : List Float) (m k d generator c r : ℕ) (s : State) → c ≡ k → length s.centers ≡ k * d
-    → Held weights coords m d generator c s r
-    → (s.centers ≡ (seeds_of weights coords m k d generator).centers) × (r ≡ (seeds_of weights coords m k d generator).generator)
-held_end weights coords m k d generator c r s e ls g =
-    let h : Held weights coords m d generator k s r = subst (λ (n : ℕ). Held weights coords m d generator n s r) e g in
-    (sym (take_all (k * d) s.centers (omega arith)) ∙ h.centers, h.generator_is)
+pub held_end : (a₀ a : Area) (generator c r : ℕ) → c ≡ a₀.shape.k → Held a₀ a generator c r
+    → let s = seeds_of a₀.leaves.weights.now a₀.leaves.coords.now a₀.shape.m a₀.shape.k a₀.shape.d generator in
+    (a.centers.now ≡ s.centers) × (r ≡ s.generator)
+held_end a₀ a generator c r e g =
+    let k = a₀.shape.k in
+    let h : Held a₀ a generator k r = subst (λ (n : ℕ). Held a₀ a generator n r) e g in
+    let long : length a.centers.now ≡ k * a₀.shape.d = rw (← h.same.0) a.sized.centers_long in
+    (sym (take_all (k * a₀.shape.d) a.centers.now (omega arith)) ∙ h.centers, h.generator_is)

@@ -1,16 +1,14 @@
--- How the seeding's distances and chances lie in the work area, and what its functions ask and promise. No definition
--- of document 01 stands on this file.
-use Rattle.std.specs.Prelude.{◌≡◌, List, [], ◌∷◌, cond, ℕ, suc, ◌+◌, ◌*◌, ◌≤◌, get_or, set, Float}
+-- How the seeding's distances and chances lie in the work area, and what its functions promise. No definition of
+-- document 01 stands on this file.
+use Rattle.std.specs.Prelude.{◌≡◌, List, [], ◌∷◌, cond, ℕ, suc, ◌+◌, ◌*◌, get_or, set, Float}
 use Rattle.std.specs.Float.{nan}
 use Rattle.std.specs.Float.Ieee.{lt}
 use Rattle.rows.specs.Rows.{put_part, row_of}
 use Rattle.rows.specs.Tabulate.{tabulate}
-use Rattle.limits.specs.Sizes.{Sizes}
 use Rattle.pick.specs.Pick.{pick_of}
 use Rattle.pick.specs.declared.Picked.{Picked}
 use Rattle.kmeans_seeding.specs.Seeding.{cosine_distance, cosine_distances_up_to, lowered, chances, seed_row}
 use Rattle.kmeans_layout.specs.State.{State}
-use Rattle.kmeans_layout.specs.Areas.{total}
 
 -- the cosine distances of n leaves from a centre, from leaf i on
 abbrev pub cosine_distances : List Float → ℕ → List Float → (i n : ℕ) → List Float
@@ -70,13 +68,6 @@ lowered_by coords d c s = put_low (lowered coords d (row_of s.centers d c) 0 s.l
 
 abbrev pub chanced : List Float → State → State
 chanced weights s = put_high (chances weights s.low) s
-
--- what the seeding asks
-pub record Seeding (work weights coords m k d : ℕ) : Type 0 where
-  pub sizes : Sizes m k d
-  pub work_long : total m k d ≤ work
-  pub weights_long : weights ≡ m
-  pub coords_long : coords ≡ m * d
 
 -- one centre more: the distances are the state's lower bounds
 abbrev pub next_pick : List Float → ℕ → State → Picked

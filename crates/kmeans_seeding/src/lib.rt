@@ -1,40 +1,36 @@
-// The seeding of a run of spherical k-means (vmf.rs, spherical_pp; document 01, 'Spherical k-means'): the distances
-// stand in the place of the lower bounds, the chances in that of the upper ones. m leaves of d coordinates, k groups.
+// The seeding of a run of spherical k-means (vmf.rs, spherical_pp; document 01, 'Spherical k-means'), in its work area:
+// the distances stand in the place of the lower bounds, the chances in that of the upper ones.
 #![tactic(auto)]
 
-ghost use Rattle.std.specs.Prelude.{◌≡◌, cond, List, ℕ, ◌+◌, ◌*◌, ◌<◌, ◌≤◌, length};
+ghost use Rattle.std.specs.Prelude.{◌≡◌, cond, ◌+◌, ◌*◌, ◌<◌, ◌≤◌, length};
 ghost use Rattle.std.specs.Float.Ieee.{lt};
 ghost use Rattle.rows.specs.Rows.{row_of};
-ghost use Rattle.kmeans_seeding.specs.Seeding.{seeds_of};
 ghost use Rattle.vector.specs.Vectors.{unit_vector};
-ghost use Rattle.kmeans_layout.specs.Areas.{state_in, LeafOf, GroupOf, Area};
+ghost use Rattle.pick.specs.Pick.{pick_of};
+ghost use Rattle.kmeans_layout.specs.Areas.{state_of, Same};
+ghost use Rattle.kmeans_seeding.specs.Seeding.{seeds_of};
 ghost use Rattle.kmeans_seeding.specs.Distances.{put_center, cosine_distances, lower_from};
-ghost use Rattle.kmeans_seeding.specs.Distances.{first_distances, lowered_by, chanced, Seeding, SeededNext};
+ghost use Rattle.kmeans_seeding.specs.Distances.{first_distances, lowered_by, chanced, SeededNext};
+
+use kmeans_layout::Area;
+use pick::Picked;
 
 // The cosine distances of leaves i to i + N - 1 from centre c.
-fn cosine_distances<const N: usize>(
-    work: &[f64],
-    coords: &[f64],
-    c: usize,
-    i: usize,
-    m: usize,
-    k: usize,
-    d: usize,
-) -> [f64; N]
-    requires area { (Area (length work.now) m k d) × (length coords.now ≡ m * d) }
-    requires d_bound { ((i + N) * d ≤ m * d) × (GroupOf c k d) }
-    ensures { (u : List ℕ) → result
-        ≡ cosine_distances coords.now d (row_of (state_in m k d work.now u).centers d c) i N }
+fn cosine_distances<const N: usize>(area: &Area, c: usize, i: usize) -> [f64; N]
+    requires { (c < area.now.shape.k) × (i + N ≤ area.now.shape.m) }
+    ensures { result ≡ cosine_distances area.now.leaves.coords.now area.now.shape.d
+        (row_of area.now.centers.now area.now.shape.d c) i N }
 {
-    let row = c * d;
-    let mut f = kmeans_nearest::row_dots::<N>(&work[row..row + d], coords, i, d);
+    let d = area.shape.d;
+    let at = c * d;
+    let mut f = kmeans_nearest::row_dots::<N>(&area.centers[at..at + d], area.leaves.coords, i, d);
     for e in 0..N {
         f[e] = float::max(1.0 - f[e], 0.0);
     }
     f
 }
 
-// The smaller of a distance and a new one.
+// The smaller of a distance and a new one; the held one where it is a NaN, which `f64::min` would not answer.
 fn nearer(v: f64, held: f64) -> f64
     ensures { result ≡ cond (lt v held) v held }
 {
@@ -42,117 +38,107 @@ fn nearer(v: f64, held: f64) -> f64
 }
 
 // The distances from place `at` on lowered where the new ones are smaller.
-fn lower_from<const N: usize>(work: &mut [f64], at: usize, f: [f64; N])
-    requires { at + N ≤ length work.old }
-    ensures { work.new ≡ lower_from work.old at f.entry }
+#[tactic(auto, using(crate::proofs::Seeds::lower_turn), unfolding(crate::specs::Distances::lower_at))]
+fn lower_from<const N: usize>(distances: &mut [f64], at: usize, f: [f64; N])
+    requires { at + N ≤ length distances.old }
+    ensures { distances.new ≡ lower_from distances.old at f.entry }
 {
     for e in 0..N {
-        work[at + e] = nearer(f[e], work[at + e]);
+        distances[at + e] = nearer(f[e], distances[at + e]);
     }
 }
 
 // The distance of each leaf lowered where centre c is nearer: by fours, then singly.
-fn lower_distances(work: &mut [f64], coords: &[f64], c: usize, m: usize, k: usize, d: usize)
-    requires area { (Area (length work.old) m k d) × (length coords.now ≡ m * d) }
-    requires group_of { GroupOf c k d }
-    ensures { (u : List ℕ) → state_in m k d work.new u
-        ≡ lowered_by coords.now d c (state_in m k d work.old u) }
+fn lower_distances(area: &mut Area, c: usize)
+    requires { c < area.old.shape.k }
+    ensures same { Same area.old area.new }
+    ensures state { state_of area.new ≡ lowered_by area.old.leaves.coords.now area.old.shape.d c (state_of area.old) }
 {
-    let low = kmeans_layout::low_at(m, k, d);
+    let m = area.shape.m;
     for b in 0..m / 4 {
-        let f = cosine_distances::<4>(work, coords, c, 4 * b, m, k, d);
-        lower_from(work, low + 4 * b, f);
+        let f = cosine_distances::<4>(area, c, 4 * b);
+        lower_from(area.low, 4 * b, f);
     }
     for i in m - m % 4..m {
-        let f = cosine_distances::<1>(work, coords, c, i, m, k, d);
-        lower_from(work, low + i, f);
+        let f = cosine_distances::<1>(area, c, i);
+        lower_from(area.low, i, f);
     }
 }
 
 // The distance of each leaf from the first centre, lowered from an infinite one.
-fn first_distances(work: &mut [f64], coords: &[f64], m: usize, k: usize, d: usize)
-    requires { (Area (length work.old) m k d) × (length coords.now ≡ m * d) }
-    ensures { (u : List ℕ) → state_in m k d work.new u
-        ≡ first_distances coords.now m d (state_in m k d work.old u) }
+fn first_distances(area: &mut Area)
+    ensures same { Same area.old area.new }
+    ensures state { state_of area.new ≡ first_distances area.old.leaves.coords.now area.old.shape.m area.old.shape.d
+        (state_of area.old) }
 {
-    let low = kmeans_layout::low_at(m, k, d);
-    kmeans_layout::fill_at(work, low, m, 1.0 / 0.0);
-    lower_distances(work, coords, 0, m, k, d);
+    rows::fill(area.low, 1.0 / 0.0);
+    lower_distances(area, 0);
 }
 
 // Weight times distance, leaf by leaf.
-fn put_chances(work: &mut [f64], weights: &[f64], m: usize, k: usize, d: usize)
-    requires { (Area (length work.old) m k d) × (length weights.now ≡ m) }
-    ensures { (u : List ℕ) → state_in m k d work.new u
-        ≡ chanced weights.now (state_in m k d work.old u) }
+#[tactic(auto, using(crate::proofs::Seeds::chanced_none))]
+fn put_chances(area: &mut Area)
+    ensures same { Same area.old area.new }
+    ensures state { state_of area.new ≡ chanced area.old.leaves.weights.now (state_of area.old) }
 {
-    let low = kmeans_layout::low_at(m, k, d);
-    let high = kmeans_layout::high_at(m, k, d);
-    for i in 0..m {
-        work[high + i] = weights[i] * work[low + i];
+    for i in 0..area.shape.m {
+        area.high[i] = area.leaves.weights[i] * area.low[i];
     }
 }
 
-// Centre c becomes leaf i as a unit vector.
-fn seed_center(work: &mut [f64], coords: &[f64], c: usize, i: usize, m: usize, k: usize, d: usize)
-    requires area { (Area (length work.old) m k d) × (length coords.now ≡ m * d) }
-    requires leaf_of { (LeafOf i m d) × (GroupOf c k d) }
-    ensures { (u : List ℕ) → state_in m k d work.new u
-        ≡ put_center d c (unit_vector (row_of coords.now d i)) (state_in m k d work.old u) }
+// A leaf by its chance, by one draw from the generator.
+fn pick_leaf(area: &Area, generator: u64) -> Picked
+    ensures { result ≡ pick_of area.now.high.now generator }
 {
+    pick::weighted_pick(area.high, generator)
+}
+
+// Centre c becomes leaf i as a unit vector.
+#[tactic(auto, using(rows::proofs::Rows::row_cut), unfolding(crate::specs::Distances::put_center))]
+fn seed_center(area: &mut Area, c: usize, i: usize)
+    requires { (c < area.old.shape.k) × (i < area.old.shape.m) }
+    ensures same { Same area.old area.new }
+    ensures state { state_of area.new ≡ put_center area.old.shape.d c
+        (unit_vector (row_of area.old.leaves.coords.now area.old.shape.d i)) (state_of area.old) }
+{
+    let d = area.shape.d;
     let to = c * d;
     let from = i * d;
-    vector::unit(&mut work[to..to + d], &coords[from..from + d]);
+    vector::unit(
+        &mut area.centers[to..to + d],
+        &area.leaves.coords[from..from + d],
+    );
 }
 
 // One centre more, by the weights times the distances; answers the generator after it.
-fn seed_next(
-    work: &mut [f64],
-    weights: &[f64],
-    coords: &[f64],
-    generator: u64,
-    c: usize,
-    m: usize,
-    k: usize,
-    d: usize,
-) -> u64
-    requires seeding { Seeding (length work.old) (length weights.now) (length coords.now) m k d }
-    requires group_of { GroupOf c k d }
-    ensures { (u : List ℕ) → SeededNext weights.now coords.now d c generator
-        (state_in m k d work.old u) (state_in m k d work.new u) result }
+#[tactic(auto, using(crate::proofs::Seeds::next_below))]
+fn seed_next(area: &mut Area, generator: u64, c: usize) -> u64
+    requires { c < area.old.shape.k }
+    ensures same { Same area.old area.new }
+    ensures seeded { SeededNext area.old.leaves.weights.now area.old.leaves.coords.now area.old.shape.d c generator
+        (state_of area.old) (state_of area.new) result }
 {
-    put_chances(work, weights, m, k, d);
-    let high = kmeans_layout::high_at(m, k, d);
-    let s = &work[..];
-    let p = pick::weighted_pick(&s[high..high + m], generator);
-    let i = p.index;
-    seed_center(work, coords, c, i, m, k, d);
-    lower_distances(work, coords, c, m, k, d);
+    put_chances(area);
+    let p = pick_leaf(area, generator);
+    seed_center(area, c, p.index);
+    lower_distances(area, c);
     p.generator
 }
 
 // The seeds of a run (spherical_pp); answers the generator after them.
-pub fn seed(
-    work: &mut [f64],
-    weights: &[f64],
-    coords: &[f64],
-    generator: u64,
-    m: usize,
-    k: usize,
-    d: usize,
-) -> u64
-    requires { Seeding (length work.old) (length weights.now) (length coords.now) m k d }
-    ensures { (u : List ℕ) → ((state_in m k d work.new u).centers
-        ≡ (seeds_of weights.now coords.now m k d generator).centers)
-        × (result ≡ (seeds_of weights.now coords.now m k d generator).generator) }
+#[tactic(auto, using(crate::proofs::Seeds::first_below, crate::proofs::Seeds::held_end))]
+pub fn seed(area: &mut Area, generator: u64) -> u64
+    ensures same { Same area.old area.new }
+    ensures seeds { let s = seeds_of area.old.leaves.weights.now area.old.leaves.coords.now area.old.shape.m
+        area.old.shape.k area.old.shape.d generator in
+        (area.new.centers.now ≡ s.centers) × (result ≡ s.generator) }
 {
-    let p = pick::weighted_pick(weights, generator);
-    let i = p.index;
-    seed_center(work, coords, 0, i, m, k, d);
-    first_distances(work, coords, m, k, d);
+    let p = pick::weighted_pick(area.leaves.weights, generator);
+    seed_center(area, 0, p.index);
+    first_distances(area);
     let mut g = p.generator;
-    for c in 1..k {
-        g = seed_next(work, weights, coords, g, c, m, k, d);
+    for c in 1..area.shape.k {
+        g = seed_next(area, g, c);
     }
     g
 }

@@ -1,27 +1,23 @@
--- What the functions that add the leaves up ask and promise. No definition of document 01 stands on this file.
-use Rattle.std.specs.Prelude.{◌≡◌, List, ℕ, ◌+◌, ◌*◌, ◌≤◌, ◌<◌, length, get_or, Float}
+-- What the functions that add the leaves up promise. No definition of document 01 stands on this file.
+use Rattle.std.specs.Prelude.{◌≡◌, ℕ, get_or}
 use Rattle.std.specs.Float.{nan}
 use Rattle.rows.specs.Rows.{row_of}
 use Rattle.kmeans_sums.specs.Sums.{add_leaf, count_one, sums_up_to, counts_up_to}
-use Rattle.kmeans_layout.specs.Areas.{state_in, sums_in, counts_in}
-
--- leaf i has a label below k, whose count is far from the end of a u32
-pub record Gains (workU32 : List ℕ) (weights : List Float) (i m k d : ℕ) : Type 0 where
-  pub below : i < m
-  pub row : i * d + d ≤ m * d
-  pub weights_long : length weights ≡ m
-  pub label_below : get_or workU32 i 0 < k
-  pub label_row : get_or workU32 i 0 * d + d ≤ k * d
-  pub count_small : get_or workU32 (m + get_or workU32 i 0) 0 ≤ 4096
+use Rattle.kmeans_layout.specs.Areas.{state_of, Same}
+use Rattle.kmeans_layout.specs.declared.Area.{Area}
 
 -- leaf i adds its row to the sum of its label, which counts it; the state stays
-pub record Gained (weights coords : List Float) (i m k d : ℕ) (w w' : List Float) (u u' : List ℕ) : Type 0 where
-  pub state : state_in m k d w' u' ≡ state_in m k d w u
-  pub sums : sums_in k d w'
-      ≡ add_leaf (sums_in k d w) d (get_or (state_in m k d w u).labels i 0) (get_or weights i nan) (row_of coords d i)
-  pub counts : counts_in m k u' ≡ count_one (counts_in m k u) (get_or (state_in m k d w u).labels i 0)
+pub record Gained (i : ℕ) (a a' : Area) : Type 0 where
+  pub same : Same a a'
+  pub state : state_of a' ≡ state_of a
+  pub sums : a'.sums.now
+      ≡ add_leaf a.sums.now a.shape.d (get_or a.labels.now i 0) (get_or a.leaves.weights.now i nan)
+      (row_of a.leaves.coords.now a.shape.d i)
+  pub counts : a'.counts.now ≡ count_one a.counts.now (get_or a.labels.now i 0)
 
-pub record Accumulated (weights coords : List Float) (m k d : ℕ) (w w' : List Float) (u u' : List ℕ) : Type 0 where
-  pub state : state_in m k d w' u' ≡ state_in m k d w u
-  pub sums : sums_in k d w' ≡ sums_up_to weights coords (state_in m k d w u).labels k d m
-  pub counts : counts_in m k u' ≡ counts_up_to (state_in m k d w u).labels k m
+pub record Accumulated (a a' : Area) : Type 0 where
+  pub same : Same a a'
+  pub state : state_of a' ≡ state_of a
+  pub sums : a'.sums.now
+      ≡ sums_up_to a.leaves.weights.now a.leaves.coords.now a.labels.now a.shape.k a.shape.d a.shape.m
+  pub counts : a'.counts.now ≡ counts_up_to a.labels.now a.shape.k a.shape.m

@@ -1,94 +1,91 @@
 // The sums and counts of the groups by the labels, and the cohesion (vmf.rs; document 01, 'Spherical k-means'), in the
-// work areas of a run: m leaves of d coordinates, k groups.
+// work area of a run.
 #![tactic(auto)]
 
-ghost use Rattle.std.specs.Prelude.{◌≡◌, ◌+◌, ◌*◌, ◌<◌, length};
-ghost use Rattle.kmeans_sums.specs.Sums.{norms_up_to, sums_up_to};
-ghost use Rattle.kmeans_sums.specs.Cohesion.{cohesion_of};
+ghost use Rattle.std.specs.Prelude.{◌≡◌, ◌*◌, ◌<◌, ◌≤◌, length, get_or, replicate};
 ghost use Rattle.float.specs.Arithmetic.{plus_zero, sum_from};
-ghost use Rattle.kmeans_layout.specs.Areas.{state_in, sums_in, Sized, Labelled, Area};
-ghost use Rattle.kmeans_sums.specs.Gains.{Gains, Gained, Accumulated};
+ghost use Rattle.rows.specs.Rows.{row_of};
+ghost use Rattle.vector.specs.Vectors.{norm_of};
+ghost use Rattle.kmeans_layout.specs.Areas.{state_of, Same, BesideSums};
+ghost use Rattle.kmeans_sums.specs.Sums.{norms_up_to, add_leaf, sums_up_to};
+ghost use Rattle.kmeans_sums.specs.Cohesion.{cohesion_of};
+ghost use Rattle.kmeans_sums.specs.Gains.{Gained, Accumulated};
+
+use kmeans_layout::Area;
+
+// The sum of group c gains w times a leaf.
+pub fn add_leaf(area: &mut Area, c: usize, w: f64, x: &[f64])
+    requires { (c < area.old.shape.k) × (length x.now ≡ area.old.shape.d) }
+    ensures beside { BesideSums area.old area.new }
+    ensures sums { area.new.sums.now ≡ add_leaf area.old.sums.now area.old.shape.d c w x.now }
+{
+    let d = area.shape.d;
+    let to = c * d;
+    vector::add_scaled(&mut area.sums[to..to + d], w, x);
+}
+
+// Every sum becomes nothing.
+pub fn clear_sums(area: &mut Area)
+    ensures beside { BesideSums area.old area.new }
+    ensures sums { area.new.sums.now ≡ replicate (area.old.shape.k * area.old.shape.d) plus_zero }
+{
+    rows::fill(area.sums, 0.0);
+}
+
+// The norm of the sum of group c.
+pub fn sum_norm(area: &Area, c: usize) -> f64
+    requires { c < area.now.shape.k }
+    ensures { result ≡ norm_of (row_of area.now.sums.now area.now.shape.d c) }
+{
+    let d = area.shape.d;
+    let at = c * d;
+    vector::norm(&area.sums[at..at + d])
+}
 
 // Leaf i adds its weighted row to the sum of its group, which counts it.
-fn gain(
-    work: &mut [f64],
-    work_u32: &mut [u32],
-    weights: &[f64],
-    coords: &[f64],
-    i: usize,
-    m: usize,
-    k: usize,
-    d: usize,
-)
-    requires sized { Sized (length work.old) (length work_u32.old) (length coords.now) m k d }
-    requires gains { Gains work_u32.old weights.now i m k d }
-    ensures { Gained weights.now coords.now i m k d
-        work.old work.new work_u32.old work_u32.new }
+fn gain(area: &mut Area, i: usize)
+    requires { (i < area.old.shape.m) × (get_or area.old.counts.now (get_or area.old.labels.now i 0) 0 ≤ 4096) }
+    ensures { Gained i area.old area.new }
 {
-    let kd = k * d;
-    let c = work_u32[i] as usize;
-    let to = kd + c * d;
+    let leaves = area.leaves;
+    let d = area.shape.d;
     let from = i * d;
-    vector::add_scaled(&mut work[to..to + d], weights[i], &coords[from..from + d]);
-    work_u32[m + c] = work_u32[m + c] + 1;
+    let c = area.labels[i] as usize;
+    add_leaf(area, c, leaves.weights[i], &leaves.coords[from..from + d]);
+    area.counts[c] = area.counts[c] + 1;
 }
 
 // The sums and counts of the groups, by the labels.
-pub fn accumulate(
-    work: &mut [f64],
-    work_u32: &mut [u32],
-    weights: &[f64],
-    coords: &[f64],
-    m: usize,
-    k: usize,
-    d: usize,
-)
-    requires sized { Sized (length work.old) (length work_u32.old) (length coords.now) m k d }
-    requires weights_len { (length weights.now ≡ m) × Labelled m k (state_in m k d work.old work_u32.old) }
-    ensures { Accumulated weights.now coords.now m k d
-        work.old work.new work_u32.old work_u32.new }
+pub fn accumulate(area: &mut Area)
+    ensures { Accumulated area.old area.new }
 {
-    let kd = k * d;
-    kmeans_layout::fill_at(work, kd, kd, 0.0);
-    rows::fill(&mut work_u32[m..m + k], 0);
-    for i in 0..m {
-        gain(work, work_u32, weights, coords, i, m, k, d);
+    rows::fill(area.counts, 0);
+    clear_sums(area);
+    for i in 0..area.shape.m {
+        gain(area, i);
     }
 }
 
-// The norms of the first k rows of the sums, added from +0.
-fn add_norms(work: &[f64], m: usize, k: usize, d: usize) -> f64
-    requires { Area (length work.now) m k d }
-    ensures { result ≡ sum_from plus_zero (norms_up_to (sums_in k d work.now) d k) }
+// The norms of the groups' sums, added from +0.
+fn add_norms(area: &Area) -> f64
+    ensures { result ≡ sum_from plus_zero (norms_up_to area.now.sums.now area.now.shape.d area.now.shape.k) }
 {
-    let kd = k * d;
     let mut total = 0.0;
-    for c in 0..k {
-        let at = kd + c * d;
-        total = total + vector::norm(&work[at..at + d]);
+    for c in 0..area.shape.k {
+        total = total + sum_norm(area, c);
     }
     total
 }
 
 // The cohesion of the labels. The sums are made anew.
-pub fn cohesion_of(
-    work: &mut [f64],
-    work_u32: &mut [u32],
-    weights: &[f64],
-    coords: &[f64],
-    m: usize,
-    k: usize,
-    d: usize,
-) -> f64
-    requires sized { Sized (length work.old) (length work_u32.old) (length coords.now) m k d }
-    requires weights_len { (length weights.now ≡ m) × Labelled m k (state_in m k d work.old work_u32.old) }
-    ensures { (result ≡ cohesion_of weights.now coords.now
-        (state_in m k d work.old work_u32.old).labels m k d)
-        × (state_in m k d work.new work_u32.new
-        ≡ state_in m k d work.old work_u32.old)
-        × (sums_in k d work.new ≡ sums_up_to weights.now coords.now
-        (state_in m k d work.old work_u32.old).labels k d m) }
+#[tactic(auto, unfolding(crate::specs::Cohesion::cohesion_of))]
+pub fn cohesion_of(area: &mut Area) -> f64
+    ensures same { (Same area.old area.new) × (state_of area.new ≡ state_of area.old) }
+    ensures cohesion { result ≡ cohesion_of area.old.leaves.weights.now area.old.leaves.coords.now area.old.labels.now
+        area.old.shape.m area.old.shape.k area.old.shape.d }
+    ensures sums { area.new.sums.now ≡ sums_up_to area.old.leaves.weights.now area.old.leaves.coords.now
+        area.old.labels.now area.old.shape.k area.old.shape.d area.old.shape.m }
 {
-    accumulate(work, work_u32, weights, coords, m, k, d);
-    add_norms(work, m, k, d)
+    accumulate(area);
+    add_norms(area)
 }

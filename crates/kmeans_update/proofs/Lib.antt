@@ -1,4 +1,3 @@
 pub mod Served
-pub mod Whole
 pub mod Updates
 pub mod Reseeds

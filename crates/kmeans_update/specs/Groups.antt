@@ -1,10 +1,11 @@
--- What the functions of the update ask and promise one another, group by group. No definition of document 01 stands on
+-- What the functions of the update promise one another, group by group. No definition of document 01 stands on
 -- this file.
-use Rattle.std.specs.Prelude.{◌≡◌, List, ℕ, ◌*◌, ◌<◌, get_or, set, Float}
+use Rattle.std.specs.Prelude.{◌≡◌, List, ℕ, ◌<◌, get_or, set, Float}
 use Rattle.rows.specs.Rows.{row_of}
 use Rattle.vector.specs.Vectors.{dot_of}
 use Rattle.kmeans_layout.specs.State.{State}
-use Rattle.kmeans_layout.specs.Areas.{sums_in, Area}
+use Rattle.kmeans_layout.specs.Areas.{Same}
+use Rattle.kmeans_layout.specs.declared.Area.{Area}
 use Rattle.kmeans_update.specs.Update.{put_served, served_up_to, move_center}
 
 -- leaf i is served by the centre of its label, and so are the first n leaves
@@ -20,11 +21,12 @@ module _ (coords : List Float) (d : ℕ) where
 abbrev pub keep_center : (d c : ℕ) → State → State
 keep_center d c s = move_center d c (row_of s.centers d c) s
 
--- the rows of the sums after row c are as they were
-abbrev pub LaterRows : (c k d : ℕ) → List Float → List Float → Type 0
-LaterRows c k d w w' = (e : ℕ) → c < e → e < k → row_of (sums_in k d w') d e ≡ row_of (sums_in k d w) d e
+-- what moves or keeps centres or serves leaves leaves alone
+abbrev pub Around : (a a' : Area) → Type 0
+Around a a' = Same a a' × (a'.sums.now ≡ a.sums.now) × (a'.counts.now ≡ a.counts.now)
 
--- the f64 area and the coordinates
-pub record Leafed (work coords m k d : ℕ) : Type 0 where
-  pub area : Area work m k d
-  pub coords_long : coords ≡ m * d
+-- what the update of group c leaves alone: of the sums the rows after its own
+pub record Beside (c : ℕ) (a a' : Area) : Type 0 where
+  pub same : Same a a'
+  pub counts : a'.counts.now ≡ a.counts.now
+  pub rows : (e : ℕ) → c < e → e < a.shape.k → row_of a'.sums.now a.shape.d e ≡ row_of a.sums.now a.shape.d e

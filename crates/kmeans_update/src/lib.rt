@@ -1,202 +1,215 @@
 // The update of a round of spherical k-means: new centres, their drift, and reseeds of empty groups (vmf.rs; document
-// 01, 'Spherical k-means'), in the work areas of a run: m leaves of d coordinates, k groups.
+// 01, 'Spherical k-means'), in the work area of a run.
 #![tactic(auto)]
 
-ghost use Rattle.std.specs.Prelude.{◌≡◌, List, ℕ, ◌+◌, ◌*◌, ◌<◌, ◌≤◌, length, get_or};
-ghost use Rattle.rows.specs.Rows.{part, row_of};
+ghost use Rattle.std.specs.Prelude.{◌≡◌, ◌<◌, ◌≤◌, ◌+◌, length, get_or};
+ghost use Rattle.rows.specs.Rows.{row_of, part, put_part};
+ghost use Rattle.vector.specs.Vectors.{dot_of};
+ghost use Rattle.pick.specs.Places.{argmin_of};
 ghost use Rattle.kmeans_bounds.specs.Shifts.{cosine};
+ghost use Rattle.kmeans_layout.specs.Areas.{state_of, Same};
 ghost use Rattle.kmeans_update.specs.Update.{empty_up_to, move_center, reseeded, recentered};
 ghost use Rattle.kmeans_update.specs.Update.{fresh_update, update_group, update_up_to, update_of};
-ghost use Rattle.pick.specs.Places.{argmin_of};
-ghost use Rattle.vector.specs.Vectors.{dot_of};
-ghost use Rattle.kmeans_layout.specs.Areas.{state_in, sums_in, counts_in, Sized, LeafOf, GroupOf, Labelled, Area};
-ghost use Rattle.kmeans_update.specs.Groups.{serve_leaf, serve_leaves, keep_center, LaterRows, Leafed};
+ghost use Rattle.kmeans_update.specs.Groups.{serve_leaf, serve_leaves, keep_center, Around, Beside};
+
+use kmeans_layout::Area;
 
 // ---- how well the leaves are served
 
 // Whether a group has no leaf.
-fn has_empty(work_u32: &[u32], m: usize, k: usize) -> bool
-    requires { (m ≤ 4096) × (k ≤ 64) × (m + k ≤ length work_u32.now) }
-    ensures { result ≡ empty_up_to (counts_in m k work_u32.now) k }
+#[tactic(auto, using(crate::proofs::Served::empty_any))]
+fn has_empty(area: &Area) -> bool
+    ensures { result ≡ empty_up_to area.now.counts.now area.now.shape.k }
 {
-    work_u32[m..m + k].contains(&0)
+    area.counts.contains(&0)
+}
+
+// How well the centre of its label serves leaf i.
+#[tactic(auto, using(rows::proofs::Rows::row_within))]
+fn served_of(area: &Area, i: usize) -> f64
+    requires { i < area.now.shape.m }
+    ensures { result ≡ dot_of (row_of area.now.leaves.coords.now area.now.shape.d i)
+        (row_of area.now.centers.now area.now.shape.d (get_or area.now.labels.now i 0)) }
+{
+    let d = area.shape.d;
+    let c = area.labels[i] as usize;
+    let from = i * d;
+    let to = c * d;
+    vector::dot(
+        &area.leaves.coords[from..from + d],
+        &area.centers[to..to + d],
+    )
 }
 
 // Leaf i is served as well as the centre of its label serves it.
-fn refresh_leaf(
-    work: &mut [f64],
-    work_u32: &[u32],
-    coords: &[f64],
-    i: usize,
-    m: usize,
-    k: usize,
-    d: usize,
-)
-    requires sized { Sized (length work.old) (length work_u32.now) (length coords.now) m k d }
-    requires leaf_of { (LeafOf i m d) × GroupOf (get_or work_u32.now i 0) k d }
-    ensures work_u32_after { state_in m k d work.new work_u32.now
-        ≡ serve_leaf coords.now d i (state_in m k d work.old work_u32.now) }
-    ensures work_unchanged { sums_in k d work.new ≡ sums_in k d work.old }
+#[tactic(auto, unfolding(crate::specs::Update::put_served))]
+fn refresh_leaf(area: &mut Area, i: usize)
+    requires { i < area.old.shape.m }
+    ensures around { Around area.old area.new }
+    ensures state { state_of area.new ≡ serve_leaf area.old.leaves.coords.now area.old.shape.d i (state_of area.old) }
 {
-    let served = kmeans_layout::served_at(m, k, d);
-    let c = work_u32[i] as usize;
-    let at = i * d;
-    let row = c * d;
-    let s = &work[..];
-    let v = vector::dot(&coords[at..at + d], &s[row..row + d]);
-    work[served + i] = v;
+    area.served[i] = served_of(area, i);
 }
 
 // Every leaf is served as well as the centre of its label serves it.
-fn refresh(work: &mut [f64], work_u32: &[u32], coords: &[f64], m: usize, k: usize, d: usize)
-    requires sized { Sized (length work.old) (length work_u32.now) (length coords.now) m k d }
-    requires labelled { Labelled m k (state_in m k d work.old work_u32.now) }
-    ensures work_u32_after { state_in m k d work.new work_u32.now
-        ≡ serve_leaves coords.now d m (state_in m k d work.old work_u32.now) }
-    ensures work_unchanged { sums_in k d work.new ≡ sums_in k d work.old }
+#[tactic(auto, using(crate::proofs::Served::refresh_start, crate::proofs::Served::serve_end))]
+fn refresh(area: &mut Area)
+    ensures around { Around area.old area.new }
+    ensures state { state_of area.new
+        ≡ serve_leaves area.old.leaves.coords.now area.old.shape.d area.old.shape.m (state_of area.old) }
 {
-    for i in 0..m {
-        refresh_leaf(work, work_u32, coords, i, m, k, d);
+    for i in 0..area.shape.m {
+        refresh_leaf(area, i);
     }
 }
 
 // ---- new centres
 
-// How far a row turns into another one of the same array: their dot, held to [-1, 1].
-fn turned(w: &[f64], at: usize, to: usize, d: usize) -> f64
-    requires { (at + d ≤ length w.now) × (to + d ≤ length w.now) }
-    ensures { result ≡ cosine (dot_of (part w.now at d) (part w.now to d)) }
+// How far a row turns into another one: their dot, held to [-1, 1].
+fn turned(row: &[f64], to: &[f64]) -> f64
+    requires { length to.now ≡ length row.now }
+    ensures { result ≡ cosine (dot_of row.now to.now) }
 {
-    float::clamp(vector::dot(&w[at..at + d], &w[to..to + d]), -1.0, 1.0)
+    float::clamp(vector::dot(row, to), -1.0, 1.0)
+}
+
+// How far centre c turns into the row that stands in its place among the sums.
+fn turn_of(area: &Area, c: usize) -> f64
+    requires { c < area.now.shape.k }
+    ensures { result ≡ cosine (dot_of (row_of area.now.centers.now area.now.shape.d c)
+        (row_of area.now.sums.now area.now.shape.d c)) }
+{
+    let d = area.shape.d;
+    let at = c * d;
+    turned(&area.centers[at..at + d], &area.sums[at..at + d])
+}
+
+// The d elements of a list from place `at` on, copied to their place in another. `from` is only read: it is lent as
+// `&mut` so that what holds it knows that it stays.
+fn copy_row(to: &mut [f64], from: &mut [f64], at: usize, d: usize)
+    requires { (at + d ≤ length to.old) × (length from.old ≡ length to.old) }
+    ensures { (to.new ≡ put_part to.old at d (part from.old at d)) × (from.new ≡ from.old) }
+{
+    rows::copy(&mut to[at..at + d], &from[at..at + d]);
 }
 
 // Centre c becomes the row that stands in its place among the sums; its drift is taken against the old row first.
-fn move_center(work: &mut [f64], c: usize, m: usize, k: usize, d: usize)
-    requires area { Area (length work.old) m k d }
-    requires group_of { GroupOf c k d }
-    ensures by_index { (u : List ℕ) → state_in m k d work.new u
-        ≡ move_center d c (row_of (sums_in k d work.old) d c) (state_in m k d work.old u) }
-    ensures work_unchanged { sums_in k d work.new ≡ sums_in k d work.old }
+#[tactic(auto, unfolding(crate::specs::Update::move_center))]
+fn move_center(area: &mut Area, c: usize)
+    requires { c < area.old.shape.k }
+    ensures around { Around area.old area.new }
+    ensures state { state_of area.new ≡ move_center area.old.shape.d c (row_of area.old.sums.now area.old.shape.d c)
+        (state_of area.old) }
 {
-    let kd = k * d;
-    let to = c * d;
-    let from = kd + to;
-    let drift = kmeans_layout::drift_at(m, k, d);
-    let v = turned(work, to, from, d);
-    work[drift + c] = v;
-    rows::copy_within(work, from, to, d);
+    let d = area.shape.d;
+    let at = c * d;
+    area.drift[c] = turn_of(area, c);
+    copy_row(area.centers, area.sums, at, d);
+}
+
+// How far centre c turns where it stays.
+fn turn_kept(area: &Area, c: usize) -> f64
+    requires { c < area.now.shape.k }
+    ensures { result ≡ cosine (dot_of (row_of area.now.centers.now area.now.shape.d c)
+        (row_of area.now.centers.now area.now.shape.d c)) }
+{
+    let d = area.shape.d;
+    let at = c * d;
+    let row = &area.centers[at..at + d];
+    turned(row, row)
 }
 
 // Centre c stays; its drift is that of a centre which did not turn.
-fn keep_center(work: &mut [f64], c: usize, m: usize, k: usize, d: usize)
-    requires area { Area (length work.old) m k d }
-    requires group_of { GroupOf c k d }
-    ensures by_index { (u : List ℕ) → state_in m k d work.new u
-        ≡ keep_center d c (state_in m k d work.old u) }
-    ensures work_unchanged { sums_in k d work.new ≡ sums_in k d work.old }
+#[tactic(auto, using(rows::proofs::Rows::put_same), unfolding(crate::specs::Update::move_center))]
+fn keep_center(area: &mut Area, c: usize)
+    requires { c < area.old.shape.k }
+    ensures around { Around area.old area.new }
+    ensures state { state_of area.new ≡ keep_center area.old.shape.d c (state_of area.old) }
 {
-    let at = c * d;
-    let drift = kmeans_layout::drift_at(m, k, d);
-    let v = turned(work, at, at, d);
-    work[drift + c] = v;
+    area.drift[c] = turn_kept(area, c);
 }
 
 // Centre c becomes its sum over the sum's norm, where that is above 0.
-fn recenter(work: &mut [f64], c: usize, m: usize, k: usize, d: usize)
-    requires area { Area (length work.old) m k d }
-    requires group_of { GroupOf c k d }
-    ensures by_index { (u : List ℕ) → state_in m k d work.new u
-        ≡ recentered d (sums_in k d work.old) c (state_in m k d work.old u) }
-    ensures later_rows { LaterRows c k d work.old work.new }
+#[tactic(auto, using(crate::proofs::Updates::row_after))]
+fn recenter(area: &mut Area, c: usize)
+    requires { c < area.old.shape.k }
+    ensures beside { Beside c area.old area.new }
+    ensures state { state_of area.new ≡ recentered area.old.shape.d area.old.sums.now c (state_of area.old) }
 {
-    let kd = k * d;
-    let from = kd + c * d;
-    let s = &work[..];
-    let n = vector::norm(&s[from..from + d]);
+    let n = kmeans_sums::sum_norm(area, c);
     if 0.0 < n {
-        vector::divide_by(&mut work[from..from + d], n);
-        move_center(work, c, m, k, d);
+        let d = area.shape.d;
+        let at = c * d;
+        vector::divide_by(&mut area.sums[at..at + d], n);
+        move_center(area, c);
     } else {
-        keep_center(work, c, m, k, d);
+        keep_center(area, c);
     }
 }
 
-// The empty group c is reseeded from the worst-served leaf, which no other group of this update picks.
-fn reseed(work: &mut [f64], coords: &[f64], c: usize, m: usize, k: usize, d: usize)
-    requires leafed { Leafed (length work.old) (length coords.now) m k d }
-    requires group_of { GroupOf c k d }
-    ensures by_index { (u : List ℕ) → state_in m k d work.new u
-        ≡ reseeded coords.now d c (argmin_of (state_in m k d work.old u).served)
-        (state_in m k d work.old u) }
-    ensures later_rows { LaterRows c k d work.old work.new }
+// The worst-served leaf.
+#[tactic(auto, using(pick::proofs::Places::argmin_below))]
+fn worst(area: &Area) -> usize
+    ensures { (result ≡ argmin_of area.now.served.now) × (result < area.now.shape.m) }
 {
-    let served = kmeans_layout::served_at(m, k, d);
-    let s = &work[..];
-    let worst = pick::argmin(&s[served..served + m]);
-    let row = worst * d;
-    let kd = k * d;
-    let from = kd + c * d;
-    vector::unit(&mut work[from..from + d], &coords[row..row + d]);
-    work[served + worst] = 1.0 / 0.0;
-    move_center(work, c, m, k, d);
+    pick::argmin(area.served)
+}
+
+// The empty group c is reseeded from the worst-served leaf, which no other group of this update picks.
+#[tactic(auto, using(crate::proofs::Updates::row_after), unfolding(crate::specs::Update::put_served))]
+fn reseed(area: &mut Area, c: usize)
+    requires { c < area.old.shape.k }
+    ensures beside { Beside c area.old area.new }
+    ensures state { state_of area.new ≡ reseeded area.old.leaves.coords.now area.old.shape.d c
+        (argmin_of area.old.served.now) (state_of area.old) }
+{
+    let d = area.shape.d;
+    let worst = worst(area);
+    let from = worst * d;
+    let to = c * d;
+    vector::unit(
+        &mut area.sums[to..to + d],
+        &area.leaves.coords[from..from + d],
+    );
+    area.served[worst] = 1.0 / 0.0;
+    move_center(area, c);
 }
 
 // Group c: reseeded where it is empty, else its centre anew.
-fn update_group(
-    work: &mut [f64],
-    work_u32: &[u32],
-    coords: &[f64],
-    c: usize,
-    m: usize,
-    k: usize,
-    d: usize,
-)
-    requires sized { Sized (length work.old) (length work_u32.now) (length coords.now) m k d }
-    requires group_of { GroupOf c k d }
-    ensures work_u32_after { state_in m k d work.new work_u32.now
-        ≡ (update_group coords.now d (sums_in k d work.old)
-        (counts_in m k work_u32.now) c
-        (fresh_update (state_in m k d work.old work_u32.now))).state }
-    ensures later_rows { LaterRows c k d work.old work.new }
+fn update_group(area: &mut Area, c: usize)
+    requires { c < area.old.shape.k }
+    ensures beside { Beside c area.old area.new }
+    ensures state { state_of area.new ≡ (update_group area.old.leaves.coords.now area.old.shape.d area.old.sums.now
+        area.old.counts.now c (fresh_update (state_of area.old))).state }
 {
-    if work_u32[m + c] == 0 {
-        reseed(work, coords, c, m, k, d);
+    if area.counts[c] == 0 {
+        reseed(area, c);
     } else {
-        recenter(work, c, m, k, d);
+        recenter(area, c);
     }
 }
 
 // Every group's centre anew.
-fn update_groups(work: &mut [f64], work_u32: &[u32], coords: &[f64], m: usize, k: usize, d: usize)
-    requires { Sized (length work.old) (length work_u32.now) (length coords.now) m k d }
-    ensures { state_in m k d work.new work_u32.now
-        ≡ (update_up_to coords.now d (sums_in k d work.old) (counts_in m k work_u32.now)
-        (state_in m k d work.old work_u32.now) k).state }
+#[tactic(auto, using(crate::proofs::Updates::groups_start))]
+fn update_groups(area: &mut Area)
+    ensures same { Same area.old area.new }
+    ensures state { state_of area.new ≡ (update_up_to area.old.leaves.coords.now area.old.shape.d area.old.sums.now
+        area.old.counts.now (state_of area.old) area.old.shape.k).state }
 {
-    for c in 0..k {
-        update_group(work, work_u32, coords, c, m, k, d);
+    for c in 0..area.shape.k {
+        update_group(area, c);
     }
 }
 
 // The update: sums and counts, served refreshed where a group is empty, and new centres.
-pub fn update(
-    work: &mut [f64],
-    work_u32: &mut [u32],
-    weights: &[f64],
-    coords: &[f64],
-    m: usize,
-    k: usize,
-    d: usize,
-)
-    requires sized { Sized (length work.old) (length work_u32.old) (length coords.now) m k d }
-    requires weights_len { (length weights.now ≡ m) × Labelled m k (state_in m k d work.old work_u32.old) }
-    ensures { state_in m k d work.new work_u32.new
-        ≡ (update_of weights.now coords.now m k d
-        (state_in m k d work.old work_u32.old)).state }
+pub fn update(area: &mut Area)
+    ensures same { Same area.old area.new }
+    ensures state { state_of area.new ≡ (update_of area.old.leaves.weights.now area.old.leaves.coords.now
+        area.old.shape.m area.old.shape.k area.old.shape.d (state_of area.old)).state }
 {
-    kmeans_sums::accumulate(work, work_u32, weights, coords, m, k, d);
-    if has_empty(work_u32, m, k) {
-        refresh(work, work_u32, coords, m, k, d);
+    kmeans_sums::accumulate(area);
+    if has_empty(area) {
+        refresh(area);
     }
-    update_groups(work, work_u32, coords, m, k, d);
+    update_groups(area);
 }

@@ -1,22 +1,16 @@
 -- The automatic fit in arrays of zeros is the fit of the definition. By putting the arrays in their places. Assumes nothing.
-use mathlib.Core.Path.{◌≡◌, refl, sym, ap, ap₂, subst, ◌∙◌}
-use mathlib.Core.List.{List, ◌++◌}
-use Prim.Native.Nat.{ℕ, zero, suc, ◌+◌, ◌*◌, ◌≤◌}
-use native.Mathlib.Omega.{arith}
-use lib.ListN.{length, take, drop, replicate}
-use lib.Seq.{length-take-le, take_at}
+use mathlib.Core.Path.{◌≡◌, ap, subst}
+use mathlib.Core.List.{List}
+use Prim.Native.Nat.{ℕ, ◌*◌}
+use lib.ListN.{replicate}
 use lib.Ieee.{Float}
 use Rattle.float.specs.Arithmetic.{plus_zero}
-use Rattle.rows.specs.Tabulate.{tabulate}
-use Rattle.rows.proofs.Tabulate.{tabulate_length}
 use Rattle.mixture_outputs.specs.Outputs.{arrays}
 use Rattle.auto.specs.Outcome.{Outcome, outcome}
 use Rattle.auto.specs.Best.{AnswerKeepsBest}
-use Rattle.std.specs.Prelude.{Result, Ok, Err, ⊤}
-use Rattle.limits.specs.declared.Refusal.{Refusal}
-use Rattle.auto.specs.declared.NotChosen.TheVariants.{Refused}
-use Rattle.leaf_file.specs.LeafFile.{Leaves, whole_at, f64s_at, leaves_of, leaves_in, file_refusal, settings, room}
-use Rattle.leaf_file.specs.LeafFile.{work_room, work_u32_room, leaves_fit, LeavesKeepBest, FileFit, file_fit_by, file_fit}
+use Rattle.std.specs.Prelude.{Ok}
+use Rattle.leaf_file.specs.LeafFile.{Leaves, settings, room}
+use Rattle.leaf_file.specs.LeafFile.{work_room, work_u32_room, leaves_fit, LeavesKeepBest, FileFit, file_fit_by}
 
 module _ (weights coords : List Float) (d : ℕ) (labels : List ℕ) where
   abbrev leaves : Leaves

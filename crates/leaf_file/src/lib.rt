@@ -2,13 +2,13 @@
 // fitted by the automatic fit, and listed as text.
 #![tactic(auto)]
 
-ghost use Rattle.std.specs.Prelude.{◌≡◌, [], ◌∷◌, ◌++◌, ◌+◌, ◌*◌, ◌≤◌, ◌<◌, length, drop, Ok};
+ghost use Rattle.std.specs.Prelude.{◌≡◌, ◌++◌, ◌+◌, ◌*◌, ◌≤◌, ◌<◌, length, drop, Ok};
 ghost use Rattle.leaf_file.specs.LeafFile.{whole_at, f64_at, f64s_at, refusal_by, file_refusal, leaves_of, leaves_in};
 ghost use Rattle.leaf_file.specs.LeafFile.{header_of};
 ghost use Rattle.leaf_file.specs.LeafFile.{LeavesKeepBest, FileFit, file_fit_by, file_fit};
-ghost use Rattle.leaf_file.specs.Listing.{decimal_in, number_line, shop_line, shop_lines, groups_text, refused_text};
+ghost use Rattle.leaf_file.specs.Listing.{decimal, number_line, shop_line, shop_lines, groups_text};
 ghost use Rattle.leaf_file.specs.Listing.{text_of, listing};
-ghost use Rattle.leaf_file.specs.Texts.{Sized, Put, Counted};
+ghost use Rattle.leaf_file.specs.Texts.{Sized, Grown, Counted};
 
 use auto::{Chosen, NotChosen};
 use limits::{Refusal, need};
@@ -88,7 +88,7 @@ fn header_of(bytes: &[u8]) -> Result<Header, Refusal>
 
 // ---- the fit
 
-// The automatic fit of leaves: k 1 to 4, 100 rounds, seed 7, Free.
+// The automatic fit of leaves: k 1 to 4, 100 rounds, seed 7, Free. The two slices come singly, as the entry takes them.
 fn fit_leaves(
     weights: &[f64],
     coords: &[f64],
@@ -162,104 +162,87 @@ pub fn fit_file(bytes: &[u8], labels: &mut [u32]) -> Result<Chosen, NotChosen>
 
 // ---- the listing's text
 
-// Puts a byte at place `at`, and answers the place after it.
-fn put_byte(out: &mut [u8], at: usize, b: u8) -> usize
-    requires { at < length out.old }
-    ensures { Put (b ∷ []) out.old out.new at result }
-{
-    out[at] = b;
-    at + 1
+// A text on its way: it stands at the start of `out`, and `at` is the place after it.
+#[derive(Drop)]
+struct Text<'a> {
+    out: &'a mut [u8],
+    at: usize,
 }
 
-// Puts a word.
-fn put_word(out: &mut [u8], at: usize, word: &[u8]) -> usize
-    requires { at + length word.now ≤ length out.old }
-    ensures { Put word.now out.old out.new at result }
-{
-    let end = at + word.len();
-    out[at..end].copy_from_slice(word);
-    end
-}
-
-// Puts a number in decimal, of at most `places` digits: those before the last, and then the last.
-fn put_decimal(out: &mut [u8], at: usize, n: u64, places: usize) -> usize
-    requires { at + places ≤ length out.old }
-    ensures put { Put (decimal_in places n) out.old out.new at result }
-    ensures upper_bound { result ≤ at + places }
-{
-    if places == 0 {
-        at
-    } else if n < 10 {
-        put_byte(out, at, 48 + n as u8)
-    } else {
-        let end = put_decimal(out, at, n / 10, places - 1);
-        put_byte(out, end, 48 + (n % 10) as u8)
+impl Text<'_> {
+    // A word.
+    fn word(&mut self, word: &[u8])
+        requires { self.old.at + length word.now ≤ length self.old.out.now }
+        ensures { Grown word.now self.old self.new }
+    {
+        let end = self.at + word.len();
+        self.out[self.at..end].copy_from_slice(word);
+        self.at = end;
     }
-}
 
-// Puts a word and a number as a line.
-fn put_number(out: &mut [u8], at: usize, word: &[u8], n: u64) -> usize
-    requires { at + length word.now + 21 ≤ length out.old }
-    ensures put { Put (number_line word.now n) out.old out.new at result }
-    ensures upper_bound { result ≤ at + length word.now + 21 }
-{
-    let a = put_word(out, at, word);
-    let b = put_decimal(out, a, n, 20);
-    put_byte(out, b, 10)
-}
-
-// Puts the line of shop i.
-fn put_shop(out: &mut [u8], at: usize, i: usize, label: u32) -> usize
-    requires { at + 42 ≤ length out.old }
-    ensures put { Put (shop_line i label) out.old out.new at result }
-    ensures upper_bound { result ≤ at + 42 }
-{
-    let a = put_decimal(out, at, i as u64, 20);
-    let b = put_byte(out, a, 32);
-    let c = put_decimal(out, b, label as u64, 20);
-    put_byte(out, c, 10)
-}
-
-// Puts a line for each shop.
-fn put_shops(out: &mut [u8], at: usize, labels: &[u32]) -> usize
-    requires { at + 42 * length labels.now ≤ length out.old }
-    ensures { Put (shop_lines labels.now (length labels.now)) out.old
-        out.new at result }
-{
-    let mut end = at;
-    for (i, label) in labels.iter().enumerate() {
-        end = put_shop(out, end, i, *label);
+    // A number in decimal.
+    fn decimal(&mut self, n: u64)
+        requires { self.old.at + 20 ≤ length self.old.out.now }
+        ensures grown { Grown (decimal n) self.old self.new }
+        ensures upper_bound { self.new.at ≤ self.old.at + 20 }
+    {
+        let mut digits = itoa::Buffer::new();
+        self.word(digits.format(n).as_bytes());
     }
-    end
-}
 
-// Puts chosen k, made, saved and the shops.
-fn put_groups(out: &mut [u8], k: usize, counts: counts::Counts, labels: &[u32]) -> usize
-    requires { 81 + 42 * length labels.now ≤ length out.old }
-    ensures { Put (groups_text k counts labels.now) out.old out.new 0 result }
-{
-    let a = put_number(out, 0, b"groups ", k as u64);
-    let b = put_number(out, a, b"made ", counts.made);
-    let c = put_number(out, b, b"saved ", counts.saved);
-    put_shops(out, c, labels)
-}
+    // A word and a number as a line.
+    fn number(&mut self, word: &[u8], n: u64)
+        requires { self.old.at + length word.now + 21 ≤ length self.old.out.now }
+        ensures grown { Grown (number_line word.now n) self.old self.new }
+        ensures upper_bound { self.new.at ≤ self.old.at + length word.now + 21 }
+    {
+        self.word(word);
+        self.decimal(n);
+        self.word(b"\n");
+    }
 
-// Puts a refusal and its number alone.
-fn put_refused(out: &mut [u8], number: u32) -> usize
-    requires { 29 ≤ length out.old }
-    ensures { Put (refused_text number) out.old out.new 0 result }
-{
-    put_number(out, 0, b"refused ", number as u64)
-}
+    // The line of shop i.
+    fn shop(&mut self, i: usize, label: u32)
+        requires { self.old.at + 42 ≤ length self.old.out.now }
+        ensures grown { Grown (shop_line i label) self.old self.new }
+        ensures upper_bound { self.new.at ≤ self.old.at + 42 }
+    {
+        self.decimal(i as u64);
+        self.word(b" ");
+        self.decimal(label as u64);
+        self.word(b"\n");
+    }
 
-// Puts what an answer comes to, with the labels of the shops.
-fn put_answer(out: &mut [u8], r: Result<Chosen, NotChosen>, labels: &[u32]) -> usize
-    requires { 81 + 42 * length labels.now ≤ length out.old }
-    ensures { Put (text_of r labels.now) out.old out.new 0 result }
-{
-    match r {
-        Ok(c) => put_groups(out, c.k, c.counts, labels),
-        Err(e) => put_refused(out, u32::from(e)),
+    // A line for each shop.
+    fn shops(&mut self, labels: &[u32])
+        requires { self.old.at + 42 * length labels.now ≤ length self.old.out.now }
+        ensures { Grown (shop_lines labels.now (length labels.now)) self.old self.new }
+    {
+        for (i, label) in labels.iter().enumerate() {
+            self.shop(i, *label);
+        }
+    }
+
+    // Chosen k, made, saved and the shops.
+    fn groups(&mut self, k: usize, counts: counts::Counts, labels: &[u32])
+        requires { self.old.at + 81 + 42 * length labels.now ≤ length self.old.out.now }
+        ensures { Grown (groups_text k counts labels.now) self.old self.new }
+    {
+        self.number(b"groups ", k as u64);
+        self.number(b"made ", counts.made);
+        self.number(b"saved ", counts.saved);
+        self.shops(labels);
+    }
+
+    // What an answer comes to, with the labels of the shops; of a refusal its number alone.
+    fn answer(&mut self, r: Result<Chosen, NotChosen>, labels: &[u32])
+        requires { self.old.at + 81 + 42 * length labels.now ≤ length self.old.out.now }
+        ensures { Grown (text_of r labels.now) self.old self.new }
+    {
+        match r {
+            Ok(c) => self.groups(c.k, c.counts, labels),
+            Err(e) => self.number(b"refused ", u32::from(e) as u64),
+        }
     }
 }
 
@@ -282,5 +265,7 @@ pub fn list_file(bytes: &[u8], out: &mut [u8; 4096]) -> usize
     let mut labels = [0u32; LEAVES];
     let r = fit_file(bytes, &mut labels);
     let m = shops(bytes);
-    put_answer(out, r, &labels[..m])
+    let mut text = Text { out, at: 0 };
+    text.answer(r, &labels[..m]);
+    text.at
 }

@@ -5,6 +5,7 @@ ghost use Rattle.std.specs.Prelude.{◌≡◌, ◌≤◌, Ok};
 ghost use Rattle.limits.specs.Limits.{within, weight_ok, coordinate_ok, every, leaves_refusal};
 ghost use Rattle.limits.specs.Limits.{sizes_ok, groups_ok, work_ok};
 ghost use Rattle.limits.specs.Refusals.{number_of, need};
+ghost use Rattle.limits.specs.Sizes.{Sizes};
 
 // The greatest numbers of leaves, of coordinates of a leaf, of groups, of rounds and of restarts; the greatest weight,
 // and how far a coordinate may be from 0.
@@ -21,6 +22,22 @@ pub const MOST_RESTARTS: usize = 64;
 const MOST_WEIGHT: f64 = 1099511627776.0;
 
 const FARTHEST: f64 = 2.0;
+
+// The leaves: m weights, and the coordinates row by row.
+#[derive(Clone, Copy)]
+pub struct Leaves<'a> {
+    pub weights: &'a [f64],
+    pub coords: &'a [f64],
+}
+
+// The sizes of a run, within the limits: m leaves of d coordinates, k groups.
+#[derive(Clone, Copy)]
+pub struct Shape {
+    pub m: usize,
+    pub k: usize,
+    pub d: usize,
+    ghost sizes: { Sizes m k d },
+}
 
 // What an entry refuses, each with its number.
 #[derive(Clone, Copy, Debug, PartialEq, Eq)]
@@ -104,11 +121,11 @@ pub fn coordinates_ok(xs: &[f64]) -> bool
 }
 
 // A bad weight is refused, then a bad coordinate.
-pub fn check_leaves(weights: &[f64], coords: &[f64]) -> Result<(), Refusal>
-    ensures { result ≡ leaves_refusal weights.now coords.now }
+pub fn check_leaves(leaves: Leaves) -> Result<(), Refusal>
+    ensures { result ≡ leaves_refusal leaves.entry.weights.now leaves.entry.coords.now }
 {
-    need(weights_ok(weights), Refusal::Weight)?;
-    need(coordinates_ok(coords), Refusal::Coordinate)
+    need(weights_ok(leaves.weights), Refusal::Weight)?;
+    need(coordinates_ok(leaves.coords), Refusal::Coordinate)
 }
 
 // m and d within their limits, and m * d coordinates.

@@ -8,7 +8,6 @@ ghost use Rattle.std.specs.Float.{binary64};
 ghost use Rattle.std.specs.Float.Ieee.{add};
 ghost use Rattle.float.specs.Arithmetic.{max_of};
 ghost use Rattle.logarithm.specs.Logarithm.{ln_of};
-ghost use Rattle.bessel.specs.Concentration.{Dimension};
 ghost use Rattle.bessel.specs.Start.{StartOf};
 ghost use Rattle.mixture_kappa.specs.Kappas.{parameters_of};
 ghost use Rattle.mixture_kappa.specs.Groups.{weight_floor, log_norm_of};
@@ -45,14 +44,6 @@ pub fn log_norm_from(kappa: f64, d: usize, start: f64) -> f64
     ensures { result ≡ log_norm_of d kappa }
 {
     bessel::log_vmf_norm_from(d, float::max(kappa, 1e-8), start)
-}
-
-// The log normalizer of a concentration.
-pub fn log_norm(kappa: f64, d: usize) -> f64
-    requires { Dimension d }
-    ensures { result ≡ log_norm_of d kappa }
-{
-    log_norm_from(kappa, d, gamma_table::ln_gamma_half(d))
 }
 
 // The log coefficient of a group, ln weight + log normalizer; `norm` is the log normalizer.

@@ -1,13 +1,12 @@
--- What fills the outputs: a list written place by place with f 0, f 1, ..; a part of an area as the code cuts it; the logw of
--- a group by reads of the area. By the laws of the regions. Assumes nothing.
-use mathlib.Core.Path.{◌≡◌, ap, ap₂, ◌∙◌}
+-- What fills the outputs: a list written place by place with f 0, f 1, ..; a part of a list as the code cuts it. Assumes nothing.
+use mathlib.Core.Path.{◌≡◌, ap, ◌∙◌}
 use mathlib.Core.List.{List, [], ◌∷◌, ◌++◌}
 use Prim.Native.Nat.{ℕ, ◌+◌, ◌-◌, ◌≤◌, ◌<◌}
 use native.Mathlib.Numerals.{add-one}
 use native.Mathlib.Omega.{arith}
-use lib.ListN.{length, get_or, take, set}
+use lib.ListN.{length, take, set}
 use lib.Seq.{take-suc-set}
-use lib.Ieee.{Float, nan, binary64, add}
+use lib.Ieee.{Float}
 use Rattle.rows.specs.Rows.{part}
 use Rattle.rows.specs.Tabulate.{tabulate}
 use Rattle.pick.specs.Places.{argmax_of}
@@ -15,10 +14,6 @@ use Rattle.rows.proofs.Rows.{length_part, part_cut}
 use Rattle.rows.proofs.Fills.{take_end}
 use Rattle.rows.proofs.Tabulate.{tabulate_turn}
 use Rattle.pick.proofs.Places.{argmax_below}
-use Rattle.mixture_kappa.specs.Groups.{log_norm_of}
-use Rattle.mixture_run.specs.Fits.{ln_weight, logw_at}
-use Rattle.mixture_run.specs.Areas.{parts_in, model_of, weights_at, kappas_at}
-use Rattle.mixture_run.proofs.Regions.{weights_r, kappas_r, get_in}
 
 -- ---- a list of which the first i places are written
 module _ {A : Type 0} (f : ℕ → A) (s : List A) (i : ℕ) where
@@ -39,12 +34,3 @@ pub label_below : (l : List Float) (at n v : ℕ) → at + n ≤ length l → 0 
 label_below l at n v h g e =
     let long = cut_long l at n h in
     omega (arith, e, long, argmax_below (part l at (at + n - at)) (omega (arith, long)))
-
--- ---- ln weight + log normalizer of group c
-pub logw_is : (m k d : ℕ) (w : List Float) (c p q : ℕ) (x y : Float) → c < k → p ≡ weights_at k d → q ≡ kappas_at k d
-    → x ≡ ln_weight (get_or w (p + c) nan) → y ≡ log_norm_of d (get_or w (q + c) nan)
-    → add binary64 x y ≡ logw_at d (model_of (parts_in m k d w)) c
-logw_is m k d w c p q x y h ep eq e f =
-    let r₁ = get_in weights_r m k d w (p + c) c nan (omega arith) h in
-    let r₂ = get_in kappas_r m k d w (q + c) c nan (omega arith) h in
-    ap₂ (add binary64) (e ∙ ap ln_weight r₁) (f ∙ ap (log_norm_of d) r₂)

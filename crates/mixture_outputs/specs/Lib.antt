@@ -1,4 +1,4 @@
 pub mod Outputs
 pub mod Refusals
 pub mod Labels
-pub mod Fillable
+pub mod Lent

@@ -1,17 +1,18 @@
 // What the mixture fits share (vmf.rs, the fields of a fit; mixture.rs, ln_weight; document 01, 'Leaves, settings,
-// fit', 'Mixture' and 'Refusals by call'): what they refuse, and the outputs filled from the part of the kept run.
+// fit', 'Mixture' and 'Refusals by call'): what they refuse, and the outputs filled from the area of the kept run.
 #![tactic(auto)]
 
-ghost use Rattle.std.specs.Prelude.{◌≡◌, ◌++◌, true, ◌*◌, ◌≤◌, ◌<◌, length, drop};
+ghost use Rattle.std.specs.Prelude.{◌≡◌, ◌++◌, true, ◌≤◌, length, drop, Float};
 ghost use Rattle.limits.specs.Limits.{most_groups};
 ghost use Rattle.mixture_run.specs.Fits.{labels_of, ln_weight, logw_of};
-ghost use Rattle.mixture_run.specs.Areas.{parts_in, model_of, Area};
-ghost use Rattle.mixture_restarts.specs.Halves.{kept_em};
-ghost use Rattle.mixture_outputs.specs.Outputs.{arrays, written};
+ghost use Rattle.mixture_run.specs.Areas.{parts_of, model_of, em_of};
+ghost use Rattle.mixture_outputs.specs.Outputs.{lengths_of, written};
 ghost use Rattle.mixture_outputs.specs.Refusals.{outputs_ok, arrays_ok, fit_refusal};
-ghost use Rattle.mixture_outputs.specs.Fillable.{LeavesFit, GroupsFit, Fillable};
+ghost use Rattle.mixture_outputs.specs.Lent.{outputs_of, SameArrays, Fits};
 
-use limits::{Refusal, need};
+use limits::{Leaves, Refusal, need};
+use mixture_kappa::Settings;
+use mixture_run::layout::Area;
 
 // ---- what is refused
 
@@ -28,7 +29,7 @@ pub struct Lengths {
     pub work_u32: usize,
 }
 
-// The outputs are long enough.
+// The outputs are long enough. That m, k and d are within their limits is tested before.
 fn outputs_ok(m: usize, k: usize, d: usize, l: Lengths) -> bool
     requires { (m ≤ 4096) × (k ≤ 64) × (d ≤ 256) }
     ensures { result ≡ outputs_ok m k d l }
@@ -43,7 +44,7 @@ fn outputs_ok(m: usize, k: usize, d: usize, l: Lengths) -> bool
         && k <= l.logw
 }
 
-// The outputs and the work arrays are long enough.
+// The outputs and the work arrays are long enough. That m, k and d are within their limits is tested before.
 fn arrays_ok(m: usize, k: usize, d: usize, l: Lengths) -> bool
     requires { (m ≤ 4096) × (k ≤ 64) × (d ≤ 256) }
     ensures { result ≡ arrays_ok m k d l }
@@ -52,38 +53,69 @@ fn arrays_ok(m: usize, k: usize, d: usize, l: Lengths) -> bool
 }
 
 // The first refusal from 1 to 6 that holds, if any, of a fit of k groups, of the automatic fit up to k. Whether k is
-// admitted is the fit's to say.
+// admitted is the fit's to say: `groups` is the outcome of its test.
 #[tactic(auto, unfolding(crate::specs::Refusals::fit_refusal))]
 pub fn check(
-    weights: &[f64],
-    coords: &[f64],
+    leaves: Leaves,
     d: usize,
     k: usize,
     groups: bool,
-    s: mixture_kappa::Settings,
+    s: Settings,
     l: Lengths,
 ) -> Result<(), Refusal>
     requires { groups ≡ true → k ≤ most_groups }
-    ensures { result ≡ fit_refusal groups weights.now coords.now d k s l }
+    ensures { result ≡ fit_refusal groups leaves.entry.weights.now leaves.entry.coords.now d k s l }
 {
-    let m = weights.len();
-    need(limits::sizes_ok(m, d, coords.len()), Refusal::Sizes)?;
+    let m = leaves.weights.len();
+    need(limits::sizes_ok(m, d, leaves.coords.len()), Refusal::Sizes)?;
     need(groups, Refusal::Groups)?;
     need(s.rounds <= limits::MOST_ROUNDS, Refusal::Rounds)?;
     need(arrays_ok(m, k, d, l), Refusal::Arrays)?;
-    limits::check_leaves(weights, coords)
+    limits::check_leaves(leaves)
+}
+
+// ---- the lent arrays
+
+// The six output arrays, as they are lent.
+#[derive(Drop)]
+pub struct Arrays<'a> {
+    pub labels: &'a mut [u32],
+    pub responsibilities: &'a mut [f64],
+    pub weights: &'a mut [f64],
+    pub directions: &'a mut [f64],
+    pub concentrations: &'a mut [f64],
+    pub logw: &'a mut [f64],
+}
+
+impl Arrays<'_> {
+    // Their lengths beside those of the work arrays.
+    pub fn lengths(&self, work: usize, work_u32: usize) -> Lengths
+        ensures { result ≡ lengths_of (outputs_of self.now) work work_u32 }
+    {
+        Lengths {
+            labels: self.labels.len(),
+            responsibilities: self.responsibilities.len(),
+            weights: self.weights.len(),
+            directions: self.directions.len(),
+            concentrations: self.concentrations.len(),
+            logw: self.logw.len(),
+            work,
+            work_u32,
+        }
+    }
 }
 
 // ---- filled
 
 // The label of each leaf: the first group of its greatest responsibility.
-fn put_labels(labels: &mut [u32], resp: &[f64], m: usize, k: usize)
-    requires { (length labels.old ≡ m) × (length resp.now ≡ m * k) × (m * k ≤ 262144) × (0 < k) × (k ≤ 64) }
-    ensures { labels.new ≡ labels_of resp.now m k }
+fn put_labels(labels: &mut [u32], area: &Area)
+    requires { length labels.old ≡ area.now.warm.shape.m }
+    ensures { labels.new ≡ labels_of area.now.responsibilities.now area.now.warm.shape.m area.now.warm.shape.k }
 {
-    for i in 0..m {
+    let k = area.warm.shape.k;
+    for i in 0..area.warm.shape.m {
         let at = i * k;
-        labels[i] = pick::argmax(&resp[at..at + k]) as u32;
+        labels[i] = pick::argmax(&area.responsibilities[at..at + k]) as u32;
     }
 }
 
@@ -94,99 +126,49 @@ fn ln_weight(w: f64) -> f64
     logarithm::ln(float::max(w, 2.2250738585072014e-308))
 }
 
-// ln weight + log normalizer of each group.
-fn put_logw(logw: &mut [f64], area: &[f64], m: usize, k: usize, d: usize)
-    requires { (Area (length area.now) m k d) × (length logw.old ≡ k) }
-    ensures { logw.new ≡ logw_of k d (model_of (parts_in m k d area.now)) }
+// ln weight + log normalizer of each group. The table is read once for all.
+fn put_logw(logw: &mut [f64], area: &Area)
+    requires { length logw.old ≡ area.now.warm.shape.k }
+    ensures { logw.new ≡ logw_of area.now.warm.shape.k area.now.warm.shape.d (model_of (parts_of area.now)) }
 {
-    let weights = mixture_run::layout::weights_at(k, d);
-    let kappas = mixture_run::layout::kappas_at(k, d);
-    for c in 0..k {
-        logw[c] = ln_weight(area[weights + c]) + mixture_kappa::log_norm(area[kappas + c], d);
+    let d = area.warm.shape.d;
+    let start = gamma_table::ln_gamma_half(d);
+    for c in 0..area.warm.shape.k {
+        logw[c] = ln_weight(area.weights[c])
+            + mixture_kappa::log_norm_from(area.kappas[c], d, start);
     }
 }
 
-// What is found of the leaves, copied out.
-fn fill_leaves(
-    labels: &mut [u32],
-    responsibilities: &mut [f64],
-    area: &[f64],
-    m: usize,
-    k: usize,
-    d: usize,
-)
-    requires { (Area (length area.now) m k d)
-        × (LeavesFit (length labels.old) (length responsibilities.old) m k) }
-    ensures { let resp = (parts_in m k d area.now).resp in
-        (labels.new ≡ labels_of resp m k ++ drop m labels.old)
-        × (responsibilities.new ≡ resp ++ drop (m * k) responsibilities.old) }
+// The labels at the start of an array that may be longer.
+fn fill_labels(labels: &mut [u32], area: &Area)
+    requires { area.now.warm.shape.m ≤ length labels.old }
+    ensures { labels.new ≡ labels_of area.now.responsibilities.now area.now.warm.shape.m area.now.warm.shape.k
+        ++ drop area.now.warm.shape.m labels.old }
 {
-    let mk = m * k;
-    let resp = mixture_run::layout::responsibilities_at(k, d);
-    put_labels(&mut labels[..m], &area[resp..resp + mk], m, k);
-    rows::copy(&mut responsibilities[..mk], &area[resp..resp + mk]);
+    put_labels(&mut labels[..area.warm.shape.m], area);
 }
 
-// What is found of the groups, copied out.
-fn fill_groups(
-    weights: &mut [f64],
-    directions: &mut [f64],
-    concentrations: &mut [f64],
-    logw: &mut [f64],
-    area: &[f64],
-    m: usize,
-    k: usize,
-    d: usize,
-)
-    requires { (Area (length area.now) m k d) × (GroupsFit (length weights.old) (length directions.old)
-        (length concentrations.old) (length logw.old) k d) }
-    ensures { let p = parts_in m k d area.now in
-        (weights.new ≡ p.weights ++ drop k weights.old)
-        × (directions.new ≡ p.directions ++ drop (k * d) directions.old)
-        × (concentrations.new ≡ p.kappas ++ drop k concentrations.old)
-        × (logw.new ≡ logw_of k d (model_of p) ++ drop k logw.old) }
+// The logw at the start of an array that may be longer.
+fn fill_logw(logw: &mut [f64], area: &Area)
+    requires { area.now.warm.shape.k ≤ length logw.old }
+    ensures { logw.new ≡ logw_of area.now.warm.shape.k area.now.warm.shape.d (model_of (parts_of area.now))
+        ++ drop area.now.warm.shape.k logw.old }
 {
-    let kd = k * d;
-    let at = mixture_run::layout::weights_at(k, d);
-    let kappas = mixture_run::layout::kappas_at(k, d);
-    rows::copy(&mut weights[..k], &area[at..at + k]);
-    rows::copy(&mut directions[..kd], &area[..kd]);
-    rows::copy(&mut concentrations[..k], &area[kappas..kappas + k]);
-    put_logw(&mut logw[..k], area, m, k, d);
+    put_logw(&mut logw[..area.warm.shape.k], area);
 }
 
-// What the kept one of the last two runs found, written into the outputs.
-pub fn fill_outputs(
-    labels: &mut [u32],
-    responsibilities: &mut [f64],
-    group_weights: &mut [f64],
-    directions: &mut [f64],
-    concentrations: &mut [f64],
-    logw: &mut [f64],
-    work: &[f64],
-    r: mixture_restarts::Runs,
-    m: usize,
-    k: usize,
-    d: usize,
-)
-    requires { Fillable (length labels.old) (length responsibilities.old) (length group_weights.old)
-        (length directions.old) (length concentrations.old) (length logw.old) (length work.now) m k d }
-    ensures { arrays labels.new responsibilities.new group_weights.new
-        directions.new concentrations.new logw.new
-        ≡ written m k d (kept_em m k d work.now r)
-        (arrays labels.old responsibilities.old group_weights.old
-        directions.old concentrations.old logw.old) }
+// What the run in this area found, written into the outputs.
+#[tactic(auto, unfolding(crate::specs::Outputs::written))]
+pub fn fill_outputs(o: &mut Arrays, area: &Area)
+    requires { Fits (outputs_of o.old) area.now.warm.shape.m area.now.warm.shape.k area.now.warm.shape.d }
+    ensures same { SameArrays o.old o.new }
+    ensures filled { (loglik : Float) → outputs_of o.new ≡ written area.now.warm.shape.m area.now.warm.shape.k
+        area.now.warm.shape.d (em_of (parts_of area.now) loglik) (outputs_of o.old) }
 {
-    let area = mixture_restarts::kept_part(work, r, m, k, d);
-    fill_leaves(labels, responsibilities, area, m, k, d);
-    fill_groups(
-        group_weights,
-        directions,
-        concentrations,
-        logw,
-        area,
-        m,
-        k,
-        d,
-    );
+    fill_labels(o.labels, area);
+    rows::copy_front(o.responsibilities, area.responsibilities);
+    rows::copy_front(o.weights, area.weights);
+    rows::copy_front(o.directions, area.warm.centers);
+    rows::copy_front(o.concentrations, area.kappas);
+    fill_logw(o.logw, area);
 }

@@ -1,3 +1,3 @@
-pub mod Halves
+pub mod Turns
 pub mod Doubled
 pub mod Lengths

@@ -1,3 +1,3 @@
 pub mod Runs
-pub mod Halves
+pub mod Kept
 pub mod Doubled

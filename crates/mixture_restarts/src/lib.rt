@@ -1,129 +1,113 @@
-// The four runs of a mixture fit (vmf.rs, movmf_with; document 01, 'Mixture'): they stand in turn in the two halves of
-// the lent work array, so that the held one and the last one are there at the end; the keeper hands back the part of
-// the kept one and makes no copy.
+// The four runs of a mixture fit (vmf.rs, movmf_with; document 01, 'Mixture'): they stand in turn in two areas, so that
+// the held one and the last one are there at the end; the keeper hands back the area of the kept one and makes no copy.
 #![tactic(auto)]
 
-ghost use Rattle.std.specs.Prelude.{◌≡◌, ◌+◌, ◌≤◌, length};
-ghost use Rattle.kmeans_layout.specs.Halves.{half, free_at};
-ghost use Rattle.mixture_restarts.specs.Runs.{run_of, runs_up_to};
-ghost use Rattle.mixture_restarts.specs.Halves.{TwoHalves, Runnable, RunAt, Holds, Both};
-ghost use Rattle.mixture_restarts.specs.Halves.{kept_part, kept_loglik, kept_part_of};
+ghost use Rattle.std.specs.Prelude.{◌≡◌, ◌+◌, ◌<◌, ◌≤◌, length};
+ghost use Rattle.counts.specs.Counts.{AtMost, of_runs};
+ghost use Rattle.limits.specs.Limits.{most_rounds};
+ghost use Rattle.kmeans_layout.specs.Sized.{Fit, half, work_u32_total};
+ghost use Rattle.kmeans_layout.specs.Kept.{kept_of};
+ghost use Rattle.mixture_run.specs.Areas.{parts_of, Same, RunDone};
+ghost use Rattle.mixture_restarts.specs.Kept.{run_in, runs_in, Holds, OneMore, Both, kept_loglik};
 
-// Run t in the half that starts at a.
-fn run_at(
-    work: &mut [f64],
-    work_u32: &mut [u32],
-    weights: &[f64],
-    coords: &[f64],
-    s: mixture_kappa::Settings,
-    t: u64,
-    m: usize,
-    k: usize,
-    d: usize,
-    a: usize,
-) -> mixture_run::RunEnd
-    requires runnable { Runnable (length work.old) (length work_u32.old) (length weights.now)
-        (length coords.now) m k d s.rounds }
-    requires d_in_bounds { a + half m k d ≤ length work.old }
-    ensures { RunAt (run_of s weights.now coords.now m k d t)
-        work.old work.new a m k d result }
-{
-    let n = kmeans_layout::half(m, k, d);
-    let kappa = s.kappa;
-    let own = mixture_kappa::Settings {
-        rounds: s.rounds,
-        seed: rng::restart_seed(s.seed, t),
-        kappa,
-    };
-    mixture_run::movmf_once(&mut work[a..a + n], work_u32, weights, coords, own, m, k, d)
+use kmeans_layout::Held;
+use limits::{Leaves, Shape};
+use mixture_kappa::Settings;
+use mixture_run::RunEnd;
+use mixture_run::layout::Area;
+
+// Two areas of the same sizes and leaves, in the halves of the lent work arrays: the held run stands in one, the other
+// is free for the next.
+#[derive(Drop)]
+pub struct Halves<'a> {
+    pub held: Area<'a>,
+    pub free: Area<'a>,
+    ghost alike: { Same held free },
 }
 
-// Run t in the free half.
-fn run_beside(
-    work: &mut [f64],
-    work_u32: &mut [u32],
-    weights: &[f64],
-    coords: &[f64],
-    s: mixture_kappa::Settings,
-    t: u64,
-    m: usize,
-    k: usize,
-    d: usize,
-    second: bool,
-) -> mixture_run::RunEnd
-    requires { Runnable (length work.old) (length work_u32.old) (length weights.now)
-        (length coords.now) m k d s.rounds }
-    ensures { RunAt (run_of s weights.now coords.now m k d t)
-        work.old work.new (free_at second (half m k d)) m k d result }
+impl<'a> Halves<'a> {
+    // The areas in the two lent arrays.
+    pub fn of(
+        shape: Shape,
+        leaves: Leaves<'a>,
+        work: &'a mut [f64],
+        work_u32: &'a mut [u32],
+    ) -> Halves<'a>
+        requires fit { Fit shape.m shape.d leaves.weights.now leaves.coords.now }
+        requires room { (half shape.m shape.k shape.d + half shape.m shape.k shape.d ≤ length work.old)
+            × (work_u32_total shape.m shape.k + work_u32_total shape.m shape.k ≤ length work_u32.old) }
+        ensures { (result.held.warm.shape ≡ shape) × (result.held.warm.leaves ≡ leaves.entry) }
+    {
+        let (first, second) = work.split_at_mut(kmeans_layout::half(shape));
+        let (first_u32, second_u32) = work_u32.split_at_mut(shape.m + shape.k);
+        Halves {
+            held: Area::of(shape, leaves, first, first_u32),
+            free: Area::of(shape, leaves, second, second_u32),
+        }
+    }
+}
+
+// Run t in an area.
+fn run(area: &mut Area, s: Settings, t: u64) -> RunEnd
+    requires { s.rounds ≤ most_rounds }
+    ensures same { Same area.old area.new }
+    ensures done { RunDone (run_in area.old s t) (parts_of area.new) result }
 {
-    let a = kmeans_layout::free_at(second, kmeans_layout::half(m, k, d));
-    run_at(work, work_u32, weights, coords, s, t, m, k, d, a)
+    let own = Settings {
+        rounds: s.rounds,
+        seed: rng::restart_seed(s.seed, t),
+        kappa: s.kappa,
+    };
+    mixture_run::movmf_once(area, own)
+}
+
+// Run t in the free area; where it is kept, the areas change places.
+fn one_more(halves: &mut Halves, h: Held, s: Settings, t: u64) -> Held
+    requires { (s.rounds ≤ most_rounds) × (t < 4) × (AtMost (of_runs t) h.counts) }
+    ensures { OneMore (run_in halves.old.held s t) halves.old.held halves.new.held h result }
+{
+    let r = run(&mut halves.free, s, t);
+    if h.gives_way(r.loglik) {
+        std::mem::swap(&mut halves.held, &mut halves.free);
+    }
+    h.after(r.loglik, r.counts)
 }
 
 // The first three runs; what is held of them.
-fn first_runs(
-    work: &mut [f64],
-    work_u32: &mut [u32],
-    weights: &[f64],
-    coords: &[f64],
-    s: mixture_kappa::Settings,
-    m: usize,
-    k: usize,
-    d: usize,
-) -> kmeans_layout::Held
-    requires { Runnable (length work.old) (length work_u32.old) (length weights.now)
-        (length coords.now) m k d s.rounds }
-    ensures { Holds (runs_up_to s weights.now coords.now m k d 2)
-        work.new m k d 3 result }
+fn first_runs(halves: &mut Halves, s: Settings) -> Held
+    requires { s.rounds ≤ most_rounds }
+    ensures { Holds (runs_in halves.old.held s 2) halves.old.held halves.new.held 3 result }
 {
-    let first = run_at(work, work_u32, weights, coords, s, 0, m, k, d, 0);
-    let counts = first.counts;
-    let mut h = kmeans_layout::Held {
-        second: false,
+    let first = run(&mut halves.held, s, 0);
+    let mut h = Held {
         value: first.loglik,
-        counts,
+        counts: first.counts,
     };
     for t in 1..3 {
-        let r = run_beside(work, work_u32, weights, coords, s, t, m, k, d, h.second);
-        let more = r.counts;
-        h = kmeans_layout::keep(h, r.loglik, more);
+        h = one_more(halves, h, s, t);
     }
     h
 }
 
-// Four runs: the one held of the first three stands in the half that `second` names and has the log-likelihood `held`,
-// the last one in the other and has `last`. The counts are those of all four.
+// Four runs: the log-likelihood of the one held of the first three, and that of the last one, which stands in the free
+// area. The counts are those of all four.
 #[derive(Clone, Copy)]
 pub struct Runs {
-    pub second: bool,
     pub held: f64,
     pub last: f64,
     pub counts: counts::Counts,
 }
 
 // All four runs.
-pub fn four_runs(
-    work: &mut [f64],
-    work_u32: &mut [u32],
-    weights: &[f64],
-    coords: &[f64],
-    s: mixture_kappa::Settings,
-    m: usize,
-    k: usize,
-    d: usize,
-) -> Runs
-    requires { Runnable (length work.old) (length work_u32.old) (length weights.now)
-        (length coords.now) m k d s.rounds }
-    ensures { Both (runs_up_to s weights.now coords.now m k d 2)
-        (run_of s weights.now coords.now m k d 3) work.new m k d result }
+pub fn four_runs(halves: &mut Halves, s: Settings) -> Runs
+    requires { s.rounds ≤ most_rounds }
+    ensures { Both (runs_in halves.old.held s 2) (run_in halves.old.held s 3) halves.old.held halves.new.held
+        halves.new.free result }
 {
-    let h = first_runs(work, work_u32, weights, coords, s, m, k, d);
-    let r = run_beside(work, work_u32, weights, coords, s, 3, m, k, d, h.second);
-    let before = h.counts;
-    let more = r.counts;
-    let counts = counts::plus(before, more);
+    let h = first_runs(halves, s);
+    let r = run(&mut halves.free, s, 3);
+    let counts = counts::plus(h.counts, r.counts);
     Runs {
-        second: h.second,
         held: h.value,
         last: r.loglik,
         counts,
@@ -132,23 +116,17 @@ pub fn four_runs(
 
 // ---- the keeper
 
-// Of two runs in two areas, the part of the kept one: that of the run, unless its log-likelihood is at most the held
+// Of two runs in two areas, the area of the kept one: that of the run, unless its log-likelihood is at most the held
 // one's.
-fn keeper<'a>(
-    held: &'a [f64],
-    run: &'a [f64],
-    n: usize,
+fn keeper<'a, 'b>(
+    held: &'a Area<'b>,
+    run: &'a Area<'b>,
     held_loglik: f64,
     run_loglik: f64,
-) -> &'a [f64]
-    requires { (n ≤ length held.now) × (n ≤ length run.now) }
-    ensures { result.now ≡ kept_part held.now run.now n held_loglik run_loglik }
+) -> &'a Area<'b>
+    ensures { result.now ≡ kept_of held_loglik run_loglik held.now run.now }
 {
-    if run_loglik <= held_loglik {
-        &held[..n]
-    } else {
-        &run[..n]
-    }
+    if run_loglik <= held_loglik { held } else { run }
 }
 
 // The kept one's log-likelihood.
@@ -158,13 +136,9 @@ pub fn kept_loglik(r: Runs) -> f64
     if r.last <= r.held { r.held } else { r.last }
 }
 
-// The kept one's part of the work array.
-pub fn kept_part<'a>(work: &'a [f64], r: Runs, m: usize, k: usize, d: usize) -> &'a [f64]
-    requires { TwoHalves (length work.now) m k d }
-    ensures { result.now ≡ kept_part_of m k d work.now r }
+// The kept one's area.
+pub fn kept<'a, 'b>(halves: &'a Halves<'b>, r: Runs) -> &'a Area<'b>
+    ensures { result.now ≡ kept_of r.held r.last halves.now.held halves.now.free }
 {
-    let n = kmeans_layout::half(m, k, d);
-    let a = kmeans_layout::held_at(r.second, n);
-    let b = kmeans_layout::free_at(r.second, n);
-    keeper(&work[a..a + n], &work[b..b + n], n, r.held, r.last)
+    keeper(&halves.held, &halves.free, r.held, r.last)
 }

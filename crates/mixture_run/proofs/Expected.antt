@@ -1,139 +1,104 @@
--- Laws of the E-step: what the calls on the area ensure is what specs/Mixture.antt defines. The log densities of a leaf are a row of the
--- last region; those of the first i leaves stand before what the region held; the log-softmax of the rows are the responsibilities. By the
--- laws of the regions and of joined rows. Assumes nothing.
+-- Laws of the E-step, over plain lists: the log densities of a leaf stand in its row, those of the first leaves before what was there, and
+-- the log-softmax of the rows are the responsibilities. By recursion on the groups and the leaves. Assumes nothing.
 use mathlib.Core.Path.{◌≡◌, refl, ap, sym, ◌∙◌}
-use mathlib.Core.List.{List, [], ◌∷◌, ◌++◌}
-use Prim.Native.Nat.{ℕ, zero, suc, ◌+◌, ◌*◌, ◌-◌, ◌≤◌, ◌<◌}
-use native.Mathlib.Numerals.{add-one}
+use mathlib.Core.List.{List, ◌++◌, append_assoc, append-nil}
+use Prim.Native.Nat.{ℕ, zero, suc, ◌+◌, ◌*◌, ◌≤◌, ◌<◌}
+use native.Mathlib.Nat.{add-zero, add-suc}
 use native.Mathlib.Omega.{arith}
-use lib.ListN.{length, get_or, drop, set, take-append-drop}
+use lib.ListN.{length, get_or, take, drop, set, length-append, take-append-drop}
+use lib.Seq.{take_at, drop_at, drop-drop, length-take-le}
 use lib.Ieee.{Float, nan, binary64, add, mul}
 use Rattle.float.specs.Arithmetic.{plus_zero}
-use Rattle.rows.specs.Rows.{part, put_part, row_of}
+use Rattle.rows.specs.Rows.{put_part, row_of}
 use Rattle.rows.specs.Tabulate.{tabulate}
 use Rattle.vector.specs.Vectors.{dot_of}
 use Rattle.kmeans_nearest.specs.Blocks.{row_dots}
-use Rattle.rows.proofs.Rows.{row_within, put_more, part_cut}
+use Rattle.rows.proofs.Rows.{put_more}
+use Rattle.rows.proofs.Fills.{front_end}
 use Rattle.rows.proofs.Tabulate.{tabulate_length, tabulate_at, tabulate_turn, tabulate_same}
 use Rattle.mixture_softmax.specs.Softmax.{log_sum_exp}
 use Rattle.mixture_softmax.specs.Leaves.{log_sum_at, shares_at, joined, weighed, shares_up_to, logs_up_to}
 use Rattle.mixture_softmax.proofs.Softmax.{shares_length}
 use Rattle.mixture_softmax.proofs.Joined.{joined_length, joined_row, joined_none, joined_turn, joined_same, weighed_same}
-use Rattle.rows.proofs.Fills.{front_end}
-use Rattle.mixture_run.specs.Mixture.{Model, Expected, log_density_at, log_densities, softmax, expect_up_to}
-use Rattle.mixture_run.specs.Areas.{Parts, parts_in, kappas_at, log_coefficients_at, responsibilities_at, total, model_of, with_resp}
-use Rattle.mixture_run.specs.Areas.{log_densities_from}
-use Rattle.mixture_run.proofs.Regions.{directions_r, kappas_r, log_coefficients_r, resp_r, set_in, get_in, part_in, whole_in}
-use Rattle.mixture_run.proofs.Regions.{put_whole_in, length_in}
+use Rattle.mixture_run.specs.Mixture.{Model, log_density_at, log_densities, softmax, expect_up_to}
+use Rattle.mixture_run.specs.Areas.{Parts, model_of, with_resp, log_densities_from}
 
--- ---- what the parts of an area give
+-- ---- the log densities of a leaf in n groups, by the dots f
 
--- the log densities of leaf x: in group c, in n groups from c on, in all k
-abbrev density_in : (d : ℕ) → Parts → (x : List Float) (c : ℕ) → Float
-density_in d p = log_density_at d p.log_coefficients (model_of p)
+module _ (coefficients : List Float) (p : Model) (c : ℕ) where
+  abbrev pub density_by : (f : List Float) (e : ℕ) → Float
+  density_by f e = add binary64 (get_or coefficients (c + e) nan) (mul binary64 (get_or p.kappas (c + e) nan) (get_or f e nan))
 
-abbrev densities_from : (d : ℕ) → Parts → (x : List Float) (c n : ℕ) → List Float
-densities_from d p = log_densities_from d p.log_coefficients (model_of p)
+  pub densities_done : (d : ℕ) (x : List Float) (n : ℕ) (f : List Float) → f ≡ row_dots x p.directions d c n
+      → tabulate (density_by f) n ≡ log_densities_from d coefficients p x c n
+  densities_done d x n f is =
+      let dot : ℕ → Float = λ (e : ℕ). dot_of x (row_of p.directions d (c + e)) in
+      tabulate_same (density_by f) _ n
+      (λ e h. let at : get_or f e nan ≡ dot e = rw is (tabulate_at dot n e nan h) in rw at)
 
-abbrev densities_in : (k d : ℕ) → Parts → (x : List Float) → List Float
-densities_in k d p = log_densities k d p.log_coefficients (model_of p)
+-- ---- the row of a leaf, of which n are written from place `at` on
+module _ (f : ℕ → Float) (w : List Float) (at : ℕ) where
+  abbrev front : ℕ → List Float
+  front n = put_part w at n (tabulate f n)
 
--- the responsibilities and the log-likelihood of m leaves
-abbrev expected_in : (weights coords : List Float) (m k d : ℕ) → Parts → Expected
-expected_in weights coords m k d p = expect_up_to weights coords k d p.log_coefficients (model_of p) m
-
--- ---- the log densities of a leaf
-
--- one of them, by what the code reads
-log_density_done : (m k d : ℕ) (w x : List Float) (c : ℕ) (v : Float) (coefficient kappa : ℕ)
-    → coefficient ≡ log_coefficients_at k d + c → kappa ≡ kappas_at k d + c → c < k → v ≡ dot_of x (row_of w d c)
-    → add binary64 (get_or w coefficient nan) (mul binary64 (get_or w kappa nan) v) ≡ density_in d (parts_in m k d w) x c
-log_density_done m k d w x c v coefficient kappa b q h e =
-    let coefficient-in = get_in log_coefficients_r m k d w coefficient c nan (omega arith) h in
-    let kappa-in = get_in kappas_r m k d w kappa c nan (omega arith) h in
-    let row = part_in directions_r m k d w (c * d) (c * d) d (omega arith) (row_within c k d h) in
-    rw (coefficient-in, kappa-in, e, row)
-
--- n of them, by the dots f
-abbrev pub density_by : (w : List Float) (coefficient kappa : ℕ) (f : List Float) (e : ℕ) → Float
-density_by w coefficient kappa f e =
-    add binary64 (get_or w (coefficient + e) nan) (mul binary64 (get_or w (kappa + e) nan) (get_or f e nan))
-
-pub densities_done : (m k d : ℕ) (w coords : List Float) (i c n : ℕ) (f : List Float) (coefficient kappa : ℕ)
-    → coefficient ≡ log_coefficients_at k d + c → kappa ≡ kappas_at k d + c → c + n ≤ k
-    → f ≡ row_dots (part coords (i * d) (i * d + d - i * d)) w d c n
-    → tabulate (density_by w coefficient kappa f) n ≡ densities_from d (parts_in m k d w) (row_of coords d i) c n
-densities_done m k d w coords i c n f coefficient kappa b q h is =
-    let x = row_of coords d i in
-    let dots : f ≡ row_dots x w d c n = rw (part_cut coords (i * d) d) at is in
-    tabulate_same (density_by w coefficient kappa f) _ n
-    (λ e l. let v : get_or f e nan ≡ dot_of x (row_of w d (c + e)) =
-    rw dots (tabulate_at (λ (j : ℕ). dot_of x (row_of w d (c + j))) n e nan l) in
-    log_density_done m k d w x (c + e) (get_or f e nan) (coefficient + e) (kappa + e) (omega arith) (omega arith) (omega arith) v)
-
-module _ (m k d : ℕ) (w₀ coords : List Float) (i : ℕ) where
-  -- the first n, where the responsibilities will stand
-  abbrev pub row_done : ℕ → Parts
-  row_done n =
-      let p₀ = parts_in m k d w₀ in
-      with_resp (put_part p₀.resp (i * k) n (tabulate (density_in d p₀ (row_of coords d i)) n)) p₀
-
-  pub row_start : parts_in m k d w₀ ≡ row_done 0
+  front_none : w ≡ front 0
   unfolding tabulate
-  row_start = ap (λ (l : List Float). with_resp l (parts_in m k d w₀)) (sym (take-append-drop (i * k) (parts_in m k d w₀).resp))
+  front_none = sym (take-append-drop at w)
 
-  module _ (r : i * k + k ≤ m * k) (g : total m k d ≤ length w₀) where
-    -- one stored
-    row_store : (w : List Float) (at c n : ℕ) (v : Float) → at ≡ responsibilities_at k d + i * k + c → n ≡ c + 1 → c < k
-        → v ≡ density_in d (parts_in m k d w₀) (row_of coords d i) c
-        → parts_in m k d w ≡ row_done c → parts_in m k d (set w at v) ≡ row_done n
-    row_store w at c n v a s h e f =
-        let p₀ = parts_in m k d w₀ in
-        let density = density_in d p₀ (row_of coords d i) in
-        let inside : i * k + c < length p₀.resp = omega (arith, length_in resp_r m k d w₀ g) in
-        rw s
-        (set_in resp_r m k d w at (i * k + c) v (omega arith) (omega arith)
-        ∙ ap (λ (p : Parts). with_resp (set p.resp (i * k + c) v) p) f
-        ∙ ap (λ (l : List Float). with_resp l p₀)
-        (put_more p₀.resp (tabulate density c) (i * k) c v nan (tabulate_length density c) inside)
-        ∙ ap (λ (l : List Float). with_resp (put_part p₀.resp (i * k) (c + 1) l) p₀) (tabulate_turn density c v e))
+  front_one : (n : ℕ) → at + n < length w → set (front n) (at + n) (f n) ≡ front (n + 1)
+  front_one n h =
+      put_more w (tabulate f n) at n (f n) nan (tabulate_length f n) h ∙ ap (put_part w at (n + 1)) (tabulate_turn f n (f n) refl)
 
-    pub row_turn : (w : List Float) (at c : ℕ) (v : Float) → at ≡ responsibilities_at k d + i * k + c → c < k
-        → v ≡ density_in d (parts_in m k d w) (row_of coords d i) c
-        → parts_in m k d w ≡ row_done c → parts_in m k d (set w at v) ≡ row_done (c + 1)
-    row_turn w at c v a h e f =
-        row_store w at c (c + 1) v a refl h
-        (e ∙ ap (λ (p : Parts). density_in d p (row_of coords d i) c) f) f
+  -- n more at once
+  tabulate_more : (c n : ℕ) → tabulate f c ++ tabulate (λ (e : ℕ). f (c + e)) n ≡ tabulate f (c + n)
+  unfolding tabulate
+  tabulate_more c zero = rw (append-nil, add-zero)
+  tabulate_more c (suc n) = rw (add-suc, ← append_assoc, tabulate_more c n)
 
-    -- n stored
-    row_put : (w : List Float) (at c n : ℕ) → at ≡ responsibilities_at k d + i * k + c → c + n ≤ k → at + n ≤ length w
-        → parts_in m k d w ≡ row_done c
-        → parts_in m k d (put_part w at n (densities_from d (parts_in m k d w₀) (row_of coords d i) c n)) ≡ row_done (c + n)
-    unfolding tabulate
-    row_put w at c zero a h l f = let e : c + 0 ≡ c = omega arith in rw (take-append-drop at w, e) f
-    row_put w at c (suc n) a h l f =
-        let density = density_in d (parts_in m k d w₀) (row_of coords d i) in
-        let vs = densities_from d (parts_in m k d w₀) (row_of coords d i) c n in
-        let lv : length vs ≡ n = tabulate_length (λ (e : ℕ). density (c + e)) n in
-        let more : set (put_part w at n vs) (at + n) (density (c + n)) ≡ put_part w at (suc n) (vs ++ (density (c + n) ∷ [])) =
-        put_more w vs at n (density (c + n)) nan lv (omega arith)
-        ∙ ap (λ (j : ℕ). put_part w at j (vs ++ (density (c + n) ∷ []))) (add-one n) in
-        ap (parts_in m k d) (sym more)
-        ∙ row_store (put_part w at n vs) (at + n) (c + n) (c + suc n) (density (c + n)) (omega (arith, a)) (omega arith) (omega arith) refl
-        (row_put w at c n a (omega arith) (omega arith) f)
+  front_block : (c n : ℕ) → at + c ≤ length w → put_part (front c) (at + c) n (tabulate (λ (e : ℕ). f (c + e)) n) ≡ front (c + n)
+  front_block c n h =
+      let t = tabulate f c in
+      let done = take at w ++ t in
+      let rest = drop c (drop at w) in
+      let long : length done ≡ at + c = length-append (take at w) t ∙ rw (length-take-le at w (omega arith), tabulate_length f c) in
+      rw (
+        ← append_assoc (take at w) t rest,
+        take_at done rest (at + c) long,
+        drop_at done rest (at + c) long,
+        drop-drop n c (drop at w),
+        append_assoc,
+        ← append_assoc t,
+        tabulate_more c n,
+      ) refl
 
-    pub row_block : (w : List Float) (at c n : ℕ) (v : List Float) → at ≡ responsibilities_at k d + i * k + c → c + n ≤ k → at + n ≤ length w
-        → v ≡ densities_from d (parts_in m k d w) (row_of coords d i) c n
-        → parts_in m k d w ≡ row_done c → parts_in m k d (put_part w at n v) ≡ row_done (c + n)
-    row_block w at c n v a h l e f =
-        let is : v ≡ densities_from d (parts_in m k d w₀) (row_of coords d i) c n =
-        e ∙ ap (λ (p : Parts). densities_from d p (row_of coords d i) c n) f in
-        rw is (row_put w at c n a h l f)
+-- the parts where the log densities of leaf i in the first n groups stand in its row
+module _ (d k i : ℕ) (x : List Float) (p₀ : Parts) where
+  abbrev density_in : Parts → ℕ → Float
+  density_in p = log_density_at d p.log_coefficients (model_of p) x
+
+  abbrev pub row_done : ℕ → Parts
+  row_done n = with_resp (front (density_in p₀) p₀.resp (i * k) n) p₀
+
+  pub row_start : p₀ ≡ row_done 0
+  row_start = ap (λ (l : List Float). with_resp l p₀) (front_none (density_in p₀) p₀.resp (i * k))
+
+  module _ (p p' : Parts) (c : ℕ) (f : p ≡ row_done c) where
+    pub row_turn : i * k + c < length p₀.resp → p' ≡ with_resp (set p.resp (i * k + c) (density_in p c)) p → p' ≡ row_done (c + 1)
+    row_turn h e =
+        e ∙ ap (λ (q : Parts). with_resp (set q.resp (i * k + c) (density_in q c)) q) f
+        ∙ ap (λ (l : List Float). with_resp l p₀) (front_one (density_in p₀) p₀.resp (i * k) c h)
+
+    pub row_block : (n : ℕ) → i * k + c ≤ length p₀.resp
+        → p' ≡ with_resp (put_part p.resp (i * k + c) n (log_densities_from d p.log_coefficients (model_of p) x c n)) p
+        → p' ≡ row_done (c + n)
+    row_block n h e =
+        e ∙ ap (λ (q : Parts). with_resp (put_part q.resp (i * k + c) n (log_densities_from d q.log_coefficients (model_of q) x c n)) q) f
+        ∙ ap (λ (l : List Float). with_resp l p₀) (front_block (density_in p₀) p₀.resp (i * k) c n h)
 
 -- ---- all leaves
 module _ (coords : List Float) (k d : ℕ) (coefficients : List Float) (p : Model) where
   -- the log densities of leaf i
-  abbrev pub densities_of : ℕ → List Float
+  abbrev densities_of : ℕ → List Float
   densities_of i = log_densities k d coefficients p (row_of coords d i)
 
   densities_length : (i : ℕ) → length (densities_of i) ≡ k
@@ -176,55 +141,35 @@ module _ (coords : List Float) (k d : ℕ) (coefficients : List Float) (p : Mode
     resp_length =
         ap length (sym (expected_resp weights m)) ∙ joined_length (λ (i : ℕ). softmax (densities_of i)) k m (λ i h. softmax_length i)
 
-module _ (m k d : ℕ) (w₀ coords : List Float) where
+-- the parts where the log densities of the first n leaves stand before what was there
+module _ (coords : List Float) (k d : ℕ) (p₀ : Parts) where
   abbrev densities : ℕ → List Float
-  densities = densities_of coords k d (parts_in m k d w₀).log_coefficients (model_of (parts_in m k d w₀))
+  densities = densities_of coords k d p₀.log_coefficients (model_of p₀)
 
-  -- the log densities of the first i leaves stand before what the region held
   abbrev pub rows_done : ℕ → Parts
-  rows_done i = with_resp (joined densities i ++ drop (i * k) (parts_in m k d w₀).resp) (parts_in m k d w₀)
+  rows_done n = with_resp (joined densities n ++ drop (n * k) p₀.resp) p₀
 
-  pub rows_start : parts_in m k d w₀ ≡ rows_done 0
-  rows_start = ap (λ (l : List Float). with_resp l (parts_in m k d w₀)) (joined_none densities k (parts_in m k d w₀).resp)
+  pub rows_start : p₀ ≡ rows_done 0
+  rows_start = ap (λ (l : List Float). with_resp l p₀) (joined_none densities k p₀.resp)
 
-  pub rows_turn : (w w' : List Float) (i : ℕ) → parts_in m k d w ≡ rows_done i
-      → parts_in m k d w'
-      ≡ with_resp (put_part (parts_in m k d w).resp (i * k) k (densities_in k d (parts_in m k d w) (row_of coords d i))) (parts_in m k d w)
-      → parts_in m k d w' ≡ rows_done (i + 1)
-  rows_turn w w' i f h =
-      let p₀ = parts_in m k d w₀ in
-      h ∙ ap (λ (p : Parts). with_resp (put_part p.resp (i * k) k (densities_in k d p (row_of coords d i))) p) f
+  pub rows_turn : (p p' : Parts) (i : ℕ) → p ≡ rows_done i
+      → p' ≡ with_resp (put_part p.resp (i * k) k (log_densities k d p.log_coefficients (model_of p) (row_of coords d i))) p
+      → p' ≡ rows_done (i + 1)
+  rows_turn p p' i f e =
+      e ∙ ap (λ (q : Parts). with_resp
+      (put_part q.resp (i * k) k (log_densities k d q.log_coefficients (model_of q) (row_of coords d i))) q) f
       ∙ ap (λ (l : List Float). with_resp l p₀)
       (joined_turn densities k i k p₀.resp _ (densities i) (λ j g. densities_length coords k d p₀.log_coefficients (model_of p₀) j)
       refl refl refl)
 
-  -- all of them, and their softmax in their places
-  module _ (weights w : List Float) (i at n : ℕ) (long : length weights ≡ m) (room : total m k d ≤ length w₀) (same : length w ≡ length w₀)
-      (all : i ≡ m) (f : parts_in m k d w ≡ rows_done i) (start : at ≡ responsibilities_at k d) (size : n ≡ m * k) where
-    rows_all : parts_in m k d w ≡ with_resp (joined densities m) (parts_in m k d w₀)
-    rows_all =
-        let p₀ = parts_in m k d w₀ in
-        f ∙ ap rows_done all ∙ ap (λ (l : List Float). with_resp l p₀)
-        (front_end (joined densities m) p₀.resp (m * k) (length_in resp_r m k d w₀ room))
-
-    rows_are : part w at n ≡ joined densities m
-    rows_are = whole_in resp_r m k d w at n (omega arith) (omega arith) ∙ ap (λ (p : Parts). p.resp) rows_all
-
-    pub loglik_done : (l : Float) → l ≡ logs_up_to k (part w at n) weights plus_zero (length weights)
-        → l ≡ (expected_in weights coords m k d (parts_in m k d w₀)).loglik
-    loglik_done l e =
-        let read : logs_up_to k (part w at n) weights plus_zero (length weights) ≡ logs_up_to k (joined densities m) weights plus_zero m =
-        rw (rows_are, long) in
-        e ∙ read ∙ logs_are coords k d (parts_in m k d w₀).log_coefficients (model_of (parts_in m k d w₀)) weights m
-
-    pub resp_done : (v : List Float) → v ≡ shares_up_to k (part w at n) (length weights)
-        → parts_in m k d (put_part w at n v)
-        ≡ with_resp (expected_in weights coords m k d (parts_in m k d w₀)).resp (parts_in m k d w₀)
-    resp_done v e =
-        let p₀ = parts_in m k d w₀ in
-        let read : shares_up_to k (part w at n) (length weights) ≡ shares_up_to k (joined densities m) m = rw (rows_are, long) in
-        let is : v ≡ (expected_in weights coords m k d p₀).resp =
-        e ∙ read ∙ shares_are coords k d p₀.log_coefficients (model_of p₀) weights m in
-        let full : length v ≡ n = ap length is ∙ resp_length coords k d p₀.log_coefficients (model_of p₀) weights m ∙ sym size in
-        put_whole_in resp_r m k d w at n v (omega arith) (omega arith) full (omega arith) ∙ ap (with_resp v) rows_all
-        ∙ ap (λ (l : List Float). with_resp l p₀) is
+  -- all of them, and their log-softmax
+  pub rows_end : (weights : List Float) (p : Parts) (i m : ℕ) → i ≡ m → length weights ≡ m → length p₀.resp ≡ m * k → p ≡ rows_done i
+      → let e = expect_up_to weights coords k d p₀.log_coefficients (model_of p₀) m in
+      (logs_up_to k p.resp weights plus_zero (length weights) ≡ e.loglik)
+      × (with_resp (shares_up_to k p.resp (length weights)) p ≡ with_resp e.resp p₀)
+  rows_end weights p i m all long room f =
+      let is : p ≡ with_resp (joined densities m) p₀ =
+      f ∙ ap rows_done all ∙ ap (λ (l : List Float). with_resp l p₀) (front_end (joined densities m) p₀.resp (m * k) room) in (
+        rw (is, long) (logs_are coords k d p₀.log_coefficients (model_of p₀) weights m),
+        rw (is, long) (ap (λ (l : List Float). with_resp l p₀) (shares_are coords k d p₀.log_coefficients (model_of p₀) weights m)),
+      )

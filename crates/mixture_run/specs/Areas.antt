@@ -1,17 +1,17 @@
--- How a run of the mixture lies in a lent work area, and what the functions on it ask.
--- No definition of document 01 stands on this file.
-use Rattle.std.specs.Prelude.{◌≡◌, List, [], ◌∷◌, ℕ, ◌+◌, ◌*◌, ◌≤◌, ◌<◌, get_or, Float}
+-- What a run of the mixture holds in its work area, and what the functions on it promise. No definition of document 01
+-- stands on this file.
+use Rattle.std.specs.Prelude.{◌≡◌, List, ℕ, ◌+◌, Float}
 use Rattle.counts.specs.Counts.{AtMost, of_runs}
-use Rattle.rows.specs.Rows.{cut}
 use Rattle.rows.specs.Tabulate.{tabulate}
-use Rattle.limits.specs.Sizes.{Sizes}
-use Rattle.kmeans_layout.specs.Areas as areas
+use Rattle.kmeans_layout.specs.Areas as warm
+use Rattle.mixture_kappa.specs.declared.Settings.{Settings}
 use Rattle.mixture_run.specs.Mixture.{Model, Statistics, Em, log_density_at}
-use Rattle.mixture_run.specs.Fits.{Once}
+use Rattle.mixture_run.specs.Fits.{Once, once_of}
 use Rattle.mixture_run.specs.declared.RunEnd.{RunEnd}
+use Rattle.mixture_run.specs.declared.layout.Area.{Area}
 
--- the regions: directions, resultants, then of each group its weight, concentration, log coefficient, whole weight and
--- length of resultant, then the responsibilities
+-- the directions and resultants; of each group its weight, concentration, log coefficient, whole weight and length of
+-- resultant; the responsibilities
 pub record Parts : Type 0 where
   pub directions : List Float
   pub sums : List Float
@@ -22,47 +22,22 @@ pub record Parts : Type 0 where
   pub norms : List Float
   pub resp : List Float
 
-abbrev pub lengths : (m k d : ℕ) → List ℕ
-lengths m k d = k * d ∷ k * d ∷ k ∷ k ∷ k ∷ k ∷ k ∷ m * k ∷ []
-
-abbrev pub total : (m k d : ℕ) → ℕ
-total m k d = k * d + k * d + k + k + k + k + k + m * k
-
--- where the regions start; the directions stand at 0 and the resultants at k * d
-abbrev pub weights_at : (k d : ℕ) → ℕ
-weights_at k d = k * d + k * d
-
-abbrev pub kappas_at : (k d : ℕ) → ℕ
-kappas_at k d = k * d + k * d + k
-
-abbrev pub log_coefficients_at : (k d : ℕ) → ℕ
-log_coefficients_at k d = k * d + k * d + k + k
-
-abbrev pub totals_at : (k d : ℕ) → ℕ
-totals_at k d = k * d + k * d + k + k + k
-
-abbrev pub norms_at : (k d : ℕ) → ℕ
-norms_at k d = k * d + k * d + k + k + k + k
-
-abbrev pub responsibilities_at : (k d : ℕ) → ℕ
-responsibilities_at k d = k * d + k * d + k + k + k + k + k
-
-abbrev pub named : List (List Float) → Parts
-named w =
+abbrev pub parts_of : Area → Parts
+parts_of a =
     record {
-      directions = get_or w 0 [];
-      sums = get_or w 1 [];
-      weights = get_or w 2 [];
-      kappas = get_or w 3 [];
-      log_coefficients = get_or w 4 [];
-      totals = get_or w 5 [];
-      norms = get_or w 6 [];
-      resp = get_or w 7 [];
+      directions = a.warm.centers.now;
+      sums = a.warm.sums.now;
+      weights = a.weights.now;
+      kappas = a.kappas.now;
+      log_coefficients = a.log_coefficients.now;
+      totals = a.totals.now;
+      norms = a.norms.now;
+      resp = a.responsibilities.now;
     }
 
--- what an area holds
-unfoldable pub parts_in : (m k d : ℕ) → List Float → Parts
-parts_in m k d w = named (cut (lengths m k d) w)
+-- nothing of a run changes its sizes and leaves
+abbrev pub Same : (a a' : Area) → Type 0
+Same a a' = warm.Same a.warm a'.warm
 
 -- with another list in one place
 abbrev parts : (directions sums weights kappas log_coefficients totals norms resp : List Float) → Parts
@@ -119,37 +94,14 @@ em_of p loglik = record { resp = p.resp; model = model_of p; loglik = loglik }
 abbrev pub log_densities_from : (d : ℕ) (coefficients : List Float) → Model → (x : List Float) (c n : ℕ) → List Float
 log_densities_from d coefficients p x c n = tabulate (λ e. log_density_at d coefficients p x (c + e)) n
 
--- the length of an area: m leaves of d coordinates, k groups
-pub record Area (work m k d : ℕ) : Type 0 where
-  pub sizes : Sizes m k d
-  pub work_long : total m k d ≤ work
-
--- the leaves beside it
-pub record Leaves (weights coords m d : ℕ) : Type 0 where
-  pub weights_long : weights ≡ m
-  pub coords_long : coords ≡ m * d
-
--- leaf i with its rows of coordinates and of responsibilities; group c with its row
-pub record LeafOf (i m k d : ℕ) : Type 0 where
-  pub below : i < m
-  pub row : i * d + d ≤ m * d
-  pub shares : i * k + k ≤ m * k
-
-pub record GroupOf (c k d : ℕ) : Type 0 where
-  pub below : c < k
-  pub row : c * d + d ≤ k * d
-
--- the labels by which a run starts
-abbrev pub Labels : (m k : ℕ) → List ℕ → Type 0
-Labels m k labels = (i : ℕ) → i < m → get_or labels i 0 < k
-
 -- ---- a whole run
-pub record Runnable (work workU32 weights coords m k d rounds : ℕ) : Type 0 where
-  pub area : Area work m k d
-  pub warm_long : areas.total m k d ≤ work
-  pub work_u32_long : m + k ≤ workU32
-  pub leaves : Leaves weights coords m d
-  pub rounds_small : rounds ≤ 10000
+
+-- the run of the definition in an area
+abbrev pub once_in : Area → Settings → Once
+once_in a s =
+    let l = a.warm.leaves in
+    let z = a.warm.shape in
+    once_of s l.weights.now l.coords.now z.m z.k z.d
 
 pub record RunDone (once : Once) (p : Parts) (r : RunEnd) : Type 0 where
   pub em : em_of p r.loglik ≡ once.em

@@ -1,3 +1,4 @@
+pub mod Sized
 pub mod Mixture
 pub mod Fits
 pub mod Areas

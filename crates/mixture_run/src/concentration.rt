@@ -1,12 +1,13 @@
 // The concentrations of the groups, each by its own resultant or one by the pooled lengths: all that hangs on Kappa.
-ghost use Rattle.std.specs.Prelude.{◌≡◌, ◌+◌, ◌<◌, length, replicate};
+ghost use Rattle.std.specs.Prelude.{◌≡◌, replicate};
 ghost use Rattle.float.specs.Arithmetic.{plus_zero, sum_from};
 ghost use Rattle.rows.specs.Tabulate.{tabulate};
 ghost use Rattle.bessel.specs.Concentration.{Dimension, estimate_of};
 ghost use Rattle.mixture_kappa.specs.Kappas.{mean_length, shared_kappa, kappa_at, kappas_of};
-ghost use Rattle.mixture_run.specs.Areas.{parts_in, with_kappas, Area};
+ghost use Rattle.mixture_run.specs.Areas.{parts_of, with_kappas, Same};
 
-use super::layout;
+use super::layout::Area;
+use mixture_kappa::Kappa;
 
 // The concentration by a resultant's length and weight.
 fn kappa_by(resultant: f64, weight: f64, d: usize) -> f64
@@ -20,50 +21,47 @@ fn kappa_by(resultant: f64, weight: f64, d: usize) -> f64
 }
 
 // The concentration of each group by its own length and weight.
-fn free_kappas(work: &mut [f64], m: usize, k: usize, d: usize)
-    requires { Area (length work.old) m k d }
-    ensures { let p = parts_in m k d work.old in
-        let q = parts_in m k d work.new in
-        q ≡ with_kappas (tabulate (kappa_at d p.norms p.totals) k) p }
+#[tactic(auto, unfolding(rows::specs::Tabulate::tabulate))]
+fn free_kappas(area: &mut Area)
+    ensures same { Same area.old area.new }
+    ensures parts { let z = area.old.warm.shape in
+        let p = parts_of area.old in
+        parts_of area.new ≡ with_kappas (tabulate (kappa_at z.d p.norms p.totals) z.k) p }
 {
-    let kappas = layout::kappas_at(k, d);
-    let totals = layout::totals_at(k, d);
-    let norms = layout::norms_at(k, d);
-    for c in 0..k {
-        work[kappas + c] = kappa_by(work[norms + c], work[totals + c], d);
+    let d = area.warm.shape.d;
+    for c in 0..area.warm.shape.k {
+        area.kappas[c] = kappa_by(area.norms[c], area.totals[c], d);
     }
 }
 
-// One concentration for all, by the pooled length.
-fn shared_kappa(work: &mut [f64], whole: f64, m: usize, k: usize, d: usize)
-    requires { Area (length work.old) m k d }
-    ensures { let p = parts_in m k d work.old in
-        let q = parts_in m k d work.new in
-        q ≡ with_kappas (replicate k (shared_kappa d (sum_from plus_zero p.norms) whole)) p }
+// The concentration by the pooled length of the resultants.
+fn pooled_kappa(area: &Area, whole: f64) -> f64
+    ensures { result ≡ shared_kappa area.now.warm.shape.d (sum_from plus_zero area.now.norms.now) whole }
 {
-    let kappas = layout::kappas_at(k, d);
-    let norms = layout::norms_at(k, d);
-    let s = &work[..];
-    let pooled = vector::fold(&s[norms..norms + k]);
-    kmeans_layout::fill_at(work, kappas, k, kappa_by(pooled, whole, d));
+    kappa_by(vector::fold(area.norms), whole, area.warm.shape.d)
+}
+
+// One concentration for all, by the pooled length.
+fn shared_kappa(area: &mut Area, whole: f64)
+    ensures same { Same area.old area.new }
+    ensures parts { let z = area.old.warm.shape in
+        let p = parts_of area.old in
+        parts_of area.new ≡ with_kappas (replicate z.k
+        (shared_kappa z.d (sum_from plus_zero p.norms) whole)) p }
+{
+    let kappa = pooled_kappa(area, whole);
+    rows::fill(area.kappas, kappa);
 }
 
 // The concentrations by the lengths and the weights of the resultants, at the start and after each round.
-pub(crate) fn concentrate(
-    work: &mut [f64],
-    kappa: mixture_kappa::Kappa,
-    whole: f64,
-    m: usize,
-    k: usize,
-    d: usize,
-)
-    requires { Area (length work.old) m k d }
-    ensures { let p = parts_in m k d work.old in
-        let q = parts_in m k d work.new in
-        q ≡ with_kappas (kappas_of kappa k d p.norms p.totals whole) p }
+pub(crate) fn concentrate(area: &mut Area, kappa: Kappa, whole: f64)
+    ensures same { Same area.old area.new }
+    ensures parts { let z = area.old.warm.shape in
+        let p = parts_of area.old in
+        parts_of area.new ≡ with_kappas (kappas_of kappa z.k z.d p.norms p.totals whole) p }
 {
     match kappa {
-        mixture_kappa::Kappa::Free => free_kappas(work, m, k, d),
-        mixture_kappa::Kappa::Shared => shared_kappa(work, whole, m, k, d),
+        Kappa::Free => free_kappas(area),
+        Kappa::Shared => shared_kappa(area, whole),
     }
 }

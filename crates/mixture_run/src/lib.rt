@@ -1,13 +1,12 @@
-// One run of the mixture of von Mises-Fisher distributions in a lent work area (vmf.rs, movmf_once; document 01,
-// 'Mixture'): the warm start, then rounds of E-step and M-step. The area holds directions, resultants, five numbers a
-// group and the responsibilities, side by side; specs/Areas.antt names the places. m leaves of d coordinates, k groups.
+// One run of the mixture of von Mises-Fisher distributions in its work area (vmf.rs, movmf_once; document 01,
+// 'Mixture'): the warm start, then rounds of E-step and M-step.
 #![tactic(auto)]
 
-ghost use Rattle.std.specs.Prelude.{◌≡◌, true, ◌*◌, ◌<◌, ◌≤◌, length};
+ghost use Rattle.std.specs.Prelude.{◌≡◌, true, ◌≤◌};
 ghost use Rattle.std.specs.Float.{inf};
+ghost use Rattle.limits.specs.Limits.{most_rounds};
 ghost use Rattle.mixture_run.specs.Mixture.{em_round, stops_at, em_from};
-ghost use Rattle.mixture_run.specs.Fits.{once_of};
-ghost use Rattle.mixture_run.specs.Areas.{parts_in, model_of, em_of, Area, Leaves, Runnable, RunDone};
+ghost use Rattle.mixture_run.specs.Areas.{parts_of, model_of, em_of, Same, once_in, RunDone};
 
 mod concentration;
 mod expectation;
@@ -15,25 +14,23 @@ pub mod layout;
 mod maximization;
 mod start;
 
+use layout::Area;
+use mixture_kappa::{Kappa, Settings};
+
+// The rounds of the warm start.
+const WARM_ROUNDS: usize = 50;
+
 // One round; its log-likelihood.
-fn em_round(
-    work: &mut [f64],
-    weights: &[f64],
-    coords: &[f64],
-    kappa: mixture_kappa::Kappa,
-    m: usize,
-    k: usize,
-    d: usize,
-) -> f64
-    requires area { Area (length work.old) m k d }
-    requires leaves { Leaves (length weights.now) (length coords.now) m d }
-    ensures { let p = parts_in m k d work.old in
-        let q = parts_in m k d work.new in
-        em_of q result ≡ em_round kappa weights.now coords.now m k d (model_of p) }
+fn em_round(area: &mut Area, kappa: Kappa) -> f64
+    ensures same { Same area.old area.new }
+    ensures round { let z = area.old.warm.shape in
+        let l = area.old.warm.leaves in
+        em_of (parts_of area.new) result ≡ em_round kappa l.weights.now l.coords.now
+        z.m z.k z.d (model_of (parts_of area.old)) }
 {
-    expectation::put_log_coefficients(work, m, k, d);
-    let loglik = expectation::expect(work, weights, coords, m, k, d);
-    maximization::maximize_model(work, weights, coords, kappa, m, k, d);
+    expectation::put_log_coefficients(area);
+    let loglik = expectation::expect(area);
+    maximization::maximize_model(area, kappa);
     loglik
 }
 
@@ -45,25 +42,19 @@ fn stops_at(it: usize, old: f64, new: f64) -> bool
 }
 
 // Rounds until the log-likelihood stands, at most `rounds`; the last log-likelihood.
-fn em(
-    work: &mut [f64],
-    weights: &[f64],
-    coords: &[f64],
-    kappa: mixture_kappa::Kappa,
-    rounds: usize,
-    m: usize,
-    k: usize,
-    d: usize,
-) -> f64
-    requires area { (Area (length work.old) m k d) × (rounds ≤ 10000) }
-    requires leaves { Leaves (length weights.now) (length coords.now) m d }
-    ensures { let p = parts_in m k d work.old in
-        let q = parts_in m k d work.new in
-        em_of q result ≡ em_from kappa weights.now coords.now m k d rounds 0 (em_of p (inf true)) }
+#[tactic(auto, using(crate::proofs::Rounds::em_turn, crate::proofs::Rounds::em_end))]
+fn em(area: &mut Area, kappa: Kappa, rounds: usize) -> f64
+    requires { rounds ≤ most_rounds }
+    ensures same { Same area.old area.new }
+    ensures rounds_done { let z = area.old.warm.shape in
+        let l = area.old.warm.leaves in
+        em_of (parts_of area.new) result ≡ em_from kappa l.weights.now
+        l.coords.now z.m z.k z.d rounds 0
+        (em_of (parts_of area.old) (inf true)) }
 {
     let mut loglik = -1.0 / 0.0;
     for it in 0..rounds {
-        let new = em_round(work, weights, coords, kappa, m, k, d);
+        let new = em_round(area, kappa);
         let stops = stops_at(it, loglik, new);
         loglik = new;
         if stops {
@@ -81,26 +72,16 @@ pub struct RunEnd {
 }
 
 // One run: the warm start, the concentrations of its groups, and the rounds. What it found stays in the area.
-pub fn movmf_once(
-    work: &mut [f64],
-    work_u32: &mut [u32],
-    weights: &[f64],
-    coords: &[f64],
-    s: mixture_kappa::Settings,
-    m: usize,
-    k: usize,
-    d: usize,
-) -> RunEnd
-    requires { Runnable (length work.old) (length work_u32.old) (length weights.now)
-        (length coords.now) m k d s.rounds }
-    ensures { let once = once_of s weights.now coords.now m k d in
-        RunDone once (parts_in m k d work.new) result }
+pub fn movmf_once(area: &mut Area, s: Settings) -> RunEnd
+    requires { s.rounds ≤ most_rounds }
+    ensures same { Same area.old area.new }
+    ensures done { RunDone (once_in area.old s) (parts_of area.new) result }
 {
-    let warm = kmeans_lloyd::run(work, work_u32, weights, coords, s.seed, m, k, d, 50);
+    let warm = kmeans_lloyd::run(&mut area.warm, s.seed, WARM_ROUNDS);
     let kappa = s.kappa;
-    start::init_kappas(work, work_u32, weights, kappa, m, k, d);
-    start::clear(work, m, k, d);
-    let loglik = em(work, weights, coords, kappa, s.rounds, m, k, d);
+    start::init_kappas(area, kappa);
+    start::clear(area);
+    let loglik = em(area, kappa, s.rounds);
     let counts = warm.counts;
     RunEnd { loglik, counts }
 }

@@ -1,107 +1,94 @@
 // The M-step: the sufficient statistics of the groups from the responsibilities, and from them weights, directions and
 // concentrations.
-ghost use Rattle.std.specs.Prelude.{◌≡◌, ◌+◌, ◌*◌, ◌<◌, ◌≤◌, length, get_or};
+ghost use Rattle.std.specs.Prelude.{◌≡◌, cond, ◌+◌, ◌*◌, ◌<◌, ◌≤◌, length, get_or};
 ghost use Rattle.std.specs.Float.{nan, binary64};
-ghost use Rattle.std.specs.Float.Ieee.{mul};
-ghost use Rattle.rows.specs.Rows.{Apart, part, put_part, row_of};
+ghost use Rattle.std.specs.Float.Ieee.{mul, lt};
+ghost use Rattle.float.specs.Arithmetic.{plus_zero, minus_zero, sum_from};
+ghost use Rattle.rows.specs.Rows.{part, put_part, row_of};
+ghost use Rattle.kmeans_layout.specs.Areas.{Same as SameAreas};
 ghost use Rattle.rows.specs.Tabulate.{tabulate};
-ghost use Rattle.vector.specs.Vectors.{add_scaled, divided_by};
+ghost use Rattle.vector.specs.Vectors.{divided_by};
 ghost use Rattle.kmeans_sums.specs.Sums.{norms_up_to};
 ghost use Rattle.mixture_run.specs.Mixture.{accumulate_group, accumulate_leaf, statistics_up_to, even_weight};
 ghost use Rattle.mixture_run.specs.Mixture.{weight_by, weight_at, directions_up_to, maximize};
-ghost use Rattle.mixture_run.specs.Areas.{parts_in, model_of, statistics_of, with_directions, with_weights};
-ghost use Rattle.mixture_run.specs.Areas.{with_norms, with_statistics, Area, Leaves, LeafOf, GroupOf};
+ghost use Rattle.mixture_run.specs.Areas.{parts_of, model_of, statistics_of, with_directions, with_weights};
+ghost use Rattle.mixture_run.specs.Areas.{with_norms, with_statistics, Same};
 
-use super::{concentration, layout};
+use super::concentration;
+use super::layout::Area;
+use mixture_kappa::Kappa;
 
-// The row at `to` gains w times the row of coordinates at `from`.
-fn add_row(work: &mut [f64], coords: &[f64], w: f64, to: usize, from: usize, d: usize)
-    requires { (to + d ≤ length work.old) × (from + d ≤ length coords.now) }
-    ensures { let old = work.old in
-        work.new ≡ put_part old to d (add_scaled w (part old to d) (part coords.now from d)) }
+// The weight of leaf i times its responsibility in group c.
+fn share(area: &Area, i: usize, c: usize) -> f64
+    requires { (i < area.now.warm.shape.m) × (c < area.now.warm.shape.k) }
+    ensures { result ≡ mul binary64 (get_or area.now.warm.leaves.weights.now i nan)
+        (get_or (row_of area.now.responsibilities.now area.now.warm.shape.k i) c nan) }
 {
-    vector::add_scaled(&mut work[to..to + d], w, &coords[from..from + d]);
+    area.warm.leaves.weights[i] * area.responsibilities[i * area.warm.shape.k + c]
 }
 
-// Group c gains leaf i, of this weight, times its responsibility.
-fn accumulate_group(
-    work: &mut [f64],
-    coords: &[f64],
-    weight: f64,
-    i: usize,
-    c: usize,
-    m: usize,
-    k: usize,
-    d: usize,
-)
-    requires area { Area (length work.old) m k d }
-    requires coords_len { (length coords.now ≡ m * d) × (LeafOf i m k d) × (GroupOf c k d) }
-    ensures { let p = parts_in m k d work.old in
-        let q = parts_in m k d work.new in
-        let w = mul binary64 weight (get_or (row_of p.resp k i) c nan) in
-        q ≡ with_statistics (accumulate_group d w (row_of coords.now d i) c (statistics_of p)) p }
+// Group c gains a leaf, of this weight.
+fn accumulate_group(area: &mut Area, c: usize, w: f64, x: &[f64])
+    requires { (c < area.old.warm.shape.k) × (length x.now ≡ area.old.warm.shape.d) }
+    ensures same { Same area.old area.new }
+    ensures parts { let z = area.old.warm.shape in
+        let p = parts_of area.old in
+        parts_of area.new ≡ with_statistics (accumulate_group z.d w x.now c (statistics_of p)) p }
 {
-    let at = layout::totals_at(k, d) + c;
-    let share = layout::responsibilities_at(k, d) + i * k + c;
-    let w = weight * work[share];
-    work[at] = work[at] + w;
-    add_row(work, coords, w, k * d + c * d, i * d, d);
+    area.totals[c] = area.totals[c] + w;
+    kmeans_sums::add_leaf(&mut area.warm, c, w, x);
 }
 
 // Every group gains leaf i.
-fn accumulate_leaf(
-    work: &mut [f64],
-    weights: &[f64],
-    coords: &[f64],
-    i: usize,
-    m: usize,
-    k: usize,
-    d: usize,
-)
-    requires area { Area (length work.old) m k d }
-    requires leaves { (Leaves (length weights.now) (length coords.now) m d) × (LeafOf i m k d) }
-    ensures { let p = parts_in m k d work.old in
-        let q = parts_in m k d work.new in
-        let w = get_or weights.now i nan in
-        let x = row_of coords.now d i in
-        q ≡ with_statistics (accumulate_leaf d w (row_of p.resp k i) x (statistics_of p) k) p }
+#[tactic(auto, using(crate::proofs::Statistics::leaf_turn), unfolding(crate::specs::Mixture::accumulate_leaf))]
+fn accumulate_leaf(area: &mut Area, i: usize)
+    requires { i < area.old.warm.shape.m }
+    ensures same { Same area.old area.new }
+    ensures parts { let z = area.old.warm.shape in
+        let l = area.old.warm.leaves in
+        let p = parts_of area.old in
+        let w = get_or l.weights.now i nan in
+        let x = row_of l.coords.now z.d i in
+        parts_of area.new ≡ with_statistics (accumulate_leaf z.d w (row_of p.resp z.k i)
+        x (statistics_of p) z.k) p }
 {
-    let weight = weights[i];
-    for c in 0..k {
-        accumulate_group(work, coords, weight, i, c, m, k, d);
+    let leaves = area.warm.leaves;
+    let d = area.warm.shape.d;
+    let from = i * d;
+    let x = &leaves.coords[from..from + d];
+    for c in 0..area.warm.shape.k {
+        let w = share(area, i, c);
+        accumulate_group(area, c, w, x);
     }
 }
 
 // The sufficient statistics of the groups: their whole weights and resultants, from nothing.
-fn accumulate(work: &mut [f64], weights: &[f64], coords: &[f64], m: usize, k: usize, d: usize)
-    requires area { Area (length work.old) m k d }
-    requires leaves { Leaves (length weights.now) (length coords.now) m d }
-    ensures { let p = parts_in m k d work.old in
-        let q = parts_in m k d work.new in
-        q ≡ with_statistics (statistics_up_to weights.now coords.now p.resp k d m) p }
+#[tactic(auto, using(crate::proofs::Statistics::leaves_turn), unfolding(crate::specs::Mixture::statistics_up_to))]
+fn accumulate(area: &mut Area)
+    ensures same { Same area.old area.new }
+    ensures parts { let z = area.old.warm.shape in
+        let l = area.old.warm.leaves in
+        let p = parts_of area.old in
+        parts_of area.new ≡ with_statistics (statistics_up_to l.weights.now
+        l.coords.now p.resp z.k z.d z.m) p }
 {
-    let kd = k * d;
-    kmeans_layout::fill_at(work, kd, kd, 0.0);
-    kmeans_layout::fill_at(work, layout::totals_at(k, d), k, 0.0);
-    for i in 0..m {
-        accumulate_leaf(work, weights, coords, i, m, k, d);
+    rows::fill(area.totals, 0.0);
+    kmeans_sums::clear_sums(&mut area.warm);
+    for i in 0..area.warm.shape.m {
+        accumulate_leaf(area, i);
     }
 }
 
 // The length of each resultant.
-pub(crate) fn put_norms(work: &mut [f64], m: usize, k: usize, d: usize)
-    requires { Area (length work.old) m k d }
-    ensures { let p = parts_in m k d work.old in
-        let q = parts_in m k d work.new in
-        q ≡ with_norms (norms_up_to p.sums d k) p }
+#[tactic(auto, unfolding(rows::specs::Tabulate::tabulate))]
+pub(crate) fn put_norms(area: &mut Area)
+    ensures same { Same area.old area.new }
+    ensures parts { let z = area.old.warm.shape in
+        let p = parts_of area.old in
+        parts_of area.new ≡ with_norms (norms_up_to p.sums z.d z.k) p }
 {
-    let sums = k * d;
-    let norms = layout::norms_at(k, d);
-    for c in 0..k {
-        let at = sums + c * d;
-        let s = &work[..];
-        let v = vector::norm(&s[at..at + d]);
-        work[norms + c] = v;
+    for c in 0..area.warm.shape.k {
+        area.norms[c] = kmeans_sums::sum_norm(&area.warm, c);
     }
 }
 
@@ -124,72 +111,86 @@ fn weight_by(total: f64, whole: f64, k: usize) -> f64
     even_weight(k)
 }
 
-// The weight of each group.
-fn put_weights(work: &mut [f64], whole: f64, m: usize, k: usize, d: usize)
-    requires { Area (length work.old) m k d }
-    ensures { let p = parts_in m k d work.old in
-        let q = parts_in m k d work.new in
-        q ≡ with_weights (tabulate (weight_at k whole p.totals) k) p }
+// The whole weight of the groups.
+fn whole_weight(area: &Area) -> f64
+    ensures { result ≡ sum_from minus_zero area.now.totals.now }
 {
-    let weights = layout::weights_at(k, d);
-    let totals = layout::totals_at(k, d);
+    vector::sum(area.totals)
+}
+
+// The weight of each group.
+#[tactic(auto, unfolding(rows::specs::Tabulate::tabulate))]
+fn put_weights(area: &mut Area, whole: f64)
+    ensures same { Same area.old area.new }
+    ensures parts { let z = area.old.warm.shape in
+        let p = parts_of area.old in
+        parts_of area.new ≡ with_weights (tabulate (weight_at z.k whole p.totals) z.k) p }
+{
+    let k = area.warm.shape.k;
     for c in 0..k {
-        work[weights + c] = weight_by(work[totals + c], whole, k);
+        area.weights[c] = weight_by(area.totals[c], whole, k);
     }
 }
 
-// A part of an array divided by x, written over an earlier part of it.
-fn divide_within(w: &mut [f64], from: usize, to: usize, n: usize, x: f64)
-    requires { Apart (length w.old) from to n }
-    ensures { w.new ≡ put_part w.old to n (divided_by x (part w.old from n)) }
+// The d elements of a list from place `at` on over n, in their place in another. `from` is only read: it is lent as
+// `&mut` so that what holds it knows that it stays.
+fn divide_row(to: &mut [f64], from: &mut [f64], at: usize, d: usize, n: f64)
+    requires { (at + d ≤ length to.old) × (length from.old ≡ length to.old) }
+    ensures { (to.new ≡ put_part to.old at d (divided_by n (part from.old at d))) × (from.new ≡ from.old) }
 {
-    for j in 0..n {
-        w[to + j] = w[from + j] / x;
+    let row = &mut to[at..at + d];
+    rows::copy(row, &from[at..at + d]);
+    vector::divide_by(row, n);
+}
+
+// The direction of group c: its resultant over this length, where that is above 0.
+#[tactic(auto, using(rows::proofs::Rows::put_same))]
+fn redirect_group(warm: &mut kmeans_layout::Area, c: usize, n: f64)
+    requires { c < warm.old.shape.k }
+    ensures same { SameAreas warm.old warm.new }
+    ensures sums { warm.new.sums.now ≡ warm.old.sums.now }
+    ensures centers { let d = warm.old.shape.d in
+        let old = warm.old.centers.now in
+        warm.new.centers.now
+        ≡ put_part old (c * d) d
+        (cond (lt plus_zero n) (divided_by n (row_of warm.old.sums.now d c)) (row_of old d c)) }
+{
+    let d = warm.shape.d;
+    if n > 0.0 {
+        divide_row(warm.centers, warm.sums, c * d, d, n);
     }
 }
 
 // The direction of each group: its resultant over its length, where that is above 0.
-fn redirect(work: &mut [f64], m: usize, k: usize, d: usize)
-    requires area { Area (length work.old) m k d }
-    requires work_value { (parts_in m k d work.old).norms ≡ norms_up_to (parts_in m k d work.old).sums d k }
-    ensures { let p = parts_in m k d work.old in
-        let q = parts_in m k d work.new in
-        q ≡ with_directions (directions_up_to d p.sums p.directions k) p }
+#[tactic(auto, unfolding(crate::specs::Mixture::directions_up_to))]
+fn redirect(area: &mut Area)
+    requires { area.old.norms.now ≡ norms_up_to area.old.warm.sums.now area.old.warm.shape.d area.old.warm.shape.k }
+    ensures same { Same area.old area.new }
+    ensures parts { let z = area.old.warm.shape in
+        let p = parts_of area.old in
+        parts_of area.new ≡ with_directions (directions_up_to z.d p.sums p.directions z.k) p }
 {
-    let sums = k * d;
-    let norms = layout::norms_at(k, d);
-    for c in 0..k {
-        let n = work[norms + c];
-        if n > 0.0 {
-            let to = c * d;
-            divide_within(work, sums + to, to, d, n);
-        }
+    for c in 0..area.warm.shape.k {
+        let n = area.norms[c];
+        redirect_group(&mut area.warm, c, n);
     }
 }
 
 // The M-step: weights, directions and concentrations from the responsibilities.
-pub(crate) fn maximize_model(
-    work: &mut [f64],
-    weights: &[f64],
-    coords: &[f64],
-    kappa: mixture_kappa::Kappa,
-    m: usize,
-    k: usize,
-    d: usize,
-)
-    requires area { Area (length work.old) m k d }
-    requires leaves { Leaves (length weights.now) (length coords.now) m d }
-    ensures { let p = parts_in m k d work.old in
-        let q = parts_in m k d work.new in
-        let g = statistics_up_to weights.now coords.now p.resp k d m in
-        (q.resp ≡ p.resp) × (model_of q ≡ maximize kappa k d (model_of p) g) }
+pub(crate) fn maximize_model(area: &mut Area, kappa: Kappa)
+    ensures same { Same area.old area.new }
+    ensures parts { let z = area.old.warm.shape in
+        let l = area.old.warm.leaves in
+        let p = parts_of area.old in
+        let q = parts_of area.new in
+        let g = statistics_up_to l.weights.now l.coords.now p.resp z.k
+        z.d z.m in
+        (q.resp ≡ p.resp) × (model_of q ≡ maximize kappa z.k z.d (model_of p) g) }
 {
-    accumulate(work, weights, coords, m, k, d);
-    put_norms(work, m, k, d);
-    let totals = layout::totals_at(k, d);
-    let s = &work[..];
-    let whole = vector::sum(&s[totals..totals + k]);
-    put_weights(work, whole, m, k, d);
-    redirect(work, m, k, d);
-    concentration::concentrate(work, kappa, whole, m, k, d);
+    accumulate(area);
+    put_norms(area);
+    let whole = whole_weight(area);
+    put_weights(area, whole);
+    redirect(area);
+    concentration::concentrate(area, kappa, whole);
 }

@@ -1,65 +1,62 @@
 // What stands before the first round: the concentrations of the labelled groups, weights 1 / k, no responsibilities.
-ghost use Rattle.std.specs.Prelude.{◌≡◌, ◌+◌, ◌*◌, ◌<◌, ◌≤◌, length, replicate, take};
-ghost use Rattle.float.specs.Arithmetic.{plus_zero};
+ghost use Rattle.std.specs.Prelude.{◌≡◌, ◌*◌, replicate};
+ghost use Rattle.float.specs.Arithmetic.{plus_zero, sum_from};
 ghost use Rattle.mixture_run.specs.Mixture.{even_weight};
 ghost use Rattle.mixture_run.specs.Fits.{label_totals_up_to, start_kappas_by};
-ghost use Rattle.mixture_run.specs.Areas.{parts_in, with_weights, with_totals, with_resp, Area, Labels};
+ghost use Rattle.mixture_run.specs.Areas.{parts_of, with_weights, with_totals, with_resp, Same};
 
-use super::{concentration, layout, maximization};
+use super::layout::Area;
+use super::{concentration, maximization};
+use mixture_kappa::Kappa;
 
 // The weights of the groups that the labels make.
-fn label_totals(work: &mut [f64], work_u32: &[u32], weights: &[f64], m: usize, k: usize, d: usize)
-    requires area { (Area (length work.old) m k d) × (length weights.now ≡ m) × (m ≤ length work_u32.now) }
-    requires labels { Labels m k work_u32.now }
-    ensures { let p = parts_in m k d work.old in
-        let q = parts_in m k d work.new in
-        q ≡ with_totals (label_totals_up_to weights.now (take m work_u32.now) k m) p }
+#[tactic(auto, using(crate::proofs::LabelTotals::totals_turn), unfolding(crate::specs::Fits::label_totals_up_to))]
+fn label_totals(area: &mut Area)
+    ensures same { Same area.old area.new }
+    ensures parts { let z = area.old.warm.shape in
+        let l = area.old.warm.leaves in
+        parts_of area.new ≡ with_totals (label_totals_up_to l.weights.now
+        area.old.warm.labels.now z.k z.m) (parts_of area.old) }
 {
-    let totals = layout::totals_at(k, d);
-    kmeans_layout::fill_at(work, totals, k, 0.0);
-    for i in 0..m {
-        let at = totals + work_u32[i] as usize;
-        work[at] = work[at] + weights[i];
+    rows::fill(area.totals, 0.0);
+    for i in 0..area.warm.shape.m {
+        let c = area.warm.labels[i] as usize;
+        area.totals[c] = area.totals[c] + area.warm.leaves.weights[i];
     }
 }
 
-// The concentrations of the groups that the labels make, whose resultants stand in the area.
-pub(crate) fn init_kappas(
-    work: &mut [f64],
-    work_u32: &[u32],
-    weights: &[f64],
-    kappa: mixture_kappa::Kappa,
-    m: usize,
-    k: usize,
-    d: usize,
-)
-    requires area { (Area (length work.old) m k d) × (length weights.now ≡ m) × (m ≤ length work_u32.now) }
-    requires labels { Labels m k work_u32.now }
-    ensures { let p = parts_in m k d work.old in
-        let q = parts_in m k d work.new in
-        let totals = label_totals_up_to weights.now (take m work_u32.now) k m in
-        (q.directions ≡ p.directions) × (q.kappas ≡ start_kappas_by kappa k d p.sums totals) }
+// The whole weight of the labelled groups.
+fn labelled_weight(area: &Area) -> f64
+    ensures { result ≡ sum_from plus_zero area.now.totals.now }
 {
-    label_totals(work, work_u32, weights, m, k, d);
-    maximization::put_norms(work, m, k, d);
-    let totals = layout::totals_at(k, d);
-    let s = &work[..];
-    let whole = vector::fold(&s[totals..totals + k]);
-    concentration::concentrate(work, kappa, whole, m, k, d);
+    vector::fold(area.totals)
+}
+
+// The concentrations of the groups that the labels make, whose resultants stand in the area.
+pub(crate) fn init_kappas(area: &mut Area, kappa: Kappa)
+    ensures same { Same area.old area.new }
+    ensures parts { let z = area.old.warm.shape in
+        let l = area.old.warm.leaves in
+        let p = parts_of area.old in
+        let q = parts_of area.new in
+        let totals = label_totals_up_to l.weights.now area.old.warm.labels.now
+        z.k z.m in
+        (q.directions ≡ p.directions)
+        × (q.kappas ≡ start_kappas_by kappa z.k z.d p.sums totals) }
+{
+    label_totals(area);
+    maximization::put_norms(area);
+    let whole = labelled_weight(area);
+    concentration::concentrate(area, kappa, whole);
 }
 
 // Weights 1 / k, and no responsibilities.
-pub(crate) fn clear(work: &mut [f64], m: usize, k: usize, d: usize)
-    requires { Area (length work.old) m k d }
-    ensures { let p = parts_in m k d work.old in
-        let q = parts_in m k d work.new in
-        q ≡ with_resp (replicate (m * k) plus_zero) (with_weights (replicate k (even_weight k)) p) }
+pub(crate) fn clear(area: &mut Area)
+    ensures same { Same area.old area.new }
+    ensures parts { let z = area.old.warm.shape in
+        parts_of area.new ≡ with_resp (replicate (z.m * z.k) plus_zero)
+        (with_weights (replicate z.k (even_weight z.k)) (parts_of area.old)) }
 {
-    kmeans_layout::fill_at(
-        work,
-        layout::weights_at(k, d),
-        k,
-        maximization::even_weight(k),
-    );
-    kmeans_layout::fill_at(work, layout::responsibilities_at(k, d), m * k, 0.0);
+    rows::fill(area.weights, maximization::even_weight(area.warm.shape.k));
+    rows::fill(area.responsibilities, 0.0);
 }

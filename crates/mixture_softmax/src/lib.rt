@@ -14,7 +14,8 @@ ghost use Rattle.mixture_softmax.specs.Leaves.{shares_up_to, logs_up_to, LeafRow
 ghost use Rattle.mixture_softmax.specs.Blocks.{less_by, from_greatest, log_sum_over, log_over_at, from_greatests};
 ghost use Rattle.mixture_softmax.specs.Blocks.{from_logs, logs_over, Block, Beside};
 
-// The greater of g and x, the first of equals. g is no NaN, so that one comparison is enough.
+// The greater of g and x, the first of equals. g is no NaN, so that one comparison is enough, where `float::max` needs
+// two.
 fn greater(g: f64, x: f64) -> f64
     requires { is_nan g ≡ false }
     ensures { (result ≡ max_of g x) × (is_nan result ≡ false) }

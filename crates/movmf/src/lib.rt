@@ -6,12 +6,16 @@
 ghost use Rattle.std.specs.Prelude.{◌≡◌, length};
 ghost use Rattle.mixture_kappa.specs.declared.Kappa.TheVariants.{Free};
 ghost use Rattle.mixture_outputs.specs.Outputs.{arrays, lengths_of};
+ghost use Rattle.mixture_outputs.specs.Lent.{outputs_of, SameArrays};
 ghost use Rattle.limits.specs.Refusals.{number_in};
 ghost use Rattle.movmf.specs.Refusals.{refusal_of};
 ghost use Rattle.movmf.specs.Outcome.{answered, outcome};
 ghost use Rattle.movmf.specs.Answers.{AnswersWith, AnswerLabelsFirst};
 
-use limits::Refusal;
+use limits::{Leaves, Refusal, Shape};
+use mixture_kappa::Settings;
+use mixture_outputs::Arrays;
+use mixture_restarts::Halves;
 
 // What a call finds: k, the log-likelihood and the counts.
 #[derive(Clone, Copy)]
@@ -19,6 +23,33 @@ pub struct Fitted {
     pub k: usize,
     pub loglik: f64,
     pub counts: counts::Counts,
+}
+
+// The mixture fit of these leaves with k groups. The two work arrays come singly, since a struct of them would have to
+// say that their lengths stay.
+fn fit(
+    leaves: Leaves,
+    d: usize,
+    k: usize,
+    s: Settings,
+    o: &mut Arrays,
+    work: &mut [f64],
+    work_u32: &mut [u32],
+) -> Result<Fitted, Refusal>
+    ensures same { SameArrays o.old o.new }
+    ensures fitted { answered result (outputs_of o.new) ≡ outcome (outputs_of o.old) leaves.entry.weights.now
+        leaves.entry.coords.now d k s (length work.old) (length work_u32.old) }
+    ensures labels_first { AnswerLabelsFirst (length leaves.entry.weights.now) result (outputs_of o.new) }
+{
+    let l = o.lengths(work.len(), work_u32.len());
+    let m = leaves.weights.len();
+    mixture_outputs::check(leaves, d, k, limits::groups_ok(k, m), s, l)?;
+    let mut halves = Halves::of(Shape { m, k, d }, leaves, work, work_u32);
+    let r = mixture_restarts::four_runs(&mut halves, s);
+    mixture_outputs::fill_outputs(o, mixture_restarts::kept(&halves, r));
+    let loglik = mixture_restarts::kept_loglik(r);
+    let counts = r.counts;
+    Ok(Fitted { k, loglik, counts })
 }
 
 // The mixture fit of m leaves (m weights, m * d coordinates) with k groups. The outputs hold m labels, m * k
@@ -29,7 +60,7 @@ pub fn movmf_with(
     coords: &[f64],
     d: usize,
     k: usize,
-    s: mixture_kappa::Settings,
+    s: Settings,
     labels: &mut [u32],
     responsibilities: &mut [f64],
     group_weights: &mut [f64],
@@ -54,36 +85,15 @@ pub fn movmf_with(
         (arrays labels.new responsibilities.new group_weights.new
         directions.new concentrations.new logw.new) }
 {
-    let l = mixture_outputs::Lengths {
-        labels: labels.len(),
-        responsibilities: responsibilities.len(),
-        weights: group_weights.len(),
-        directions: directions.len(),
-        concentrations: concentrations.len(),
-        logw: logw.len(),
-        work: work.len(),
-        work_u32: work_u32.len(),
-    };
-    let m = weights.len();
-    let groups = limits::groups_ok(k, m);
-    mixture_outputs::check(weights, coords, d, k, groups, s, l)?;
-    let r = mixture_restarts::four_runs(work, work_u32, weights, coords, s, m, k, d);
-    mixture_outputs::fill_outputs(
+    let mut o = Arrays {
         labels,
         responsibilities,
-        group_weights,
+        weights: group_weights,
         directions,
         concentrations,
         logw,
-        work,
-        r,
-        m,
-        k,
-        d,
-    );
-    let loglik = mixture_restarts::kept_loglik(r);
-    let counts = r.counts;
-    Ok(Fitted { k, loglik, counts })
+    };
+    fit(Leaves { weights, coords }, d, k, s, &mut o, work, work_u32)
 }
 
 // The same, each group with a concentration of its own.
@@ -118,7 +128,7 @@ pub fn movmf(
         (arrays labels.new responsibilities.new group_weights.new
         directions.new concentrations.new logw.new) }
 {
-    let s = mixture_kappa::Settings {
+    let s = Settings {
         rounds,
         seed,
         kappa: mixture_kappa::Kappa::Free,

@@ -70,7 +70,8 @@ fn finish(s: Square) -> f64
     }
 }
 
-// The square roots of positive numbers, in step. At each turn the places from the one worth `top` down are open.
+// The square roots of positive numbers, in step. At each turn the places from the one worth `top` down are open. The
+// loop counts nothing: what a place is worth is halved until nothing is left.
 fn positive_roots<const N: usize>(x: [f64; N]) -> [f64; N]
     requires fits { N ≤ 2 ^ 32 }
     requires positive { All (λ v. T (positive v)) x }

@@ -2,8 +2,8 @@
 // copied. Vectors of vectors are flat arrays with a row length; a row is lent as a part.
 #![tactic(auto)]
 
-ghost use Rattle.std.specs.Prelude.{◌≡◌, length, replicate};
-ghost use Rattle.rows.specs.Rows.{Alike, Apart, part, put_part};
+ghost use Rattle.std.specs.Prelude.{◌≡◌, ◌≤◌, ◌++◌, length, replicate, drop};
+ghost use Rattle.rows.specs.Rows.{Alike};
 
 // Every element becomes x.
 pub fn fill<T: Copy>(v: &mut [T], x: T)
@@ -22,10 +22,10 @@ pub fn copy<T: Copy>(to: &mut [T], from: &[T])
     to.copy_from_slice(from);
 }
 
-// A part of an array copied over an earlier one of the same array.
-pub fn copy_within<T: Copy>(w: &mut [T], from: usize, to: usize, n: usize)
-    requires { Apart (length w.old) from to n }
-    ensures { w.new ≡ put_part w.old to n (part w.old from n) }
+// The elements of `from` become the first of `to`.
+pub fn copy_front<T: Copy>(to: &mut [T], from: &[T])
+    requires { length from.now ≤ length to.old }
+    ensures { to.new ≡ from.now ++ drop (length from.now) to.old }
 {
-    w.copy_within(from..from + n, to);
+    to[..from.len()].copy_from_slice(from);
 }

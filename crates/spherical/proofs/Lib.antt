@@ -1,5 +1,4 @@
 -- Laws that other proofs cite, each file named after what it is about.
 pub mod Refusals
-pub mod Outcomes
 pub mod Work
 pub mod Doubled

@@ -9,56 +9,51 @@ ghost use Rattle.spherical.specs.Outcome.{Outcome, outcome};
 ghost use Rattle.spherical.specs.Answers.{AnswersWith};
 ghost use Rattle.spherical.specs.Work.{CountsEveryRound};
 
-use limits::{Refusal, need};
+use kmeans_restarts::Halves;
+use limits::{Leaves, Refusal, Shape, need};
 
 // ---- what is refused
 
-// The outputs and the work arrays are long enough.
-fn arrays_ok(
-    m: usize,
-    k: usize,
-    d: usize,
+// The lengths of the output and work arrays.
+#[derive(Clone, Copy)]
+struct Lengths {
     labels: usize,
     directions: usize,
     work: usize,
     work_u32: usize,
-) -> bool
+}
+
+// The outputs and the work arrays are long enough. That m, k and d are within their limits is tested before.
+fn arrays_ok(m: usize, k: usize, d: usize, l: Lengths) -> bool
     requires { (m ≤ 4096) × (k ≤ 64) × (d ≤ 256) }
-    ensures { result ≡ arrays_ok m k d labels directions work work_u32 }
+    ensures { result ≡ arrays_ok m k d l.labels l.directions l.work l.work_u32 }
 {
     let kd = k * d;
-    m <= labels && kd <= directions && limits::work_ok(m, k, d, work, work_u32)
+    m <= l.labels && kd <= l.directions && limits::work_ok(m, k, d, l.work, l.work_u32)
 }
 
 // The first refusal that holds, if any.
 #[tactic(auto, unfolding(crate::specs::Refusals::refusal_of))]
 fn check(
-    weights: &[f64],
-    coords: &[f64],
+    leaves: Leaves,
     d: usize,
     k: usize,
     rounds: usize,
     restarts: usize,
-    labels: usize,
-    directions: usize,
-    work: usize,
-    work_u32: usize,
+    l: Lengths,
 ) -> Result<(), Refusal>
-    ensures { result ≡ refusal_of weights.now coords.now d k rounds restarts labels directions
-        work work_u32 }
+    ensures { result ≡ refusal_of leaves.entry.weights.now leaves.entry.coords.now d k rounds restarts l.labels
+        l.directions l.work l.work_u32 }
 {
-    let m = weights.len();
-    need(limits::sizes_ok(m, d, coords.len()), Refusal::Sizes)?;
+    let m = leaves.weights.len();
+    need(limits::sizes_ok(m, d, leaves.coords.len()), Refusal::Sizes)?;
     need(limits::groups_ok(k, m), Refusal::Groups)?;
     need(
         rounds <= limits::MOST_ROUNDS && restarts <= limits::MOST_RESTARTS,
         Refusal::Rounds,
     )?;
-    need(
-        arrays_ok(m, k, d, labels, directions, work, work_u32),
-        Refusal::Arrays,
-    )?;
-    limits::check_leaves(weights, coords)
+    need(arrays_ok(m, k, d, l), Refusal::Arrays)?;
+    limits::check_leaves(leaves)
 }
 
 // ---- the entry
@@ -94,26 +89,20 @@ pub fn spherical_kmeans(
         (length work_u32.old))) result }
     ensures counts_every_round { CountsEveryRound weights.now coords.now d k rounds seed restarts result }
 {
-    check(
-        weights,
-        coords,
-        d,
-        k,
-        rounds,
-        restarts,
-        labels.len(),
-        directions.len(),
-        work.len(),
-        work_u32.len(),
-    )?;
+    let leaves = Leaves { weights, coords };
+    let l = Lengths {
+        labels: labels.len(),
+        directions: directions.len(),
+        work: work.len(),
+        work_u32: work_u32.len(),
+    };
+    check(leaves, d, k, rounds, restarts, l)?;
     let m = weights.len();
-    let h = kmeans_restarts::run_all(
-        work, work_u32, weights, coords, seed, m, k, d, rounds, restarts,
-    );
-    let held = h.held;
-    kmeans_restarts::fill_outputs(labels, directions, work, work_u32, held.second, m, k, d);
+    let mut halves = Halves::of(Shape { m, k, d }, leaves, work, work_u32);
+    let h = kmeans_restarts::run_all(&mut halves, seed, rounds, restarts);
+    kmeans_restarts::fill_outputs(labels, directions, &halves.held);
     Ok(Clustered {
-        cohesion: held.value,
-        counts: held.counts,
+        cohesion: h.held.value,
+        counts: h.held.counts,
     })
 }

@@ -104,7 +104,9 @@ pub fn element(words: &[u64], from: usize, last: usize, j: usize) -> u64
     word(words, plus(from, least(j, last)))
 }
 
-// Puts the first n elements of that list at the start of v, and answers n; no more than v holds.
+// Puts the first n elements of that list at the start of v, and answers n; no more than v holds. It and `load_bytes`
+// are no one function with a closure: that would promise element by element, and of each the list would have to be
+// proved from it.
 pub fn load(v: &mut [f64], words: &[u64], from: usize, last: usize, n: usize) -> usize
     ensures counted { Counted result v.new }
     ensures value { result ≡ min n (length v.old) }

@@ -1,48 +1,67 @@
 -- `auto_tries::fit_of_k` meets its contract: what the four runs keep is the lone fit, by what the calls ensure; the outputs are
 -- written where its score beats the one held. Assumes nothing.
-use lib.ListN.{length}
-use Rattle.mixture_restarts.specs.Halves.{TwoHalves}
-use Rattle.mixture_restarts.proofs.Halves.{halves_of}
-use Rattle.mixture_outputs.specs.Outputs.{Outputs, arrays}
+use mathlib.Core.Path.{◌≡◌, ap, ◌∙◌}
+use Rattle.limits.specs.declared.Shape.{Shape}
+use Rattle.kmeans_layout.specs.Kept.{kept_of}
+use Rattle.mixture_run.specs.Areas.{parts_of, em_of}
+use Rattle.mixture_run.specs.declared.layout.Area.{Area}
+use Rattle.mixture_restarts.specs.Kept.{kept_loglik}
+use Rattle.mixture_restarts.proofs.Turns.{kept_same, kept_em, kept_counts}
+use Rattle.mixture_outputs.specs.Lent.{outputs_of}
+use Rattle.auto_tries.specs.Lone.{lone}
 use Rattle.auto_tries.proofs.Numbers.{fitted_kept, fitted_left}
-use Rattle.auto_tries.proofs.fit_of_k.Goals.{After-four_runs-r, Start}
+use Rattle.auto_tries.proofs.fit_of_k.Goals.{After-four_runs-r}
 use Rattle.auto_tries.proofs.fit_of_k.Goals as goal
 
--- the arrays as found
-abbrev found : Start → Outputs
-found s =
-    let a = s.args in
-    arrays a.labels.now a.responsibilities.now a.group_weights.now a.directions.now a.concentrations.now a.logw.now
+-- the area of the kept run
+abbrev kept_at : After-four_runs-r → Area
+kept_at p =
+    let h = p.four_runs-r.new.halves in
+    let r = p.four_runs-r.result in
+    kept_of r.held r.last h.held h.free
 
--- the halves of the work array, which is as long as it was
-halves_at : (r : After-four_runs-r) → let a = r.args in
-    TwoHalves (length r.four_runs-r.new.work) (length a.weights.now) a.k a.d
-halves_at r =
-    let a = r.args in
-    halves_of (length a.work.now) _ (length a.work_u32.now) _ _ (length a.weights.now) a.k a.d a.s.rounds
-    r.four_runs-r.auto.work r.requires.fittable.runnable
+-- it has what the lone fit finds
+em_at : (p : After-four_runs-r) → let a = p.args in let r = p.four_runs-r.result in
+    em_of (parts_of (kept_at p)) (kept_loglik r.held r.last) ≡ (lone a.leaves.weights.now a.leaves.coords.now a.d a.s a.k).em
+em_at p =
+    let z = p.of-halves.ensures in
+    let h = p.four_runs-r in
+    rw (z.0, z.1) at (kept_em p.of-halves.result.held h.new.halves.held h.new.halves.free p.args.s h.result h.ensures)
 
-pub returns-then-beats : goal.returns-then-beats
-returns-then-beats c =
+counts_at : (p : After-four_runs-r) → let a = p.args in
+    p.four_runs-r.result.counts ≡ (lone a.leaves.weights.now a.leaves.coords.now a.d a.s a.k).counts
+counts_at p =
+    let z = p.of-halves.ensures in
+    let h = p.four_runs-r in
+    rw (z.0, z.1) at (kept_counts p.of-halves.result.held h.new.halves.held h.new.halves.free p.args.s h.result h.ensures)
+
+shape_at : (p : After-four_runs-r) → (kept_at p).warm.shape ≡ p.of-halves.result.held.warm.shape
+shape_at p =
+    let h = p.four_runs-r in
+    (kept_same p.of-halves.result.held h.new.halves.held h.new.halves.free p.args.s h.result h.ensures).0
+
+pub returns-then-beats-clause-fit : goal.returns-then-beats-clause-fit
+returns-then-beats-clause-fit c =
+    let p = (goal.at.returns-then-beats-clause-fit c).After-four_runs-r in
     let a = c.args in
-    let o = found (goal.at.returns-then-beats c).Start in
-    let h = halves_at (goal.at.returns-then-beats c).After-four_runs-r in
-    let l = c.kept_loglik-loglik in
-    let n = c.plus-counts in
-    let x = c.fill_outputs.new in
-    fitted_kept a.weights.now a.coords.now a.d a.k a.s c.four_runs-r.new.work c.four_runs-r.result
-    c.four_runs-r.ensures a.t l.result a.ln_total c.score_at-score.result c.beats.result n.result l.ensures
-    c.requires.at_most.1 c.score_at-score.ensures c.beats.ensures n.ensures h o
-    (arrays x.labels x.responsibilities x.group_weights x.directions x.concentrations x.logw) c.if-beats.true
-    c.fill_outputs.ensures
+    let r = c.four_runs-r in
+    let sh = shape_at p ∙ c.of-halves.ensures.0 in
+    let loglik = kept_loglik r.result.held r.result.last in
+    let filled = rw (c.kept.ensures, sh, em_at p) at (c.fill_outputs.ensures.filled loglik) in
+    fitted_kept a.leaves.weights.now a.leaves.coords.now a.d a.k a.s (kept_at p) r.result (em_at p) (counts_at p) r.ensures.small
+    (ap (λ (z : Shape). z.m) sh) (ap (λ (z : Shape). z.k) sh) (ap (λ (z : Shape). z.d) sh)
+    a.t c.kept_loglik-loglik.result a.ln_total c.score_at-score.result c.beats.result c.plus-counts.result c.kept_loglik-loglik.ensures
+    c.requires.at_most.1 c.score_at-score.ensures c.beats.ensures c.plus-counts.ensures (outputs_of a.o.now)
+    (outputs_of c.fill_outputs.new.o)
+    c.if-beats.true filled
 
-pub returns : goal.returns
-returns c =
+pub returns-clause-fit : goal.returns-clause-fit
+returns-clause-fit c =
+    let p = (goal.at.returns-clause-fit c).After-four_runs-r in
     let a = c.args in
-    let o = found (goal.at.returns c).Start in
-    let h = halves_at (goal.at.returns c).After-four_runs-r in
-    let l = c.kept_loglik-loglik in
-    let n = c.plus-counts in
-    fitted_left a.weights.now a.coords.now a.d a.k a.s c.four_runs-r.new.work c.four_runs-r.result
-    c.four_runs-r.ensures a.t l.result a.ln_total c.score_at-score.result c.beats.result n.result l.ensures
-    c.requires.at_most.1 c.score_at-score.ensures c.beats.ensures n.ensures h o c.if-beats.false
+    let r = c.four_runs-r in
+    let sh = shape_at p ∙ c.of-halves.ensures.0 in
+    fitted_left a.leaves.weights.now a.leaves.coords.now a.d a.k a.s (kept_at p) r.result (em_at p) (counts_at p) r.ensures.small
+    (ap (λ (z : Shape). z.m) sh) (ap (λ (z : Shape). z.k) sh) (ap (λ (z : Shape). z.d) sh)
+    a.t c.kept_loglik-loglik.result a.ln_total c.score_at-score.result c.beats.result c.plus-counts.result c.kept_loglik-loglik.ensures
+    c.requires.at_most.1 c.score_at-score.ensures c.beats.ensures c.plus-counts.ensures (outputs_of a.o.now) c.if-beats.false

@@ -1,47 +1,41 @@
 -- `kmeans_lloyd::lloyd` meets its contract.
+use mathlib.Core.Path.{◌∙◌}
 use Prim.Native.Nat.{◌-◌, ◌+◌}
 use native.Mathlib.Omega.{arith}
 use borrow.Author.Rules.{rules}
-use Rattle.kmeans_lloyd.specs.Lloyd.{Run, fresh_run, rounds_from}
-use Rattle.kmeans_layout.specs.Areas.{state_in}
-use Rattle.kmeans_lloyd.proofs.Rounds.{few_turn, goes_on, stops, runs_out, labelled_of_round}
-use Rattle.kmeans_lloyd.proofs.lloyd.Goals.{Start}
+use Rattle.kmeans_layout.specs.Areas.{state_of}
+use Rattle.kmeans_lloyd.specs.Runs.{rounds_in}
+use Rattle.kmeans_lloyd.proofs.Rounds.{few_turn, goes_on, stops, runs_out}
 use Rattle.kmeans_lloyd.proofs.lloyd.Goals as goal
-
-abbrev whole : Start → Run
-whole b =
-    let a = b.args in
-    rounds_from a.weights.now a.coords.now a.m a.k a.d a.rounds 0
-    (fresh_run (state_in a.m a.k a.d a.work.now a.work_u32.now))
 
 pub loop-it-preserved : goal.loop-it-preserved
 loop-it-preserved c =
     let l = c.loop-it in
-    let a = c.args in
-    let s = state_in a.m a.k a.d l.work l.work_u32 in
-    let s' = state_in a.m a.k a.d c.one_round.new.work c.one_round.new.work_u32 in
-    let done = rw c.in-Continue.is at c.one_round.ensures in (
-      labelled_of_round a.weights.now a.coords.now a.m a.k a.d l.it s s' c.in-Continue.n done c.requires.sized.sizes.k_some l.invariant.0,
+    let a = c.args.area.now in
+    let e = c.one_round.ensures in
+    let same = l.invariant.0 in
+    let done = rw (same.0, same.1, c.in-Continue.is) at e.done in (
+      (e.same.0 ∙ same.0, e.same.1 ∙ same.1),
       few_turn l.it l.c c.plus-c.result c.in-Continue.n (search rules) c.plus-c.ensures l.invariant.1,
-      goes_on a.weights.now a.coords.now a.m a.k a.d (whole (goal.at.loop-it-preserved c).Start) (a.rounds - l.it)
-          (a.rounds - (l.it + 1)) l.it s s' l.c c.plus-c.result c.in-Continue.n (omega arith) c.plus-c.ensures l.invariant.2 done,
+      goes_on a.leaves.weights.now a.leaves.coords.now a.shape.m a.shape.k a.shape.d (rounds_in a c.args.rounds) (c.args.rounds - l.it)
+          (c.args.rounds - (l.it + 1)) l.it (state_of l.area) (state_of c.one_round.new.area) l.c c.plus-c.result c.in-Continue.n
+          (omega arith) c.plus-c.ensures l.invariant.2 done,
     )
 
-pub returns-in-Break : goal.returns-in-Break
-returns-in-Break c =
+pub returns-in-Break-clause-done : goal.returns-in-Break-clause-done
+returns-in-Break-clause-done c =
     let l = c.loop-it in
-    let a = c.args in
-    let s = state_in a.m a.k a.d l.work l.work_u32 in
-    let s' = state_in a.m a.k a.d c.one_round.new.work c.one_round.new.work_u32 in
-    let done = rw c.in-Break.is at c.one_round.ensures in
-    stops a.weights.now a.coords.now a.m a.k a.d (whole (goal.at.returns-in-Break c).Start) (a.rounds - l.it) (a.rounds - (l.it + 1))
-    l.it s s' l.c c.plus.result c.in-Break.n (omega arith) c.plus.ensures l.invariant.2 done
+    let a = c.args.area.now in
+    let same = l.invariant.0 in
+    let done = rw (same.0, same.1, c.in-Break.is) at c.one_round.ensures.done in
+    stops a.leaves.weights.now a.leaves.coords.now a.shape.m a.shape.k a.shape.d (rounds_in a c.args.rounds) (c.args.rounds - l.it)
+    (c.args.rounds - (l.it + 1)) l.it (state_of l.area) (state_of c.one_round.new.area) l.c c.plus.result c.in-Break.n (omega arith)
+    c.plus.ensures l.invariant.2 done
     (few_turn l.it l.c c.plus.result c.in-Break.n (search rules) c.plus.ensures l.invariant.1) (omega arith)
 
-pub returns : goal.returns
-returns c =
+pub returns-clause-done : goal.returns-clause-done
+returns-clause-done c =
     let l = c.loop-it in
-    let a = c.args in
-    runs_out a.weights.now a.coords.now a.m a.k a.d (whole (goal.at.returns c).Start) (a.rounds - l.it) l.it
-    (state_in a.m a.k a.d l.work l.work_u32) l.c
-    (omega (arith, c.loop-it-test.false)) l.invariant.2 l.invariant.1 (omega (arith, c.requires.weights_len.1))
+    let a = c.args.area.now in
+    runs_out a.leaves.weights.now a.leaves.coords.now a.shape.m a.shape.k a.shape.d (rounds_in a c.args.rounds) (c.args.rounds - l.it) l.it
+    (state_of l.area) l.c (omega (arith, c.loop-it-test.false)) l.invariant.2 l.invariant.1 (omega (arith, c.requires))

@@ -1,5 +1,5 @@
 -- `kmeans_seeding::cosine_distances` meets its contract, by what `row_dots` and `max` ensure of the centre's row and the leaves', once the
--- literals are computed.
+-- literals are computed. Assumes nothing.
 use mathlib.Core.Path.{◌≡◌, refl, ap, ◌∙◌}
 use mathlib.Core.List.{List, ◌++◌}
 use Prim.Native.Nat.{ℕ}
@@ -40,6 +40,5 @@ returns g c =
     let n = g.row.N in
     let long : length f ≡ n = ap length c.row_dots-f.ensures ∙ tabulate_length _ n in
     let end : l.e ≡ n = omega arith in
-    let done : l.f ≡ tabulate (distance f) n =
-    l.invariant ∙ ap (λ (e : ℕ). tabulate (distance f) e ++ drop e f) end ∙ front_end (tabulate (distance f) n) f n long in
-    λ u. done ∙ distances_done a.m a.k a.d a.work.now a.coords.now u a.c a.i n c.requires.d_bound.1.below f c.row_dots-f.ensures
+    l.invariant ∙ ap (λ (e : ℕ). tabulate (distance f) e ++ drop e f) end ∙ front_end (tabulate (distance f) n) f n long
+    ∙ distances_done a.area.now.centers.now a.area.now.leaves.coords.now a.area.now.shape.d a.c a.i n f c.row_dots-f.ensures

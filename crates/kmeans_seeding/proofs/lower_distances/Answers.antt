@@ -1,44 +1,29 @@
--- `kmeans_seeding::lower_distances` meets its contract.
-use mathlib.Core.Path.{◌≡◌, ap, ◌∙◌}
-use Prim.Native.Nat.{ℕ, ◌+◌, ◌*◌, ◌≤◌}
+-- `kmeans_seeding::lower_distances` meets its contract: each turn lowers four distances more, or one. Assumes nothing.
+use mathlib.Core.Path.{refl}
+use Prim.Native.Nat.{◌+◌, ◌*◌}
 use native.Mathlib.Omega.{arith}
-use Rattle.kmeans_layout.specs.Areas.{state_in}
-use Rattle.kmeans_layout.proofs.Regions.{length_low}
-use Rattle.kmeans_seeding.proofs.Seeds.{lowering, lowering_start, lowering_block, lowering_end}
+use Rattle.kmeans_seeding.specs.Distances.{put_low}
+use Rattle.kmeans_seeding.proofs.Seeds.{lowered_none, lowered_more, lowered_end}
 use Rattle.kmeans_seeding.proofs.lower_distances.Goals as goal
 
 pub loop-b-init : goal.loop-b-init
-loop-b-init c = let a = c.args in λ u. lowering_start a.coords.now a.d a.c (state_in a.m a.k a.d a.work.now u)
+loop-b-init c = lowered_none c.args.area.now c.args.c
 
 pub loop-b-preserved : goal.loop-b-preserved
+unfolding put_low
 loop-b-preserved c =
     let l = c.loop-b in
-    let p = c.low_at-low in
     let f = c.cosine_distances-f in
-    let a = c.args in
-    let h : 4 * l.b + 4 ≤ a.m = omega arith in
-    let next : 4 * l.b + 4 ≡ 4 * (l.b + 1) = omega arith in
-    λ u. let s = state_in a.m a.k a.d a.work.now u in
-    let g = length_low a.m a.k a.d a.work.now u c.requires.area.0.work_long in
-    rw c.lower_from.ensures
-    (lowering_block a.m a.k a.d a.coords.now u a.c s g l.work p.result (4 * l.b) 4 f.result p.ensures h (f.ensures u) (l.invariant u))
-    ∙ ap (λ (n : ℕ). lowering a.coords.now a.d a.c n s) next
+    lowered_more c.args.area.now l.area _ c.args.c (4 * l.b) 4 (4 * (l.b + 1)) f.result _ (omega arith) (omega arith) l.invariant f.ensures
+    c.lower_from.ensures (refl, refl) refl
 
 pub loop-i-preserved : goal.loop-i-preserved
+unfolding put_low
 loop-i-preserved c =
     let l = c.loop-i in
-    let p = c.low_at-low in
     let f = c.cosine_distances-f-in-loop-i in
-    let a = c.args in
-    λ u. let s = state_in a.m a.k a.d a.work.now u in
-    let g = length_low a.m a.k a.d a.work.now u c.requires.area.0.work_long in
-    rw c.lower_from-in-loop-i.ensures
-    (lowering_block a.m a.k a.d a.coords.now u a.c s g l.work p.result l.i 1 f.result p.ensures (omega arith) (f.ensures u) (l.invariant u))
+    lowered_more c.args.area.now l.area _ c.args.c l.i 1 (l.i + 1) f.result _ (omega arith) refl l.invariant f.ensures
+    c.lower_from-in-loop-i.ensures (refl, refl) refl
 
-pub returns : goal.returns
-returns c =
-    let l = c.loop-i in
-    let a = c.args in
-    λ u. let s = state_in a.m a.k a.d a.work.now u in
-    let g = length_low a.m a.k a.d a.work.now u c.requires.area.0.work_long in
-    lowering_end a.m a.k a.d a.coords.now u a.c s g l.work l.i (omega arith) (l.invariant u)
+pub returns-clause-state : goal.returns-clause-state
+returns-clause-state c = let l = c.loop-i in lowered_end c.args.area.now l.area c.args.c l.i (omega arith) l.invariant

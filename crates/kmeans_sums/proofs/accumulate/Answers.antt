@@ -1,46 +1,35 @@
--- `kmeans_sums::accumulate` meets its contract.
-use Prim.Native.Nat.{◌+◌, ◌-◌}
+-- `kmeans_sums::accumulate` meets its contract. Assumes nothing.
+use mathlib.Core.Path.{ap, ◌∙◌}
+use Prim.Native.Nat.{ℕ}
 use native.Mathlib.Omega.{arith}
-use lib.ListN.{length}
-use lib.Ieee.{of_bits}
-use Rattle.rows.specs.Rows.{put_part}
-use Rattle.kmeans_layout.specs.Areas.{state_in}
-use Rattle.kmeans_sums.proofs.Sums.{Gathered, cleared, gathered_own, gains_of, gather_turn, gather_end}
-use Rattle.kmeans_sums.proofs.accumulate.Goals.{After-fill}
+use lib.ListN.{replicate, get_or}
+use borrow.Author.Rules.{rules}
+use Rattle.kmeans_sums.specs.Sums.{sums_up_to, counts_up_to}
+use Rattle.kmeans_sums.proofs.Sums.{counts_most, gather_turn}
 use Rattle.kmeans_sums.proofs.accumulate.Goals as goal
 
--- where the loop begins the sums and counts are cleared
-cleared_at : (f : After-fill) → let a = f.args in
-    Gathered a.weights.now a.coords.now a.m a.k a.d (state_in a.m a.k a.d a.work.now a.work_u32.now) 0
-    f.fill_at.new.work (put_part a.work_u32.now a.m (a.m + a.k - a.m) f.fill.new.v)
-unfolding of_bits
-cleared_at f =
-    let a = f.args in
-    cleared a.weights.now a.coords.now a.m a.k a.d (length a.coords.now) a.work.now f.fill_at.new.work
-    a.work_u32.now f.fill.new.v f.requires.sized f.fill_at.ensures f.fill.ensures
-
 pub loop-i-init : goal.loop-i-init
+unfolding sums_up_to counts_up_to
 loop-i-init c =
-    let a = c.args in
-    gathered_own a.weights.now a.coords.now a.m a.k a.d _ 0 _ _ (cleared_at (goal.at.loop-i-init c).After-fill)
+    let a = c.args.area.now in
+    let e = c.clear_sums.ensures in record {
+      same = e.beside.0;
+      state = e.beside.1;
+      sums = e.sums;
+      counts = e.beside.2 ∙ c.fill.ensures ∙ ap (λ (n : ℕ). replicate n 0) a.sized.counts_long;
+    }
 
-pub gain-requires-clause-gains : goal.gain-requires-clause-gains
-gain-requires-clause-gains c =
+pub gain-requires : goal.gain-requires
+gain-requires c =
     let l = c.loop-i in
-    let a = c.args in
-    gains_of a.weights.now a.coords.now a.m a.k a.d _ l.i l.work l.work_u32 l.invariant
-    (state_in a.m a.k a.d a.work.now a.work_u32.now) (cleared_at (goal.at.gain-requires-clause-gains c).After-fill).state
-    c.requires.weights_len.1 c.loop-i-test.true c.requires.sized.sizes.m_small c.requires.weights_len.0
+    let a = c.args.area.now in
+    let most = counts_most a.labels.now a.shape.k l.i (get_or l.area.labels.now l.i 0) in (
+      search rules,
+      rw l.invariant.counts (omega (arith, most, c.loop-i-test.true, a.shape.sizes.m_small)),
+    )
 
 pub loop-i-preserved : goal.loop-i-preserved
-loop-i-preserved c =
-    let l = c.loop-i in
-    let a = c.args in
-    gather_turn a.weights.now a.coords.now a.m a.k a.d _ l.i l.work l.work_u32 l.invariant _ _ c.gain.ensures
+loop-i-preserved c = gather_turn _ _ _ _ c.loop-i.invariant c.gain.ensures
 
 pub returns : goal.returns
-returns c =
-    let l = c.loop-i in
-    let a = c.args in
-    gather_end a.weights.now a.coords.now a.m a.k a.d _ l.i l.work l.work_u32 l.invariant a.work.now a.work_u32.now
-    (cleared_at (goal.at.returns c).After-fill).state (omega arith)
+returns c = let i = c.loop-i.invariant in record { same = i.same; state = i.state; sums = search rules; counts = search rules }

@@ -1,4 +1,4 @@
--- `kmeans_sums::add_norms` meets its contract.
+-- `kmeans_sums::add_norms` meets its contract. Assumes nothing.
 use mathlib.Core.Path.{refl}
 use lib.Ieee.{of_bits}
 use Rattle.kmeans_sums.specs.Sums.{norms_up_to}
@@ -12,5 +12,5 @@ loop-c-init c = refl
 pub loop-c-preserved : goal.loop-c-preserved
 loop-c-preserved c =
     let l = c.loop-c in
-    let a = c.args in
-    norms_turn a.m a.k a.d a.work.now l.c l.total c.norm-total.result c.loop-c-test.true l.invariant c.norm-total.ensures
+    let a = c.args.area.now in
+    norms_turn a.sums.now a.shape.d l.c l.total c.sum_norm-total.result l.invariant c.sum_norm-total.ensures

@@ -2,12 +2,10 @@
 use mathlib.Core.Path.{refl}
 use Prim.Native.Nat.{ℕ, ◌+◌, ◌*◌}
 use native.Mathlib.Omega.{arith}
-use lib.ListN.{length}
 use lib.Ieee.{Float}
 use Rattle.rows.specs.Tabulate.{tabulate}
-use Rattle.mixture_outputs.proofs.Listed.{listed_turn, listed_end}
+use Rattle.mixture_outputs.proofs.Listed.{listed_turn}
 use Rattle.leaf_file.specs.LeafFile.{f64_at}
-use borrow.Author.Rules.{rules}
 use Rattle.leaf_file.proofs.load.Goals as goal
 
 pub loop-i-init : goal.loop-i-init

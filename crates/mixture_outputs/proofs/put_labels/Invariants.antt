@@ -9,4 +9,4 @@ use Rattle.mixture_outputs.proofs.put_labels.Given as goal
 
 abbrev pub invariant-loop-i : goal.invariant-loop-i
 invariant-loop-i l =
-    take l.i l.labels ≡ tabulate (λ (n : ℕ). argmax_of (row_of l.resp l.k n)) l.i
+    take l.i l.labels ≡ tabulate (λ (n : ℕ). argmax_of (row_of l.area.responsibilities.now l.area.warm.shape.k n)) l.i

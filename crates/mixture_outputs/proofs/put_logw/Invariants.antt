@@ -4,9 +4,8 @@ use mathlib.Core.Path.{◌≡◌}
 use lib.ListN.{take}
 use Rattle.rows.specs.Tabulate.{tabulate}
 use Rattle.mixture_run.specs.Fits.{logw_at}
-use Rattle.mixture_run.specs.Areas.{parts_in, model_of}
+use Rattle.mixture_run.specs.Areas.{parts_of, model_of}
 use Rattle.mixture_outputs.proofs.put_logw.Given as goal
 
 abbrev pub invariant-loop-c : goal.invariant-loop-c
-invariant-loop-c l =
-    take l.c l.logw ≡ tabulate (logw_at l.d (model_of (parts_in l.m l.k l.d l.area))) l.c
+invariant-loop-c l = take l.c l.logw ≡ tabulate (logw_at l.area.warm.shape.d (model_of (parts_of l.area))) l.c

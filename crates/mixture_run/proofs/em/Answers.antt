@@ -1,44 +1,25 @@
--- `mixture_run::em` meets its contract.
-use mathlib.Core.Path.{sym, ◌∙◌}
+-- `em` meets its contract: at the start all rounds are left, and one that is the last ends them. Assumes nothing.
+use mathlib.Core.Path.{refl, ◌∙◌}
 use Prim.Native.Nat.{◌+◌, ◌-◌}
 use native.Mathlib.Nat.{sub-zero}
 use native.Mathlib.Omega.{arith}
 use lib.Ieee.{div, neg, of_bits}
-use Rattle.mixture_run.specs.Areas.{parts_in, em_of}
-use Rattle.mixture_run.proofs.Rounds.{em_turn, em_stop, em_end}
+use Rattle.mixture_run.specs.Areas.{parts_of, em_of}
+use Rattle.mixture_run.proofs.Rounds.{em_stop}
 use Rattle.mixture_run.proofs.em.Goals as goal
 
 pub loop-it-init : goal.loop-it-init
 unfolding div neg of_bits
-loop-it-init c = rw sub-zero
+loop-it-init c = ((refl, refl), rw sub-zero)
 
-pub loop-it-preserved : goal.loop-it-preserved
-loop-it-preserved c =
+pub returns-then-stops-clause-rounds_done : goal.returns-then-stops-clause-rounds_done
+returns-then-stops-clause-rounds_done c =
+    let a = c.args.area.now in
+    let z = a.warm.shape in
     let l = c.loop-it in
-    let a = c.args in
-    let r = c.em_round-new in
-    let more = c.loop-it-test.true in
-    let p = em_of (parts_in a.m a.k a.d l.work) l.loglik in
-    let q = em_of (parts_in a.m a.k a.d r.new.work) r.result in
-    em_turn a.kappa a.weights.now a.coords.now a.m a.k a.d (a.rounds - l.it) (a.rounds - (l.it + 1)) l.it p q
-    (omega (arith, more)) r.ensures
-    (sym c.stops_at-stops.ensures ∙ c.if-stops.false) ∙ l.invariant
-
-pub returns-after-loop-it : goal.returns-after-loop-it
-returns-after-loop-it c =
-    let l = c.loop-it in
-    let a = c.args in
-    em_end a.kappa a.weights.now a.coords.now a.m a.k a.d (a.rounds - l.it) l.it
-    (em_of (parts_in a.m a.k a.d l.work) l.loglik)
-    (omega (arith, c.loop-it-test.false)) ∙ l.invariant
-
-pub returns-then-stops : goal.returns-then-stops
-returns-then-stops c =
-    let l = c.loop-it in
-    let a = c.args in
-    let r = c.em_round-new in
-    let p = em_of (parts_in a.m a.k a.d l.work) l.loglik in
-    let q = em_of (parts_in a.m a.k a.d r.new.work) r.result in
-    em_stop a.kappa a.weights.now a.coords.now a.m a.k a.d (a.rounds - l.it) (a.rounds - (l.it + 1)) l.it p q
-    (omega (arith, c.loop-it-test.true)) r.ensures
-    (sym c.stops_at-stops.ensures ∙ c.if-stops.true) ∙ l.invariant
+    let i = l.invariant in
+    let n = c.args.rounds in
+    em_stop c.args.kappa a.warm.leaves.weights.now a.warm.leaves.coords.now z.m z.k z.d (n - l.it) (n - (l.it + 1)) l.it
+    (em_of (parts_of l.area) l.loglik) _ c.stops_at-stops.result (omega (arith, c.loop-it-test.true))
+    (rw (← i.0.0, ← i.0.1) c.em_round-new.ensures.round) c.stops_at-stops.ensures c.if-stops.true
+    ∙ i.1

@@ -1,14 +1,16 @@
--- `mixture_run::em` meets its contract. The loop's invariant: the rounds that are left, from the parts and the log-likelihood as they are,
--- end as all rounds do from the start. Assumes nothing.
-use mathlib.Core.Path.{◌≡◌}
-use mathlib.Core.Bool.{true}
-use Prim.Native.Nat.{◌-◌}
-use lib.Ieee.{inf}
+-- The invariant of `em`: the rounds that are left, from the parts and the log-likelihood as they are, end as all rounds do from the start,
+-- and nothing changes sizes and leaves. Assumes nothing.
+use Rattle.std.specs.Prelude.{◌≡◌, true, ◌-◌}
+use Rattle.std.specs.Float.{inf}
 use Rattle.mixture_run.specs.Mixture.{em_from}
-use Rattle.mixture_run.specs.Areas.{parts_in, em_of}
+use Rattle.mixture_run.specs.Areas.{parts_of, em_of, Same}
 use Rattle.mixture_run.proofs.em.Given as goal
 
 abbrev pub invariant-loop-it : goal.invariant-loop-it
 invariant-loop-it l =
-    em_from l.kappa l.weights l.coords l.m l.k l.d (l.rounds - l.it) l.it (em_of (parts_in l.m l.k l.d l.work) l.loglik)
-    ≡ em_from l.kappa l.weights l.coords l.m l.k l.d l.rounds 0 (em_of (parts_in l.m l.k l.d l.initial.work) (inf true))
+    let a = l.initial.area in
+    let x = a.warm.leaves in
+    let z = a.warm.shape in
+    let rounds = em_from l.kappa x.weights.now x.coords.now z.m z.k z.d in
+    (Same a l.area)
+    × (rounds (l.rounds - l.it) l.it (em_of (parts_of l.area) l.loglik) ≡ rounds l.rounds 0 (em_of (parts_of a) (inf true)))

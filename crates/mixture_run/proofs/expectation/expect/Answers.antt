@@ -1,34 +1,45 @@
--- `mixture_run::expectation::expect` meets its contract.
-use mathlib.Core.Path.{◌≡◌}
-use Prim.Native.Nat.{◌+◌, ◌-◌, ◌*◌}
+-- `expect` meets its contract: at the end the log densities of all leaves stand in their rows, and one call makes their softmax. Assumes
+-- nothing.
+use mathlib.Core.Path.{◌≡◌, refl, ap, ◌∙◌}
+use mathlib.Core.List.{List}
 use native.Mathlib.Omega.{arith}
-use Rattle.mixture_run.proofs.Expected.{rows_start, rows_turn, loglik_done, resp_done}
+use lib.ListN.{length}
+use lib.Ieee.{Float}
+use Rattle.float.specs.Arithmetic.{plus_zero}
+use Rattle.mixture_softmax.specs.Leaves.{shares_up_to, logs_up_to}
+use Rattle.mixture_run.specs.Areas.{parts_of, with_resp}
+use Rattle.mixture_run.proofs.Expected.{rows_start, rows_turn, rows_end}
 use Rattle.mixture_run.proofs.expectation.expect.Goals as goal
 
 pub loop-i-init : goal.loop-i-init
 loop-i-init c =
-    let a = c.args in
-    rows_start a.m a.k a.d a.work.now a.coords.now
+    let a = c.args.area.now in
+    ((refl, refl), rows_start a.warm.leaves.coords.now a.warm.shape.k a.warm.shape.d (parts_of a))
 
 pub loop-i-preserved : goal.loop-i-preserved
 loop-i-preserved c =
-    let p = c.put_log_densities in
+    let a = c.args.area.now in
+    let z = a.warm.shape in
     let l = c.loop-i in
-    let a = c.args in
-    rows_turn a.m a.k a.d a.work.now a.coords.now l.work p.new.work l.i l.invariant p.ensures
-
-pub returns : goal.returns
-returns c =
-    let x = c.log_softmax_rows in
-    let l = c.loop-i in
-    let a = c.args in
-    let at = c.responsibilities_at-resp.result in
-    let place = c.responsibilities_at-resp.ensures in
-    let n = at + a.m * a.k - at in
-    let size : n ≡ a.m * a.k = omega arith in
-    let all : l.i ≡ a.m = omega arith in (
-      loglik_done a.m a.k a.d a.work.now a.coords.now a.weights.now l.work l.i at n c.requires.leaves.weights_long
-          c.requires.area.work_long l.auto.work all l.invariant place size x.result x.ensures.0,
-      resp_done a.m a.k a.d a.work.now a.coords.now a.weights.now l.work l.i at n c.requires.leaves.weights_long
-          c.requires.area.work_long l.auto.work all l.invariant place size x.new.rows x.ensures.1,
+    let i = l.invariant in
+    let r = c.put_log_densities.ensures in (
+      (r.same.0 ∙ i.0.0, r.same.1 ∙ i.0.1),
+      rows_turn a.warm.leaves.coords.now z.k z.d (parts_of a) (parts_of l.area) _ l.i i.1 (rw (← i.0.0, ← i.0.1) r.parts),
     )
+
+pub returns-clause-parts : goal.returns-clause-parts
+returns-clause-parts c =
+    let a = c.args.area.now in
+    let z = a.warm.shape in
+    let x = a.warm.leaves in
+    let l = c.loop-i in
+    let i = l.invariant in
+    let r = c.log_softmax_rows in
+    let rows = l.area.responsibilities.now in
+    let w = x.weights.now in
+    let e =
+    rows_end x.coords.now z.k z.d (parts_of a) w (parts_of l.area) l.i z.m (omega (arith, l.auto.i-end, c.loop-i-test.false))
+    a.warm.fit.weights_long a.sized.responsibilities_long i.1 in
+    let log : r.result ≡ logs_up_to z.k rows w plus_zero (length w) = rw (← i.0.0, ← i.0.1) r.ensures.0 in
+    let resp : r.new.rows ≡ shares_up_to z.k rows (length w) = rw (← i.0.0, ← i.0.1) r.ensures.1 in
+    (log ∙ e.0, ap (λ (s : List Float). with_resp s (parts_of l.area)) resp ∙ e.1)

@@ -1,10 +1,11 @@
--- `mixture_run::expectation::expect` meets its contract. The loop's invariant: the log densities of the first i leaves stand before what
--- the region held; one call makes their softmax. Assumes nothing.
-use mathlib.Core.Path.{◌≡◌}
-use Rattle.mixture_run.specs.Areas.{parts_in}
+-- The invariant of `expect`: the log densities of the first i leaves stand before what was there, and nothing changes sizes and leaves.
+-- Assumes nothing.
+use Rattle.std.specs.Prelude.{◌≡◌}
+use Rattle.mixture_run.specs.Areas.{parts_of, Same}
 use Rattle.mixture_run.proofs.Expected.{rows_done}
 use Rattle.mixture_run.proofs.expectation.expect.Given as goal
 
 abbrev pub invariant-loop-i : goal.invariant-loop-i
 invariant-loop-i l =
-    parts_in l.m l.k l.d l.work ≡ rows_done l.m l.k l.d l.initial.work l.coords l.i
+    let a = l.initial.area in
+    (Same a l.area) × (parts_of l.area ≡ rows_done a.warm.leaves.coords.now a.warm.shape.k a.warm.shape.d (parts_of a) l.i)

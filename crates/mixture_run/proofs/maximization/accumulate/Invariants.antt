@@ -1,10 +1,12 @@
--- `mixture_run::maximization::accumulate` meets its contract. The sums and the whole weights are cleared; the loop's invariant: the parts
--- are those where the loop begins, with what the first i leaves gave. Assumes nothing.
-use mathlib.Core.Path.{◌≡◌}
-use Rattle.mixture_run.specs.Areas.{parts_in}
+-- The invariant of `accumulate`: the parts are those of the start, with the statistics that the first i leaves gave, and nothing changes
+-- sizes and leaves. Assumes nothing.
+use Rattle.std.specs.Prelude.{◌≡◌}
+use Rattle.mixture_run.specs.Areas.{parts_of, Same}
 use Rattle.mixture_run.proofs.Statistics.{leaves_done}
 use Rattle.mixture_run.proofs.maximization.accumulate.Given as goal
 
 abbrev pub invariant-loop-i : goal.invariant-loop-i
 invariant-loop-i l =
-    parts_in l.m l.k l.d l.work ≡ leaves_done l.weights l.coords l.k l.d (parts_in l.m l.k l.d l.initial.work) l.i
+    let a = l.fn.area in
+    let x = a.warm.leaves in
+    (Same a l.area) × (parts_of l.area ≡ leaves_done x.weights.now x.coords.now a.warm.shape.k a.warm.shape.d (parts_of a) l.i)

@@ -1,11 +1,17 @@
--- `mixture_run::maximization::accumulate_leaf` meets its contract. The loop's invariant: the parts are those of the start, where the first
--- c groups have gained the leaf. Assumes nothing.
-use mathlib.Core.Path.{◌≡◌}
+-- The invariant of `accumulate_leaf`: the parts are those of the start, where the first c groups have gained the leaf, and nothing changes
+-- sizes and leaves. Assumes nothing.
+use Rattle.std.specs.Prelude.{◌≡◌}
+use lib.ListN.{get_or}
+use lib.Ieee.{nan}
 use Rattle.rows.specs.Rows.{row_of}
-use Rattle.mixture_run.specs.Areas.{parts_in}
+use Rattle.mixture_run.specs.Areas.{parts_of, Same}
 use Rattle.mixture_run.proofs.Statistics.{leaf_done}
 use Rattle.mixture_run.proofs.maximization.accumulate_leaf.Given as goal
 
 abbrev pub invariant-loop-c : goal.invariant-loop-c
 invariant-loop-c l =
-    parts_in l.m l.k l.d l.work ≡ leaf_done l.k l.d l.i l.weight (row_of l.coords l.d l.i) (parts_in l.m l.k l.d l.initial.work) l.c
+    let a = l.initial.area in
+    let z = a.warm.shape in
+    (Same a l.area)
+    × (parts_of l.area ≡ leaf_done z.k z.d l.i (get_or a.warm.leaves.weights.now l.i nan) (row_of a.warm.leaves.coords.now z.d l.i)
+    (parts_of a) l.c)

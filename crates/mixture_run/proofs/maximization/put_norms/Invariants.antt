@@ -1,10 +1,13 @@
--- `mixture_run::maximization::put_norms` meets its contract. The loop's invariant: the lengths are the norms of the first c sums, then what
--- they were. Assumes nothing.
-use mathlib.Core.Path.{◌≡◌}
-use Rattle.mixture_run.specs.Areas.{parts_in}
-use Rattle.mixture_run.proofs.Directions.{norms_done}
+-- The invariant of `put_norms`: the norms of the first c sums stand before what was there, and nothing changes sizes and leaves. Assumes
+-- nothing.
+use Rattle.std.specs.Prelude.{◌≡◌}
+use Rattle.mixture_run.specs.Areas.{parts_of, with_norms, Same}
+use Rattle.mixture_run.proofs.Written.{written}
+use Rattle.mixture_run.proofs.Directions.{norm_at}
 use Rattle.mixture_run.proofs.maximization.put_norms.Given as goal
 
 abbrev pub invariant-loop-c : goal.invariant-loop-c
 invariant-loop-c l =
-    parts_in l.m l.k l.d l.work ≡ norms_done l.m l.k l.d l.initial.work l.c
+    let a = l.initial.area in
+    (Same a l.area)
+    × (parts_of l.area ≡ written with_norms (norm_at a.warm.sums.now a.warm.shape.d) a.norms.now (parts_of a) l.c)

@@ -1,42 +1,30 @@
--- `mixture_run::maximization::put_weights` meets its contract.
-use mathlib.Core.Path.{◌≡◌, refl, ap, ◌∙◌}
-use Prim.Native.Nat.{◌+◌, ◌<◌}
+-- `put_weights` meets its contract: a turn writes the weight of group c. Assumes nothing.
+use mathlib.Core.Path.{ap, ◌∙◌}
 use native.Mathlib.Omega.{arith}
-use Rattle.mixture_run.specs.Mixture.{weight_by, weight_at}
-use Rattle.mixture_run.specs.Areas.{parts_in}
-use Rattle.mixture_run.proofs.Regions.{weights_r, totals_r}
-use Rattle.mixture_run.proofs.Groups.{written_start, written_read, written_turn, written_end}
+use lib.ListN.{set}
+use Rattle.mixture_run.specs.Mixture.{weight_at}
+use Rattle.mixture_run.specs.Areas.{Parts, parts_of, with_weights}
+use Rattle.mixture_run.proofs.Written.{written_turn, written_end}
 use Rattle.mixture_run.proofs.maximization.put_weights.Goals as goal
-
-pub loop-c-init : goal.loop-c-init
-loop-c-init c =
-    let a = c.args in
-    let p = parts_in a.m a.k a.d a.work.now in
-    written_start weights_r (weight_at a.k a.whole p.totals) a.m a.k a.d a.work.now
 
 pub loop-c-preserved : goal.loop-c-preserved
 loop-c-preserved c =
+    let a = c.args.area.now in
     let l = c.loop-c in
-    let a = c.args in
-    let p = parts_in a.m a.k a.d a.work.now in
-    let totals = c.totals_at-totals in
-    let weights = c.weights_at-weights in
-    let f = weight_at a.k a.whole p.totals in
-    let h : l.c < a.k = omega arith in
-    let o = l.invariant in
-    let r₁ =
-    written_read weights_r f a.m a.k a.d a.work.now totals_r (λ x p. refl) l.work (totals.result + l.c) l.c
-    (omega (arith, totals.ensures)) h o in
-    let e : c.weight_by.result ≡ f l.c = c.weight_by.ensures ∙ ap (weight_by a.k a.whole) r₁ in
-    let more =
-    written_turn weights_r f a.m a.k a.d a.work.now l.work (weights.result + l.c) l.c c.weight_by.result
-    (omega (arith, weights.ensures)) h c.requires.work_long e o in
-    more
+    let i = l.invariant in
+    let k = a.warm.shape.k in
+    let w = c.args.whole in
+    let v = c.weight_by.result in
+    let is = c.weight_by.ensures ∙ ap (λ (p : Parts). weight_at k w p.totals l.c) i.1 in (
+      i.0,
+      written_turn with_weights (weight_at k w a.totals.now) a.weights.now (parts_of a) _ l.c v
+          (omega (arith, c.loop-c-test.true, a.sized.weights_long)) is (ap (λ (p : Parts). with_weights (set p.weights l.c v) p) i.1),
+    )
 
-pub returns : goal.returns
-returns c =
+pub returns-clause-parts : goal.returns-clause-parts
+returns-clause-parts c =
+    let a = c.args.area.now in
     let l = c.loop-c in
-    let a = c.args in
-    let p = parts_in a.m a.k a.d a.work.now in
-    written_end weights_r (weight_at a.k a.whole p.totals) a.m a.k a.d a.work.now l.work l.c a.k (omega arith)
-    refl c.requires.work_long l.invariant
+    let k = a.warm.shape.k in
+    written_end with_weights (weight_at k c.args.whole a.totals.now) a.weights.now (parts_of a) _ l.c k
+    (omega (arith, l.auto.c-end, c.loop-c-test.false)) a.sized.weights_long l.invariant.1

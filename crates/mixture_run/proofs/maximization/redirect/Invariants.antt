@@ -1,10 +1,11 @@
--- `mixture_run::maximization::redirect` meets its contract. The loop's invariant: the parts are those of the start with the first c
--- directions renewed, by whether the norm is above 0. Assumes nothing.
-use mathlib.Core.Path.{◌≡◌}
-use Rattle.mixture_run.specs.Areas.{parts_in}
+-- The invariant of `redirect`: the parts are those of the start with the first c directions renewed, and nothing changes sizes and leaves.
+-- Assumes nothing.
+use Rattle.std.specs.Prelude.{◌≡◌}
+use Rattle.mixture_run.specs.Areas.{parts_of, Same}
 use Rattle.mixture_run.proofs.Directions.{directions_done}
 use Rattle.mixture_run.proofs.maximization.redirect.Given as goal
 
 abbrev pub invariant-loop-c : goal.invariant-loop-c
 invariant-loop-c l =
-    parts_in l.m l.k l.d l.work ≡ directions_done l.d (parts_in l.m l.k l.d l.initial.work) l.c
+    let a = l.initial.area in
+    (Same a l.area) × (parts_of l.area ≡ directions_done a.warm.shape.d (parts_of a) l.c)

@@ -1,10 +1,13 @@
--- `mixture_run::start::label_totals` meets its contract. The loop's invariant: the totals are those of the first i leaves, beside the parts
--- of the start. Assumes nothing.
-use mathlib.Core.Path.{◌≡◌}
-use Rattle.mixture_run.specs.Areas.{parts_in}
+-- The invariant of `label_totals`: the totals are those of the first i leaves, beside the parts of the start, and nothing changes labels,
+-- sizes and leaves. Assumes nothing.
+use Rattle.std.specs.Prelude.{◌≡◌}
+use Rattle.mixture_run.specs.Areas.{parts_of, Same}
 use Rattle.mixture_run.proofs.LabelTotals.{totalled}
 use Rattle.mixture_run.proofs.start.label_totals.Given as goal
 
 abbrev pub invariant-loop-i : goal.invariant-loop-i
 invariant-loop-i l =
-    parts_in l.m l.k l.d l.work ≡ totalled l.m l.k l.d l.initial.work l.weights l.work_u32 l.i
+    let a = l.fn.area in
+    let labels = a.warm.labels.now in
+    (Same a l.area) × (l.area.warm.labels.now ≡ labels)
+    × (parts_of l.area ≡ totalled a.warm.leaves.weights.now labels a.warm.shape.k (parts_of a) l.i)

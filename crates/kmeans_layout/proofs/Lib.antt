@@ -1,4 +1,0 @@
-pub mod Regions
-pub mod Sizes
-pub mod Fills
-pub mod Halves

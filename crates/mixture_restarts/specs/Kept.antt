@@ -1,0 +1,60 @@
+-- What the runs of a fit leave in their areas, and which of them the keeper hands back. No definition of document 01
+-- stands on this file.
+use Rattle.std.specs.Prelude.{◌≡◌, ℕ, Float}
+use Rattle.counts.specs.Counts.{plus_of, AtMost, of_runs}
+use Rattle.kmeans_layout.specs.Kept.{kept_of}
+use Rattle.kmeans_layout.specs.declared.Held.{Held}
+use Rattle.mixture_kappa.specs.declared.Settings.{Settings}
+use Rattle.mixture_run.specs.Fits.{Once}
+use Rattle.mixture_run.specs.Areas.{parts_of, em_of, Same}
+use Rattle.mixture_run.specs.declared.layout.Area.{Area}
+use Rattle.mixture_restarts.specs.Runs.{run_of, runs_up_to, fit_of}
+use Rattle.mixture_restarts.specs.declared.Runs.{Runs}
+
+-- with the sizes and leaves of an area: run t; the first run and n more; the fit
+abbrev pub run_in : Area → Settings → ℕ → Once
+run_in a s t =
+    let l = a.warm.leaves in
+    let z = a.warm.shape in
+    run_of s l.weights.now l.coords.now z.m z.k z.d t
+
+abbrev pub runs_in : Area → Settings → ℕ → Once
+runs_in a s n =
+    let l = a.warm.leaves in
+    let z = a.warm.shape in
+    runs_up_to s l.weights.now l.coords.now z.m z.k z.d n
+
+abbrev pub fit_in : Area → Settings → Once
+fit_in a s =
+    let l = a.warm.leaves in
+    let z = a.warm.shape in
+    fit_of s l.weights.now l.coords.now z.m z.k z.d
+
+-- after t runs the held area a' has what this one found, with the sizes and leaves of the area a
+pub record Holds (once : Once) (a a' : Area) (t : ℕ) (h : Held) : Type 0 where
+  pub same : Same a a'
+  pub there : em_of (parts_of a') h.value ≡ once.em
+  pub counts : h.counts ≡ once.counts
+  pub small : AtMost (of_runs t) h.counts
+
+-- with this run more: the area that is held then, a or the run's own
+pub record OneMore (run : Once) (a a' : Area) (h h' : Held) : Type 0 where
+  pub same : Same a a'
+  pub there : em_of (parts_of a') h'.value ≡ kept_of h.value run.em.loglik (em_of (parts_of a) h.value) run.em
+  pub counts : h'.counts ≡ plus_of h.counts run.counts
+  pub small : AtMost (of_runs 1) run.counts
+
+-- the last two runs, of which one will be kept: the held one and the last, each in its area, and the counts of all
+pub record Both (held last : Once) (a a' b : Area) (r : Runs) : Type 0 where
+  pub same : Same a a'
+  pub same_beside : Same a b
+  pub there : em_of (parts_of a') r.held ≡ held.em
+  pub beside : em_of (parts_of b) r.last ≡ last.em
+  pub counts : r.counts ≡ plus_of held.counts last.counts
+  pub small : AtMost (of_runs 4) r.counts
+
+-- ---- the keeper
+
+-- the kept one's log-likelihood
+abbrev pub kept_loglik : (held run : Float) → Float
+kept_loglik held run = kept_of held run held run
