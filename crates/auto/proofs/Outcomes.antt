@@ -3,7 +3,7 @@
 use mathlib.Core.Path.{◌≡◌, refl, ap, sym, subst, ◌∙◌}
 use mathlib.Core.List.{List}
 use mathlib.Core.Bool.{true}
-use Prim.Native.Nat.{ℕ, zero, suc, ◌+◌, ◌-◌, ◌≤◌}
+use Prim.Native.Nat.{ℕ, ◌+◌, ◌-◌, ◌≤◌}
 use native.Mathlib.Omega.{arith}
 use lib.Dec.{leb}
 use lib.ListN.{length}
@@ -18,9 +18,8 @@ use Rattle.mixture_restarts.proofs.Lengths.{fit_resp}
 use Rattle.mixture_outputs.specs.Labels.{LabelsFirst}
 use Rattle.mixture_outputs.proofs.Refusals.{Ready, ready}
 use Rattle.mixture_outputs.proofs.Labels.{written_first}
-use Rattle.std.specs.Prelude.{Some, None, Result, Ok, Err, ⊤}
+use Rattle.std.specs.Prelude.{Some, None, Result, Ok, ⊤}
 use Rattle.limits.specs.declared.Refusal.{Refusal}
-use Rattle.limits.proofs.Limits.{numbered}
 use Rattle.auto_choice.specs.Choice.{Choice, highest, lowest}
 use Rattle.auto_tries.specs.Lone.{lone, chosen_of, counts_of}
 use Rattle.auto_tries.specs.Tries.{loglik_by, Fitted}
@@ -32,7 +31,6 @@ use Rattle.auto.specs.Best.{Best, AnswerKeepsBest}
 use Rattle.auto.specs.Tallied.{answer_of}
 use Rattle.auto.specs.declared.Chosen.{Chosen}
 use Rattle.auto.specs.declared.NotChosen.{NotChosen}
-use Rattle.auto.specs.declared.NotChosen.TheVariants.{Refused}
 use Rattle.auto.proofs.Bests.{ended_best}
 
 -- ---- the range

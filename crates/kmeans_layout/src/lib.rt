@@ -1,5 +1,5 @@
 // The work area of a run of spherical k-means (document 01, 'Spherical k-means'): its sizes and leaves, and the parts
-// of the lent arrays that it works in. Two runs stand in the two halves of the lent arrays, of which one is held.
+// of the lent arrays that it works in; how long it is; and which of two runs is held.
 #![tactic(auto)]
 
 ghost use Rattle.std.specs.Prelude.{◌≡◌, not, ◌≤◌, length};
@@ -73,7 +73,7 @@ impl<'a> Area<'a> {
     }
 }
 
-// ---- the halves of the work arrays
+// ---- its length
 
 // How long an area is; in the u32 array it is m + k.
 pub fn total(shape: Shape) -> usize
@@ -90,6 +90,8 @@ pub fn half(shape: Shape) -> usize
     let kd = shape.k * shape.d;
     shape.m * shape.k + kd + kd + 4 * shape.m + 8 * shape.k
 }
+
+// ---- the held run
 
 // What is held: the value of the held run, the greater the better, and the counts of all runs so far.
 #[derive(Clone, Copy)]

@@ -11,7 +11,7 @@ use Rattle.vector.specs.Vectors.{norm_of}
 use Rattle.rows.specs.Tabulate.{tabulate}
 use Rattle.rows.proofs.Rows.{row_cut, put_more}
 use Rattle.rows.proofs.Tabulate.{tabulate_length}
-use Rattle.rows.proofs.Fills.{front_turn, front_end}
+use Rattle.rows.proofs.Fills.{front_turn}
 use Rattle.kmeans_sums.specs.Sums.{norms_up_to}
 use Rattle.kmeans_layout.specs.State.{State}
 use Rattle.kmeans_lloyd.specs.Runs.{norms_from, put_scale}
@@ -56,5 +56,3 @@ module _ (coords : List Float) (d m : ℕ) (l : List Float) (long : length l ≡
       sym more ∙ ap (λ (x : List Float). set x (i + n) v) (norms_block i n (omega arith)) ∙ norms_next (i + n) v (omega arith) refl
       ∙ ap normed e
 
-  pub norms_end : normed m ≡ norms_up_to coords d m
-  norms_end = front_end (norms_up_to coords d m) l m long

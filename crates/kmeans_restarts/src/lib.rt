@@ -14,7 +14,8 @@ use kmeans_layout::{Area, Held};
 use limits::{Leaves, Shape};
 
 // Two areas of the same sizes and leaves, in the halves of the lent work arrays: the held run stands in one, the other
-// is free for the next.
+// is free for the next. It and that of mixture_restarts are no one struct of any area: the borrow checker takes no type
+// argument that holds a `&mut` beside a ghost field.
 #[derive(Drop)]
 pub struct Halves<'a> {
     pub held: Area<'a>,

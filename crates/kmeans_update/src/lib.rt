@@ -84,15 +84,6 @@ fn turn_of(area: &Area, c: usize) -> f64
     turned(&area.centers[at..at + d], &area.sums[at..at + d])
 }
 
-// The d elements of a list from place `at` on, copied to their place in another. `from` is only read: it is lent as
-// `&mut` so that what holds it knows that it stays.
-fn copy_row(to: &mut [f64], from: &mut [f64], at: usize, d: usize)
-    requires { (at + d ≤ length to.old) × (length from.old ≡ length to.old) }
-    ensures { (to.new ≡ put_part to.old at d (part from.old at d)) × (from.new ≡ from.old) }
-{
-    rows::copy(&mut to[at..at + d], &from[at..at + d]);
-}
-
 // Centre c becomes the row that stands in its place among the sums; its drift is taken against the old row first.
 #[tactic(auto, unfolding(crate::specs::Update::move_center))]
 fn move_center(area: &mut Area, c: usize)
@@ -104,7 +95,7 @@ fn move_center(area: &mut Area, c: usize)
     let d = area.shape.d;
     let at = c * d;
     area.drift[c] = turn_of(area, c);
-    copy_row(area.centers, area.sums, at, d);
+    rows::copy_part(area.centers, area.sums, at, d);
 }
 
 // How far centre c turns where it stays.

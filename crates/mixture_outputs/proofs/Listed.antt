@@ -11,7 +11,6 @@ use Rattle.rows.specs.Rows.{part}
 use Rattle.rows.specs.Tabulate.{tabulate}
 use Rattle.pick.specs.Places.{argmax_of}
 use Rattle.rows.proofs.Rows.{length_part, part_cut}
-use Rattle.rows.proofs.Fills.{take_end}
 use Rattle.rows.proofs.Tabulate.{tabulate_turn}
 use Rattle.pick.proofs.Places.{argmax_below}
 
@@ -21,9 +20,6 @@ module _ {A : Type 0} (f : ℕ → A) (s : List A) (i : ℕ) where
   listed_turn v h e o =
       let t : take (i + 1) (set s i v) ≡ take i s ++ (v ∷ []) = rw add-one (take-suc-set s i v h) in
       t ∙ ap (λ (l : List A). l ++ (v ∷ [])) o ∙ tabulate_turn f i v e
-
-  pub listed_end : (n : ℕ) → i ≡ n → length s ≤ i → take i s ≡ tabulate f i → s ≡ tabulate f n
-  listed_end n e h o = take_end s (tabulate f n) i h (o ∙ ap (tabulate f) e)
 
 -- ---- the length of a part as the code cuts it
 pub cut_long : {A : Type 0} (l : List A) (at n : ℕ) → at + n ≤ length l → length (part l at (at + n - at)) ≡ n

@@ -132,17 +132,6 @@ fn put_weights(area: &mut Area, whole: f64)
     }
 }
 
-// The d elements of a list from place `at` on over n, in their place in another. `from` is only read: it is lent as
-// `&mut` so that what holds it knows that it stays.
-fn divide_row(to: &mut [f64], from: &mut [f64], at: usize, d: usize, n: f64)
-    requires { (at + d ≤ length to.old) × (length from.old ≡ length to.old) }
-    ensures { (to.new ≡ put_part to.old at d (divided_by n (part from.old at d))) × (from.new ≡ from.old) }
-{
-    let row = &mut to[at..at + d];
-    rows::copy(row, &from[at..at + d]);
-    vector::divide_by(row, n);
-}
-
 // The direction of group c: its resultant over this length, where that is above 0.
 #[tactic(auto, using(rows::proofs::Rows::put_same))]
 fn redirect_group(warm: &mut kmeans_layout::Area, c: usize, n: f64)
@@ -156,8 +145,10 @@ fn redirect_group(warm: &mut kmeans_layout::Area, c: usize, n: f64)
         (cond (lt plus_zero n) (divided_by n (row_of warm.old.sums.now d c)) (row_of old d c)) }
 {
     let d = warm.shape.d;
+    let at = c * d;
     if n > 0.0 {
-        divide_row(warm.centers, warm.sums, c * d, d, n);
+        rows::copy_part(warm.centers, warm.sums, at, d);
+        vector::divide_by(&mut warm.centers[at..at + d], n);
     }
 }
 

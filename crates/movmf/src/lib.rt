@@ -1,6 +1,6 @@
 // The mixture of von Mises-Fisher distributions, the public entries (vmf.rs, movmf_with and movmf; document 01,
 // 'Mixture' and 'Refusals by call'): what must be refused is, the four runs are made, and the outputs are filled from
-// the part of the kept one.
+// the area of the kept one.
 #![tactic(auto)]
 
 ghost use Rattle.std.specs.Prelude.{◌≡◌, length};

@@ -1,11 +1,11 @@
 -- Laws of flat lists: parts and rows. By recursion on the list. Assumes nothing.
 use mathlib.Core.Path.{◌≡◌, refl, ◌∙◌}
-use mathlib.Core.List.{List, [], ◌∷◌, ◌++◌, append_assoc, append-nil}
+use mathlib.Core.List.{List, [], ◌∷◌, ◌++◌, append_assoc}
 use Prim.Native.Nat.{ℕ, zero, suc, ◌+◌, ◌*◌, ◌-◌, ◌≤◌, ◌<◌}
 use native.Mathlib.Nat.{suc-mul, add-mul, mul-le-mul_right}
 use native.Mathlib.Numerals.{add-one}
 use native.Mathlib.Omega.{arith}
-use lib.ListN.{length, get_or, take, drop, set, drop_of_length-le, length-append, length-drop, take-append-drop}
+use lib.ListN.{length, get_or, take, drop, set, length-append, length-drop, take-append-drop}
 use lib.Seq.{drop-drop, take-take, length-take-le, take_at, drop_at, get_or-take, get_or-drop, drop-cons, set_at}
 use Rattle.rows.specs.Rows.{part, put_part, row_of}
 
@@ -45,10 +45,6 @@ module _ {A : Type 0} where
   part_put l at n v e h =
       let f : length (take at l) ≡ at = length-take-le at l h in
       rw (drop_at (take at l) (v ++ drop n (drop at l)) at f, take_at v (drop n (drop at l)) n e)
-
-  -- a list replaced as a whole
-  pub put_whole : (l v : List A) (n : ℕ) → length l ≤ n → put_part l 0 n v ≡ v
-  put_whole l v n h = rw (drop_of_length-le l h, append-nil)
 
   pub part_take : (w : List A) (n i p : ℕ) → i + p ≤ n → part (take n w) i p ≡ part w i p
   part_take w n zero p h = take-take p n w (omega arith)

@@ -9,7 +9,6 @@ use Rattle.limits.specs.Limits.{most_groups}
 use Rattle.logarithm.specs.Logarithm.{ln_of}
 use Rattle.mixture_outputs.specs.Outputs.{lengths_of}
 use Rattle.mixture_outputs.specs.Lent.{outputs_of}
-use Rattle.mixture_outputs.proofs.Refusals.{Ready}
 use Rattle.auto_tries.proofs.Below.{fittable}
 use Rattle.auto.proofs.Outcomes.{highest_some, lowest_some, lowest_most, admitted}
 use Rattle.auto.proofs.Outcomes.{done, done_best, done_first}

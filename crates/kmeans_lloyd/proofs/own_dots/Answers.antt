@@ -12,7 +12,6 @@ use Rattle.rows.proofs.Fills.{front_end}
 use Rattle.rows.proofs.Rows.{part_cut}
 use Rattle.rows.proofs.Tabulate.{tabulated_turn}
 use Rattle.vector.specs.Vectors.{dot_of}
-use Rattle.kmeans_lloyd.proofs.own_dots.Goals.{In-loop-e}
 use Rattle.kmeans_lloyd.proofs.own_dots.Goals as goal
 
 -- the dot of leaf i with itself

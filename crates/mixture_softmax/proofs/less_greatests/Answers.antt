@@ -4,7 +4,6 @@ use native.Mathlib.Omega.{arith}
 use Rattle.mixture_softmax.specs.Blocks.{from_greatest_at}
 use Rattle.mixture_softmax.proofs.Joined.{joined_none}
 use Rattle.mixture_softmax.proofs.Blocks.{greatests_turn}
-use Rattle.mixture_softmax.proofs.less_greatests.Goals.{In-loop-i}
 use Rattle.mixture_softmax.proofs.less_greatests.Goals as goal
 
 pub loop-i-init : goal.loop-i-init

@@ -1,18 +1,16 @@
 -- `movmf::fit` meets its contract: what is not refused is within the limits, so both halves have room and the outputs can be filled; what
 -- is found is the definition's fit. Assumes nothing.
 use mathlib.Core.Path.{◌≡◌, refl, ap, sym, ◌∙◌}
-use mathlib.Core.Bool.{Bool, true}
+use mathlib.Core.Bool.{true}
 use native.Mathlib.Omega.{arith}
 use lib.ListN.{length}
 use Rattle.std.specs.Prelude.{Ok}
-use Rattle.limits.specs.declared.Shape.{Shape}
 use Rattle.limits.specs.Limits.{groups_ok}
 use Rattle.mixture_run.specs.Mixture.{Em}
 use Rattle.mixture_restarts.specs.Kept.{kept_loglik}
 use Rattle.mixture_restarts.proofs.Turns.{kept_same, kept_em, kept_counts}
 use Rattle.mixture_outputs.specs.Outputs.{lengths_of}
 use Rattle.mixture_outputs.specs.Lent.{outputs_of}
-use Rattle.mixture_outputs.specs.Refusals.{fit_refusal}
 use Rattle.mixture_outputs.proofs.Refusals.{Ready, fits}
 use Rattle.movmf.specs.Refusals.{refusal_of}
 use Rattle.movmf.specs.Outcome.{answered, outcome}
