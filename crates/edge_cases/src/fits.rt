@@ -36,7 +36,7 @@ fn call_of<'a>(line: &'a [u64], leaves: Leaves<'a>, at: usize) -> Call<'a> {
 fn room(c: Call, i: usize, most: usize) -> usize
     ensures { result ≤ most }
 {
-    words::least(word(c.line, plus(c.at, i)) as usize, most)
+    (word(c.line, plus(c.at, i)) as usize).min(most)
 }
 
 // The number of a refusal, or 0.
@@ -98,7 +98,8 @@ fn settings(rounds: usize) -> mixture_kappa::Settings {
     }
 }
 
-// The outputs of a mixture fit.
+// The outputs of a mixture fit. Those of replay have other sizes and are compared with a case, which six const
+// parameters would say no plainer.
 #[derive(Drop)]
 struct Outputs {
     labels: [u32; 8],

@@ -19,18 +19,8 @@ pub(crate) fn between(operation: Operation, line: &[u64]) -> bool {
     y < v && v < z
 }
 
-// Five numbers, one after the other.
-#[derive(Clone, Copy)]
-struct Five {
-    a: u64,
-    b: u64,
-    c: u64,
-    d: u64,
-    e: u64,
-}
-
 // The first five numbers of a seed: one generator is made here and lent for each, and its state moves on in place.
-fn five_lent(seed: u64) -> Five
+fn five_lent(seed: u64) -> [u64; 5]
     ensures { result ≡ five_of seed }
 {
     let mut g = rng::SplitMix64::new(seed);
@@ -39,21 +29,15 @@ fn five_lent(seed: u64) -> Five
     let c = rng::next_u64(&mut g);
     let d = rng::next_u64(&mut g);
     let e = rng::next_u64(&mut g);
-    Five { a, b, c, d, e }
-}
-
-fn print_number(rt: &impl Print, n: u64) -> io::Result<()> {
-    println!(rt; "{n}")
+    [a, b, c, d, e]
 }
 
 // Prints the first five numbers of a seed.
 pub(crate) fn print_draws(rt: &impl Print, seed: u64) -> io::Result<()> {
-    let f = five_lent(seed);
-    print_number(rt, f.a)?;
-    print_number(rt, f.b)?;
-    print_number(rt, f.c)?;
-    print_number(rt, f.d)?;
-    print_number(rt, f.e)
+    for n in five_lent(seed) {
+        println!(rt; "{n}")?;
+    }
+    Ok(())
 }
 
 // Whether the table's ln_gamma of d / 2 has these bits.

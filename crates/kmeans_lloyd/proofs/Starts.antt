@@ -55,4 +55,3 @@ module _ (coords : List Float) (d m : ℕ) (l : List Float) (long : length l ≡
       put_more (normed i) vs i n v nan lv (omega arith) ∙ ap (λ (j : ℕ). put_part (normed i) i j (vs ++ (v ∷ []))) (add-one n) in
       sym more ∙ ap (λ (x : List Float). set x (i + n) v) (norms_block i n (omega arith)) ∙ norms_next (i + n) v (omega arith) refl
       ∙ ap normed e
-

@@ -127,24 +127,23 @@ fn fit_leaves(
     )
 }
 
-// The automatic fit of the m leaves of d coordinates that a file holds, read into weights and coords.
+// The automatic fit of the leaves that a file with this header holds, read into weights and coords.
 fn fit_sized(
     bytes: &[u8],
-    m: usize,
-    d: usize,
+    h: Header,
     weights: &mut [f64],
     coords: &mut [f64],
     labels: &mut [u32],
 ) -> Result<Chosen, NotChosen>
-    requires { Sized (length bytes.now) (length weights.old) (length coords.old) m d }
+    requires { Sized (length bytes.now) (length weights.old) (length coords.old) h.m h.d }
     ensures fact { ◌≡◌ {A = FileFit} (record { answer = result; labels = labels.new })
-        (file_fit_by (Ok tt) (leaves_of bytes.now m d) labels.old) }
-    ensures leaves_keep_best { LeavesKeepBest (leaves_of bytes.now m d) labels.old result }
+        (file_fit_by (Ok tt) (leaves_of bytes.now h.m h.d) labels.old) }
+    ensures leaves_keep_best { LeavesKeepBest (leaves_of bytes.now h.m h.d) labels.old result }
 {
-    let n = m * d;
-    load(&mut weights[..m], bytes, 8);
-    load(&mut coords[..n], bytes, 8 + 8 * m);
-    fit_leaves(&weights[..m], &coords[..n], d, labels)
+    let n = h.m * h.d;
+    load(&mut weights[..h.m], bytes, 8);
+    load(&mut coords[..n], bytes, 8 + 8 * h.m);
+    fit_leaves(&weights[..h.m], &coords[..n], h.d, labels)
 }
 
 // The automatic fit of a leaf file; the labels are as found where it is refused.
@@ -157,12 +156,13 @@ pub fn fit_file(bytes: &[u8], labels: &mut [u32]) -> Result<Chosen, NotChosen>
     let h = header_of(bytes)?;
     let mut weights = [0.0; LEAVES];
     let mut coords = [0.0; LEAVES * COORDINATES];
-    fit_sized(bytes, h.m, h.d, &mut weights, &mut coords, labels)
+    fit_sized(bytes, h, &mut weights, &mut coords, labels)
 }
 
 // ---- the listing's text
 
-// A text on its way: it stands at the start of `out`, and `at` is the place after it.
+// A text on its way: it stands at the start of `out`, and `at` is the place after it. No String, since the station has
+// no heap.
 #[derive(Drop)]
 struct Text<'a> {
     out: &'a mut [u8],

@@ -79,7 +79,8 @@ fn settings(rounds: u64, seed: u64, kappa: u64) -> mixture_kappa::Settings {
     }
 }
 
-// The numbers of leaves, groups and coordinates of a fit's outputs.
+// The numbers of leaves, groups and coordinates of a fit's outputs. No Shape of limits: where no number of groups is
+// kept, m and k are 0.
 #[derive(Clone, Copy)]
 struct Shape {
     m: usize,
@@ -93,7 +94,8 @@ fn shape_of(case: &[u64], m: usize, k: usize) -> Shape {
     Shape { m, k, d }
 }
 
-// The six outputs of a mixture fit, longer than needed: their rest is looked at too.
+// The six outputs of a mixture fit, longer than needed: their rest is looked at too. Those of edge_cases have other
+// sizes and are asked whether they are untouched, which six const parameters would say no plainer.
 #[derive(Drop)]
 struct Outputs {
     labels: [u32; 132],

@@ -12,7 +12,7 @@ mod numbers;
 mod outputs;
 mod vectors;
 
-ghost use Rattle.std.specs.Prelude.{◌≡◌, IfOk, OnErr};
+ghost use Rattle.std.specs.Prelude.{◌≡◌, ◌≤◌, IfOk, OnErr};
 ghost use Rattle.words.specs.Words.{Counted};
 
 use kind::Kind;
@@ -49,28 +49,32 @@ fn agrees(kind: Kind, case: &[u64], ins: usize) -> bool {
     }
 }
 
-// Reads words to the start of `to`, by way of `space` and until `part` ends, and answers how many there were.
-fn read_part(mut part: impl Read + Drop, space: &mut Vec<u8>, to: &mut [u64]) -> io::Result<usize>
-    ensures counted { IfOk result (λ n. Counted n to.new) }
-    ensures err { OnErr result (to.new ≡ to.old) }
-{
-    space.clear();
-    part.read_to_end(space)?;
-    Ok(words::read(to, space))
+// The part of the list that is being read: its bytes, and its words.
+#[derive(Drop)]
+struct Page {
+    bytes: Vec<u8>,
+    words: [u64; 4096],
 }
 
-// Reads that many words, by way of `space`, and answers how many there were; no more than 65,536 bytes and `to` hold.
-fn read_words(
-    rt: &impl Input,
-    space: &mut Vec<u8>,
-    to: &mut [u64],
-    count: usize,
-) -> io::Result<usize>
-    ensures counted { IfOk result (λ n. Counted n to.new) }
-    ensures err { OnErr result (to.new ≡ to.old) }
-{
-    let bytes = words::least(count % 65536 * 17, 65536);
-    read_part(rt.reader().take(bytes as u64), space, to)
+impl Page {
+    // Reads words until `part` ends, and answers how many there were.
+    fn read_part(&mut self, mut part: impl Read + Drop) -> io::Result<usize>
+        ensures counted { IfOk result (λ n. (n ≤ 4096) × Counted n self.new.words) }
+        ensures err { OnErr result (self.new.words ≡ self.old.words) }
+    {
+        self.bytes.clear();
+        part.read_to_end(&mut self.bytes)?;
+        Ok(words::read(&mut self.words, &self.bytes))
+    }
+
+    // Reads that many words, and answers how many there were; no more than 65,536 bytes hold, and a page.
+    fn read(&mut self, rt: &impl Input, count: usize) -> io::Result<usize>
+        ensures counted { IfOk result (λ n. (n ≤ 4096) × Counted n self.new.words) }
+        ensures err { OnErr result (self.new.words ≡ self.old.words) }
+    {
+        let bytes = (count % 65536 * 17).min(65536);
+        self.read_part(rt.reader().take(bytes as u64))
+    }
 }
 
 // How many cases of a kind agreed so far, and of how many.
@@ -135,23 +139,23 @@ fn block_of(words: &[u64]) -> Option<Block> {
 }
 
 // The next block, if there is one.
-fn read_block(rt: &impl Input, space: &mut Vec<u8>, to: &mut [u64]) -> io::Result<Option<Block>> {
-    let n = read_words(rt, space, to, 4)?;
-    Ok(block_of(&to[..n]))
+fn read_block(rt: &impl Input, page: &mut Page) -> io::Result<Option<Block>> {
+    let n = page.read(rt, 4)?;
+    Ok(block_of(&page.words[..n]))
 }
 
 // Whether the next case agrees.
-fn run_case(rt: &impl Input, space: &mut Vec<u8>, to: &mut [u64], b: Block) -> io::Result<bool> {
+fn run_case(rt: &impl Input, page: &mut Page, b: Block) -> io::Result<bool> {
     let width = plus(b.ins, b.outs);
-    let n = read_words(rt, space, to, width)?;
-    Ok(n == width && agrees(b.kind, &to[..n], b.ins))
+    let n = page.read(rt, width)?;
+    Ok(n == width && agrees(b.kind, &page.words[..n], b.ins))
 }
 
 // How many of a block's cases agree.
-fn run_cases(rt: &impl Input, space: &mut Vec<u8>, to: &mut [u64], b: Block) -> io::Result<usize> {
+fn run_cases(rt: &impl Input, page: &mut Page, b: Block) -> io::Result<usize> {
     let mut agreed = 0;
     for _ in 0..b.count {
-        let same = run_case(rt, space, to, b)?;
+        let same = run_case(rt, page, b)?;
         agreed = plus(agreed, usize::from(same));
     }
     Ok(agreed)
@@ -160,13 +164,12 @@ fn run_cases(rt: &impl Input, space: &mut Vec<u8>, to: &mut [u64], b: Block) -> 
 // Runs a block after those of the tally.
 fn run_block(
     rt: &(impl Input + Print),
-    space: &mut Vec<u8>,
-    to: &mut [u64],
+    page: &mut Page,
     b: Block,
     old: Option<Tally>,
 ) -> io::Result<Tally> {
     let t = tally_for(rt, b.kind, old)?;
-    let agreed = run_cases(rt, space, to, b)?;
+    let agreed = run_cases(rt, page, b)?;
     Ok(Tally {
         kind: b.kind,
         agreed: plus(t.agreed, agreed),
@@ -174,11 +177,11 @@ fn run_block(
     })
 }
 
-fn run_list(rt: &(impl Input + Print), space: &mut Vec<u8>, to: &mut [u64]) -> io::Result<()> {
+fn run_list(rt: &(impl Input + Print), page: &mut Page) -> io::Result<()> {
     let mut tally = None;
     for _ in 0..4096 {
-        match read_block(rt, space, to)? {
-            Some(b) => tally = Some(run_block(rt, space, to, b, tally)?),
+        match read_block(rt, page)? {
+            Some(b) => tally = Some(run_block(rt, page, b, tally)?),
             None => return print_tally(rt, tally),
         }
     }
@@ -186,7 +189,9 @@ fn run_list(rt: &(impl Input + Print), space: &mut Vec<u8>, to: &mut [u64]) -> i
 }
 
 fn main(rt: HostRuntime) -> io::Result<()> {
-    let mut space = Vec::new(rt.alloc());
-    let mut to = [0u64; 4096];
-    run_list(&rt, &mut space, &mut to)
+    let mut page = Page {
+        bytes: Vec::new(rt.alloc()),
+        words: [0; 4096],
+    };
+    run_list(&rt, &mut page)
 }

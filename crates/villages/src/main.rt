@@ -6,7 +6,8 @@ use std::io::Read;
 use std::rt::Files;
 use std::{env, fs, io};
 
-// The listing of an open file.
+// The listing of an open file, as the listing program's main has it: a library for both would hold these lines alone,
+// and leaf_file neither prints nor has a heap.
 fn list_open(rt: &(impl Print + Alloc), file: impl Read + Drop) -> io::Result<()> {
     let mut bytes = Vec::new(rt.alloc());
     // One byte more than the longest leaf file: what is longer still is refused alike.

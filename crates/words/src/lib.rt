@@ -11,14 +11,6 @@ ghost use Rattle.words.specs.Words.{plus_of, element_of, values_up_to, byte_of, 
 ghost use Rattle.words.specs.Words.{due_at, AreBytes};
 ghost use Rattle.words.specs.Arithmetic.{operation_of, arithmetic_of};
 
-// The smaller of two numbers.
-pub fn least(a: usize, b: usize) -> usize
-    ensures upper_bound { result ≤ b }
-    ensures value { result ≡ min a b }
-{
-    a.min(b)
-}
-
 // The sum of two places or counts, each modulo 2^32.
 pub fn plus(a: usize, b: usize) -> usize
     ensures { result ≡ plus_of a b }
@@ -101,7 +93,7 @@ pub fn is_number(x: f64, words: &[u64], j: usize) -> bool
 pub fn element(words: &[u64], from: usize, last: usize, j: usize) -> u64
     ensures { result ≡ element_of words.now from last j }
 {
-    word(words, plus(from, least(j, last)))
+    word(words, plus(from, j.min(last)))
 }
 
 // Puts the first n elements of that list at the start of v, and answers n; no more than v holds. It and `load_bytes`
@@ -112,7 +104,7 @@ pub fn load(v: &mut [f64], words: &[u64], from: usize, last: usize, n: usize) ->
     ensures value { result ≡ min n (length v.old) }
     ensures v_after { take result v.new ≡ values_up_to words.now from last result }
 {
-    let m = least(n, v.len());
+    let m = n.min(v.len());
     for j in 0..m {
         v[j] = float::of_bits(element(words, from, last, j));
     }
@@ -152,7 +144,7 @@ pub fn load_bytes(v: &mut [u8], words: &[u64], list: Bytes) -> usize
     ensures value { result ≡ min list.count (length v.old) }
     ensures v_after { take result v.new ≡ bytes_up_to words.now list result }
 {
-    let m = least(list.count, v.len());
+    let m = list.count.min(v.len());
     for j in 0..m {
         v[j] = byte(words, list, j);
     }
@@ -189,7 +181,8 @@ pub enum Operation {
     Abs,
 }
 
-// By the kind of an example; abs for a kind that names none.
+// By the kind of an example; abs for a kind that names none. A From and no TryFrom, since both programs look at the
+// kind before and so ask it of no other.
 impl From<u64> for Operation {
     ghost from_gives = { λ kind operation. operation ≡ operation_of kind };
 

@@ -2,4 +2,4 @@
 use Rattle.words.proofs.element.Goals as goal
 
 pub returns : goal.returns
-returns c = rw (c.word.ensures, c.plus.ensures, c.least.ensures.value)
+returns c = rw (c.word.ensures, c.plus.ensures, c.min.ensures)

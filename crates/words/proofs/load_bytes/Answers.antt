@@ -3,6 +3,7 @@ use mathlib.Core.Path.{◌≡◌, subst}
 use Prim.Native.Nat.{ℕ, ◌≤◌}
 use native.Mathlib.Omega.{arith}
 use lib.ListN.{length, take, length-set}
+use native.Mathlib.Nat.{min-le_right}
 use Rattle.words.specs.Words.{bytes_up_to}
 use Rattle.words.proofs.Turns.{bytes_turn}
 use Rattle.words.proofs.Parts.{within}
@@ -18,13 +19,13 @@ loop-j-preserved c =
 
 pub returns : goal.returns
 returns c =
-    let m = c.least-m in
+    let m = c.min-m in
     let l = c.loop-j in
     let a = c.args in
-    let h : m.result ≤ length l.v = rw l.invariant.0 m.ensures.upper_bound in
+    let h : m.result ≤ length l.v = omega (arith, l.invariant.0, m.ensures, min-le_right a.list.count (length a.v.now)) in
     let e : l.j ≡ m.result = omega arith in
     let t = subst (λ (k : ℕ). take k l.v ≡ bytes_up_to a.words.now a.list k) e l.invariant.1 in record {
       counted = (h, within m.result l.v h);
-      value = m.ensures.value;
+      value = m.ensures;
       v_after = t;
     }
