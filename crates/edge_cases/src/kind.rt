@@ -21,6 +21,7 @@ pub(crate) enum Kind {
     Entry,
 }
 
+// A From and no TryFrom: the list is this project's own, and has no other number.
 impl From<u64> for Kind {
     fn from(number: u64) -> Kind {
         match number {

@@ -21,7 +21,7 @@ module _ (coords : List Float) (d : ℕ) where
 abbrev pub keep_center : (d c : ℕ) → State → State
 keep_center d c s = move_center d c (row_of s.centers d c) s
 
--- what moves or keeps centres or serves leaves leaves alone
+-- sizes, leaves, sums and counts are as they were
 abbrev pub Around : (a a' : Area) → Type 0
 Around a a' = Same a a' × (a'.sums.now ≡ a.sums.now) × (a'.counts.now ≡ a.counts.now)
 

@@ -30,7 +30,7 @@ fit_in a s =
     let z = a.warm.shape in
     fit_of s l.weights.now l.coords.now z.m z.k z.d
 
--- after t runs the held area a' has what this one found, with the sizes and leaves of the area a
+-- after t runs the held area a' has what this run found, with the sizes and leaves of the area a
 pub record Holds (once : Once) (a a' : Area) (t : ℕ) (h : Held) : Type 0 where
   pub same : Same a a'
   pub there : em_of (parts_of a') h.value ≡ once.em
