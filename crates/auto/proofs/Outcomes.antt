@@ -18,17 +18,18 @@ use Rattle.mixture_restarts.proofs.Lengths.{fit_resp}
 use Rattle.mixture_outputs.specs.Labels.{LabelsFirst}
 use Rattle.mixture_outputs.proofs.Refusals.{Ready, ready}
 use Rattle.mixture_outputs.proofs.Labels.{written_first}
-use Rattle.std.specs.Prelude.{Some, None, Result, Ok, ⊤}
+use Rattle.std.specs.Prelude.{Option, Some, None, Result, Ok, ⊤}
 use Rattle.limits.specs.declared.Refusal.{Refusal}
 use Rattle.auto_choice.specs.Choice.{Choice, highest, lowest}
 use Rattle.auto_tries.specs.Lone.{lone, chosen_of, counts_of}
-use Rattle.auto_tries.specs.Tries.{loglik_by, Fitted}
+use Rattle.auto_tries.specs.Tries.{choice_of, loglik_of, loglik_by, Fitted}
+use Rattle.auto_tries.specs.declared.Kept.{Kept}
 use Rattle.auto_tries.specs.declared.Tally.{Tally}
 use Rattle.auto.specs.Refusals.{refusal_of}
 use Rattle.auto.specs.Outcome.{Outcome, answer_by, ended, outcome_in, outcome}
 use Rattle.auto.specs.Answers.{Numbers, numbers_of, AnswerLabelsFirst}
 use Rattle.auto.specs.Best.{Best, AnswerKeepsBest}
-use Rattle.auto.specs.Tallied.{answer_of}
+use Rattle.auto.specs.Tallied.{answer_from, answer_of}
 use Rattle.auto.specs.declared.Chosen.{Chosen}
 use Rattle.auto.specs.declared.NotChosen.{NotChosen}
 use Rattle.auto.proofs.Bests.{ended_best}
@@ -50,10 +51,12 @@ admitted weights coords d hi s l some e =
     ready (leb hi most_groups) weights coords d hi s l (λ (t : leb hi most_groups ≡ true). (some, leb-true hi most_groups t)) e
 
 -- ---- what the code answers after the last number is what goes with the choice
-tallied : (weights coords : List Float) (d : ℕ) (s : Settings) (counts : Counts) (c : Choice)
-    → answer_of (record { choice = c; loglik = loglik_by weights coords d s c; counts = counts }) ≡ answer_by weights coords d s counts c
-tallied weights coords d s counts None = refl
-tallied weights coords d s counts (Some n) = refl
+tallied : (weights coords : List Float) (d : ℕ) (s : Settings) (counts : Counts) (kept : Option Kept)
+    → loglik_of kept ≡ loglik_by weights coords d s (choice_of kept)
+    → answer_from kept counts ≡ answer_by weights coords d s counts (choice_of kept)
+tallied weights coords d s counts None e = refl
+tallied weights coords d s counts (Some n) e =
+    ap (λ (x : Float). Ok (record { k = n.number.k; loglik = x; score = n.number.score; counts = counts })) e
 
 -- ---- the ends, the range from lo to hi
 module _ (o : Outputs) (weights coords : List Float) (d kMin kMax : ℕ) (s : Settings) (work workU32 lo hi : ℕ)
@@ -74,11 +77,11 @@ module _ (o : Outputs) (weights coords : List Float) (d kMin kMax : ℕ) (s : Se
     done_in =
         let c = chosen_of weights coords d s lo (hi + 1 - lo) in
         let n = counts_of weights coords d s lo (hi + 1 - lo) in
-        let same : t ≡ record { choice = c; loglik = loglik_by weights coords d s c; counts = n } =
-        ap (λ (x : Choice). record { choice = x; loglik = t.loglik; counts = t.counts }) fit.choice
-        ∙ ap (λ (x : Float). record { choice = c; loglik = x; counts = t.counts }) fit.loglik
-        ∙ ap (λ (x : Counts). record { choice = c; loglik = loglik_by weights coords d s c; counts = x }) fit.counts in
-        let is : r ≡ answer_by weights coords d s n c = er ∙ ap answer_of same ∙ tallied weights coords d s n c in
+        let same : loglik_of t.kept ≡ loglik_by weights coords d s (choice_of t.kept) =
+        fit.loglik ∙ ap (loglik_by weights coords d s) (sym fit.choice) in
+        let is : r ≡ answer_by weights coords d s n c =
+        er ∙ tallied weights coords d s t.counts t.kept same ∙ ap (λ (x : Choice). answer_by weights coords d s t.counts x) fit.choice
+        ∙ ap (λ (x : Counts). answer_by weights coords d s x c) fit.counts in
         rw (is, fit.outputs)
 
     pub done : code ≡ Ok tt → ◌≡◌ {A = Outcome} (record { answer = r; outputs = o' }) whole

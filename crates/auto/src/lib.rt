@@ -18,7 +18,7 @@ use mixture_kappa::Settings;
 use mixture_outputs::Arrays;
 
 // What a call finds: the number kept, its log-likelihood and score, and the counts.
-#[derive(Clone, Copy)]
+#[derive(Clone, Copy, Debug, PartialEq)]
 pub struct Chosen {
     pub k: usize,
     pub loglik: f64,
@@ -27,7 +27,7 @@ pub struct Chosen {
 }
 
 // Why a call keeps no number: the refusal; or no score lies below +infinity, which is 7 and comes with the counts.
-#[derive(Clone, Copy)]
+#[derive(Clone, Copy, Debug, PartialEq, Eq)]
 pub enum NotChosen {
     Refused(Refusal),
     Unscored(counts::Counts),
@@ -56,11 +56,11 @@ impl From<NotChosen> for u32 {
 fn answer(t: auto_tries::Tally) -> Result<Chosen, NotChosen>
     ensures { result ≡ answer_of t }
 {
-    match t.choice {
+    match t.kept {
         Some(n) => Ok(Chosen {
-            k: n.k,
-            loglik: t.loglik,
-            score: n.score,
+            k: n.number.k,
+            loglik: n.loglik,
+            score: n.number.score,
             counts: t.counts,
         }),
         None => Err(NotChosen::Unscored(t.counts)),
@@ -71,7 +71,6 @@ fn answer(t: auto_tries::Tally) -> Result<Chosen, NotChosen>
 // them would have to say that their lengths stay.
 fn fit(
     leaves: Leaves,
-    d: usize,
     k_min: usize,
     k_max: usize,
     s: Settings,
@@ -81,17 +80,17 @@ fn fit(
 ) -> Result<Chosen, NotChosen>
     ensures same { SameArrays o.old o.new }
     ensures fitted { answered result (outputs_of o.new) ≡ outcome (outputs_of o.old) leaves.entry.weights.now
-        leaves.entry.coords.now d s k_min k_max (length work.old) (length work_u32.old) }
-    ensures keeps_best { AnswerKeepsBest (outputs_of o.old) leaves.entry.weights.now leaves.entry.coords.now d s k_min
-        k_max (length work.old) (length work_u32.old) result (outputs_of o.new) }
+        leaves.entry.coords.now leaves.entry.d s k_min k_max (length work.old) (length work_u32.old) }
+    ensures keeps_best { AnswerKeepsBest (outputs_of o.old) leaves.entry.weights.now leaves.entry.coords.now
+        leaves.entry.d s k_min k_max (length work.old) (length work_u32.old) result (outputs_of o.new) }
     ensures labels_first { AnswerLabelsFirst (length leaves.entry.weights.now) result (outputs_of o.new) }
 {
     let hi = auto_choice::highest_number(k_max, leaves.weights.len());
     let lo = auto_choice::lowest_number(k_min, hi);
     let l = o.lengths(work.len(), work_u32.len());
-    mixture_outputs::check(leaves, d, hi, hi <= limits::MOST_GROUPS, s, l)?;
+    mixture_outputs::check(leaves, hi, hi <= limits::MOST_GROUPS, s, l)?;
     let ln_total = logarithm::ln(vector::sum(leaves.weights));
-    answer(auto_tries::fit_range(leaves, d, lo, hi, s, ln_total, o, work, work_u32))
+    answer(auto_tries::fit_range(leaves, lo, hi, s, ln_total, o, work, work_u32))
 }
 
 // The mixture fit of m leaves (m weights, m * d coordinates) with the best number of groups from k_min to k_max, as far
@@ -137,8 +136,8 @@ pub fn movmf_auto_with(
         concentrations,
         logw,
     };
-    let leaves = Leaves { weights, coords };
-    fit(leaves, d, k_min, k_max, s, &mut o, work, work_u32)
+    let leaves = Leaves { weights, coords, d };
+    fit(leaves, k_min, k_max, s, &mut o, work, work_u32)
 }
 
 // The same, each group with a concentration of its own.

@@ -21,7 +21,7 @@ pub fn lowest_number(k_min: usize, hi: usize) -> usize
 }
 
 // A number of groups with its score. The choice is such a number, or none.
-#[derive(Clone, Copy)]
+#[derive(Clone, Copy, Debug, PartialEq)]
 pub struct Scored {
     pub k: usize,
     pub score: f64,

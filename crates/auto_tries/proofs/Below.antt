@@ -14,9 +14,9 @@ use Rattle.mixture_outputs.specs.Outputs.{Outputs, lengths_of}
 use Rattle.mixture_outputs.proofs.Refusals.{Ready, fits}
 use Rattle.auto_tries.specs.Tries.{Fittable}
 
-module _ (weights coords : List Float) (hi k d rounds work work' workU32 workU32' : ℕ) (o o' : Arrays) where
+module _ (weights coords : List Float) (hi k d work work' workU32 workU32' : ℕ) (o o' : Arrays) where
   pub fittable_below : 1 ≤ k → k ≤ hi → work' ≡ work → workU32' ≡ workU32 → SameArrays o o'
-      → Fittable weights coords hi d rounds (outputs_of o) work workU32 → Fittable weights coords k d rounds (outputs_of o') work' workU32'
+      → Fittable weights coords hi d (outputs_of o) work workU32 → Fittable weights coords k d (outputs_of o') work' workU32'
   fittable_below some most ew eu same f =
       let m = length weights in
       let all : m ≤ m = omega arith in
@@ -28,7 +28,6 @@ module _ (weights coords : List Float) (hi k d rounds work work' workU32 workU32
       record {
         sizes = sizes_of m k d z.m_some z.m_small some (omega (arith, z.k_small)) z.d_some z.d_small;
         coords_long = f.coords_long;
-        rounds_small = f.rounds_small;
         outputs_long =
             record {
               labels_long = omega (arith, g.labels_long, same.labels_long);
@@ -44,12 +43,11 @@ module _ (weights coords : List Float) (hi k d rounds work work' workU32 workU32
 
 -- what is not refused has room
 pub fittable : (groups : Bool) (weights coords : List Float) (d k rounds : ℕ) (o : Outputs) (work workU32 : ℕ)
-    → Ready groups weights coords d k rounds (lengths_of o work workU32) → Fittable weights coords k d rounds o work workU32
+    → Ready groups weights coords d k rounds (lengths_of o work workU32) → Fittable weights coords k d o work workU32
 fittable groups weights coords d k rounds o work workU32 r =
     record {
       sizes = r.sizes;
       coords_long = r.coords_long;
-      rounds_small = r.rounds_small;
       outputs_long = fits o work workU32 (length weights) k d r.long;
       work_long = omega (arith, r.long.work_long);
       work_u32_long = omega (arith, r.long.work_u32_long);

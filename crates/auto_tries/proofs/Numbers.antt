@@ -6,7 +6,7 @@ use mathlib.Core.Bool.{Bool, true, false, true≢false}
 use Prim.Native.Nat.{ℕ, suc, ◌+◌, ◌*◌, ◌-◌, ◌≤◌}
 use native.Mathlib.Omega.{arith}
 use lib.ListN.{length}
-use lib.Ieee.{Float, inf, lt}
+use lib.Ieee.{Float, lt}
 use Rattle.logarithm.specs.Logarithm.{ln_of}
 use Rattle.counts.specs.Counts.{plus_of, no_counts, sum_over, AtMost, of_runs}
 use Rattle.counts.specs.declared.Counts.{Counts}
@@ -18,12 +18,16 @@ use Rattle.mixture_run.specs.declared.layout.Area.{Area}
 use Rattle.mixture_restarts.specs.Kept.{kept_loglik}
 use Rattle.mixture_restarts.specs.declared.Runs.{Runs}
 use Rattle.mixture_outputs.specs.Outputs.{Outputs, written}
-use Rattle.std.specs.Prelude.{None}
+use Rattle.std.specs.Prelude.{Option, None, Some}
 use Rattle.auto_choice.specs.Choice.{Choice, number_with, total_of, score_by, held_score, choose_by, choose, chosen}
 use Rattle.auto_tries.specs.Lone.{lone, score, chosen_of, counts_of, written_by}
-use Rattle.auto_tries.specs.Tries.{Full, Tails, loglik_by, FitOfK, Fitted}
+use Rattle.auto_tries.specs.Tries.{choice_of, loglik_of, Full, Tails, loglik_by, FitOfK, Fitted}
+use Rattle.auto_tries.specs.declared.Kept.{Kept}
 use Rattle.auto_tries.specs.declared.Tally.{Tally}
 use Rattle.auto_tries.proofs.Tails.{tails_more, tails_written, written_same}
+
+abbrev pub kept_of : (k : ℕ) (score loglik : Float) → Option Kept
+kept_of k score loglik = Some (record { number = record { k = k; score = score }; loglik = loglik })
 
 -- ---- one number fitted, of which an area has what is found
 module _ (weights coords : List Float) (d k : ℕ) (s : Settings) (a : Area) (r : Runs)
@@ -49,21 +53,22 @@ module _ (weights coords : List Float) (d k : ℕ) (s : Settings) (a : Area) (r 
       rw (leaves, groups, row, em) at e
 
   module _ (t : Tally) (loglik lnTotal x : Float) (beats : Bool) (counts : Counts) (el : loglik ≡ kept_loglik r.held r.last)
-      (en : lnTotal ≡ ln_of (total_of weights)) (ex : x ≡ score_by s.kappa k d loglik lnTotal) (eb : beats ≡ lt x (held_score t.choice))
-      (ec : counts ≡ plus_of t.counts r.counts) where
+      (en : lnTotal ≡ ln_of (total_of weights)) (ex : x ≡ score_by s.kappa k d loglik lnTotal)
+      (eb : beats ≡ lt x (held_score (choice_of t.kept))) (ec : counts ≡ plus_of t.counts r.counts) where
     loglik_is : loglik ≡ found.loglik
     loglik_is = el ∙ ap (λ (y : Em). y.loglik) em
 
     score_is : x ≡ score weights coords d s k
     score_is = ex ∙ ap₂ (score_by s.kappa k d) loglik_is en
 
-    test_is : (y : Bool) → beats ≡ y → lt (score weights coords d s k) (held_score t.choice) ≡ y
-    test_is y e = ap (λ (z : Float). lt z (held_score t.choice)) (sym score_is) ∙ sym eb ∙ e
+    test_is : (y : Bool) → beats ≡ y → lt (score weights coords d s k) (held_score (choice_of t.kept)) ≡ y
+    test_is y e = ap (λ (z : Float). lt z (held_score (choice_of t.kept))) (sym score_is) ∙ sym eb ∙ e
 
-    choice_is : (y : Bool) → beats ≡ y → choose_by y (number_with k x) t.choice ≡ choose t.choice k (score weights coords d s k)
+    choice_is : (y : Bool) → beats ≡ y
+        → choose_by y (number_with k x) (choice_of t.kept) ≡ choose (choice_of t.kept) k (score weights coords d s k)
     choice_is y e =
-        ap (λ (z : Float). choose_by y (number_with k z) t.choice) score_is
-        ∙ ap (λ (z : Bool). choose_by z (number_with k (score weights coords d s k)) t.choice) (sym (test_is y e))
+        ap (λ (z : Float). choose_by y (number_with k z) (choice_of t.kept)) score_is
+        ∙ ap (λ (z : Bool). choose_by z (number_with k (score weights coords d s k)) (choice_of t.kept)) (sym (test_is y e))
 
     counted : counts ≡ plus_of t.counts (lone weights coords d s k).counts
     counted = ec ∙ ap (plus_of t.counts) fit
@@ -72,7 +77,7 @@ module _ (weights coords : List Float) (d k : ℕ) (s : Settings) (a : Area) (r 
     small = subst (AtMost (of_runs 4)) fit few
 
     pub fitted_kept : (o o' : Outputs) → beats ≡ true → o' ≡ written m k d found o
-        → FitOfK weights coords d s k t (record { choice = number_with k x; loglik = loglik; counts = counts }) o o'
+        → FitOfK weights coords d s k t (record { kept = kept_of k x loglik; counts = counts }) o o'
     fitted_kept o o' taken eo =
         record {
           choice = choice_is true taken;
@@ -84,7 +89,7 @@ module _ (weights coords : List Float) (d k : ℕ) (s : Settings) (a : Area) (r 
         }
 
     pub fitted_left : (o : Outputs) → beats ≡ false
-        → FitOfK weights coords d s k t (record { choice = t.choice; loglik = t.loglik; counts = counts }) o o
+        → FitOfK weights coords d s k t (record { kept = t.kept; counts = counts }) o o
     fitted_left o left =
         record {
           choice = choice_is false left;
@@ -97,15 +102,15 @@ module _ (weights coords : List Float) (d k : ℕ) (s : Settings) (a : Area) (r 
 
 -- ---- one number more
 module _ (o₀ : Outputs) (weights coords : List Float) (d : ℕ) (s : Settings) (lo : ℕ) where
-  pub fitted_start : (t : Tally) → t ≡ record { choice = None; loglik = inf true; counts = no_counts }
+  pub fitted_start : (t : Tally) → t ≡ record { kept = None; counts = no_counts }
       → Fitted weights coords d s o₀ lo (lo - lo) t o₀
   unfolding chosen sum_over
   fitted_start t e =
       let f : lo - lo ≡ 0 = omega arith in
       rw f
       (record {
-        choice = ap (λ (x : Tally). x.choice) e;
-        loglik = ap (λ (x : Tally). x.loglik) e;
+        choice = ap (λ (x : Tally). choice_of x.kept) e;
+        loglik = ap (λ (x : Tally). loglik_of x.kept) e;
         counts = ap (λ (x : Tally). x.counts) e;
         outputs = refl;
       })
@@ -113,7 +118,7 @@ module _ (o₀ : Outputs) (weights coords : List Float) (d : ℕ) (s : Settings)
   module _ (k n : ℕ) (t q : Tally) (o o' : Outputs) (fit : FitOfK weights coords d s k t q o o') (tails : Tails (length weights) k d o o₀)
     where
       abbrev beaten : Bool
-      beaten = lt (score weights coords d s k) (held_score t.choice)
+      beaten = lt (score weights coords d s k) (held_score (choice_of t.kept))
 
       tails_by : (y : Bool) → beaten ≡ y → Tails (length weights) (k + 1) d o' o₀
       tails_by true e =
@@ -127,20 +132,20 @@ module _ (o₀ : Outputs) (weights coords : List Float) (d : ℕ) (s : Settings)
       tails_turn = tails_by beaten refl
 
       -- what goes with the choice, by whether the score beats the one held
-      chosen_by : (y : Bool) → beaten ≡ y → t.loglik ≡ loglik_by weights coords d s t.choice
-          → o ≡ written_by weights coords d s t.choice o₀
-          → let c = choose_by y (number_with k (score weights coords d s k)) t.choice in
-          (q.loglik ≡ loglik_by weights coords d s c) × (o' ≡ written_by weights coords d s c o₀)
+      chosen_by : (y : Bool) → beaten ≡ y → loglik_of t.kept ≡ loglik_by weights coords d s (choice_of t.kept)
+          → o ≡ written_by weights coords d s (choice_of t.kept) o₀
+          → let c = choose_by y (number_with k (score weights coords d s k)) (choice_of t.kept) in
+          (loglik_of q.kept ≡ loglik_by weights coords d s c) × (o' ≡ written_by weights coords d s c o₀)
       chosen_by true e el eo =
           ((fit.kept e).0, (fit.kept e).1 ∙ written_same (length weights) k d (lone weights coords d s k).em o o₀ tails)
-      chosen_by false e el eo = ((fit.left e).0 ∙ el, (fit.left e).1 ∙ eo)
+      chosen_by false e el eo = (ap loglik_of (fit.left e).0 ∙ el, (fit.left e).1 ∙ eo)
 
       fitted_next : lo + n ≡ k → Fitted weights coords d s o₀ lo n t o → Fitted weights coords d s o₀ lo (suc n) q o'
       unfolding chosen sum_over
       fitted_next at v =
           let c = chosen_of weights coords d s lo n in
           let x = score weights coords d s k in
-          let ec : q.choice ≡ choose c k x = fit.choice ∙ ap (λ (z : Choice). choose z k x) v.choice in
+          let ec : choice_of q.kept ≡ choose c k x = fit.choice ∙ ap (λ (z : Choice). choose z k x) v.choice in
           let lw = chosen_by beaten refl (v.loglik ∙ ap (loglik_by weights coords d s) (sym v.choice))
           (v.outputs ∙ ap (λ (z : Choice). written_by weights coords d s z o₀) (sym v.choice)) in
           let next : choose c k x ≡ choose c (lo + n) (score weights coords d s (lo + n)) =

@@ -1,4 +1,5 @@
--- What functions ask of the number that the series starts from: it is ln_gamma of d/2, d a dimension. Definitions only.
+-- What an order holds of the number that the series starts from: it is ln_gamma of d/2, d a dimension. Definitions
+-- only.
 use Rattle.std.specs.Prelude.{◌≡◌, ℕ, Float}
 use Rattle.gamma.specs.Gamma.{ln_gamma_half}
 use Rattle.bessel.specs.Concentration.{Dimension}

@@ -61,8 +61,8 @@ fn with_term(s: PeakSum, log_a: f64) -> PeakSum
         }
     } else {
         PeakSum {
-            peak: s.peak,
             sum: s.sum + exponential::exp(log_a - s.peak),
+            ..s
         }
     }
 }
@@ -74,7 +74,8 @@ fn ends_at(kappa: f64, m: f64, peak: f64, log_a: f64) -> bool
     ((kappa * 0.5 < m) & (log_a < peak - 40.0)) | (200000.0 < m)
 }
 
-// The peak and the sum of the series whose first term has the logarithm `first`.
+// The peak and the sum of the series whose first term has the logarithm `first`. The number of a term is an f64, as in
+// the Rust, and the end is told by it, so the loop is no `for`.
 fn peak_sum(nu: f64, kappa: f64, half_ln: f64, first: f64) -> PeakSum
     ensures { result ≡ peak_sum_of nu kappa half_ln first }
 {
@@ -88,10 +89,7 @@ fn peak_sum(nu: f64, kappa: f64, half_ln: f64, first: f64) -> PeakSum
         log_a = term_after(nu, half_ln, m, log_a);
         s = with_term(s, log_a);
         if ends_at(kappa, m, s.peak, log_a) {
-            break PeakSum {
-                peak: s.peak,
-                sum: s.sum,
-            };
+            break s;
         }
         m = m + 1.0;
     }
@@ -119,14 +117,32 @@ fn log_iv(nu: f64, kappa: f64, start: f64) -> f64
     }
 }
 
-// The log normalizing constant of the density in dim dimensions; `start` is ln_gamma(dim / 2).
-pub fn log_vmf_norm_from(dim: usize, kappa: f64, start: f64) -> f64
-    requires { StartOf dim start }
-    ensures { result ≡ log_vmf_norm_of dim kappa }
-{
-    let half_d = dim as f64 / 2.0;
-    let nu = half_d - 1.0;
-    nu * logarithm::ln(kappa) - half_d * gamma::LN_TAU - log_iv(nu, kappa, start)
+// The order d / 2 - 1 of the Bessel function in d dimensions, with ln_gamma(d / 2), which its series starts from.
+#[derive(Clone, Copy)]
+pub struct Order {
+    pub d: usize,
+    pub start: f64,
+    ghost starts: { StartOf d start },
+}
+
+impl Order {
+    // That of d dimensions; the table is read once for all concentrations.
+    pub fn of(d: usize) -> Order
+        requires { Dimension d }
+        ensures { result.d ≡ d }
+    {
+        let start = gamma_table::ln_gamma_half(d);
+        Order { d, start }
+    }
+
+    // The log normalizing constant of the density in d dimensions.
+    pub fn log_norm(self, kappa: f64) -> f64
+        ensures { result ≡ log_vmf_norm_of self.d kappa }
+    {
+        let half_d = self.d as f64 / 2.0;
+        let nu = half_d - 1.0;
+        nu * logarithm::ln(kappa) - half_d * gamma::LN_TAU - log_iv(nu, kappa, self.start)
+    }
 }
 
 // The log normalizing constant of the density in dim dimensions, as the Rust has it: the table is read for each.
@@ -134,7 +150,7 @@ pub fn log_vmf_norm(dim: usize, kappa: f64) -> f64
     requires { Dimension dim }
     ensures { result ≡ log_vmf_norm_of dim kappa }
 {
-    log_vmf_norm_from(dim, kappa, gamma_table::ln_gamma_half(dim))
+    Order::of(dim).log_norm(kappa)
 }
 
 // The greatest concentration in dim dimensions.

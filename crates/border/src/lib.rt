@@ -15,7 +15,8 @@ use mixture_kappa::Kappa;
 use movmf::Fitted;
 use spherical::Clustered;
 
-// The Kappa of a kind: 0 is Free, 1 is Shared.
+// The Kappa of a kind: 0 is Free, 1 is Shared. A function and no TryFrom: it is how C names a Kappa, and nothing else
+// asks for it.
 pub fn kappa_of(kind: u32) -> Result<Kappa, Refusal>
     ensures { result ≡ kappa_of kind }
 {
@@ -87,10 +88,11 @@ pub fn give_chosen(
             *counts = [c.counts.made, c.counts.saved];
             0
         }
-        Err(NotChosen::Refused(e)) => u32::from(e),
-        Err(NotChosen::Unscored(c)) => {
-            *counts = [c.made, c.saved];
-            7
+        Err(e) => {
+            if let NotChosen::Unscored(c) = e {
+                *counts = [c.made, c.saved];
+            }
+            u32::from(e)
         }
     }
 }

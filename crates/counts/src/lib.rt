@@ -5,26 +5,35 @@
 ghost use Rattle.std.specs.Prelude.{◌≡◌};
 ghost use Rattle.counts.specs.Counts.{no_counts, plus_of, AtMost, of_call};
 
-#[derive(Clone, Copy)]
+use std::ops::Add;
+
+#[derive(Clone, Copy, Debug, PartialEq, Eq)]
 pub struct Counts {
     pub made: u64,
     pub saved: u64,
 }
 
-// Before the first pass.
-pub fn none() -> Counts
-    ensures { result ≡ no_counts }
-{
-    Counts { made: 0, saved: 0 }
+// Before the first pass. By hand, since it promises the definition's no_counts, which a derive says field by field.
+impl Default for Counts {
+    ghost is_default = { λ c. c ≡ no_counts };
+
+    fn default() -> Counts {
+        Counts { made: 0, saved: 0 }
+    }
 }
 
 // Those of two parts of a call together.
-pub fn plus(a: Counts, b: Counts) -> Counts
-    requires { (AtMost of_call a) × (AtMost of_call b) }
-    ensures { result ≡ plus_of a b }
-{
-    Counts {
-        made: a.made + b.made,
-        saved: a.saved + b.saved,
+impl Add for Counts {
+    type Output = Counts;
+
+    ghost can_add = { λ a b. (AtMost of_call a) × (AtMost of_call b) };
+
+    ghost add_gives = { λ a b c. c ≡ plus_of a b };
+
+    fn add(self, other: Counts) -> Counts {
+        Counts {
+            made: self.made + other.made,
+            saved: self.saved + other.saved,
+        }
     }
 }

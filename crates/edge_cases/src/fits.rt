@@ -6,12 +6,12 @@ use auto::{Chosen, NotChosen};
 use limits::Leaves;
 use words::{plus, word};
 
-// A call of a line: its leaves; its numbers, words 4 to 8; and from word `at` on the lengths of its arrays.
+// A call of a line: its leaves, whose d is word 4; its numbers, words 5 to 8; and from word `at` on the lengths of its
+// arrays.
 #[derive(Clone, Copy)]
 pub(crate) struct Call<'a> {
     line: &'a [u64],
     leaves: Leaves<'a>,
-    d: usize,
     k_min: usize,
     k: usize,
     rounds: usize,
@@ -23,7 +23,6 @@ fn call_of<'a>(line: &'a [u64], leaves: Leaves<'a>, at: usize) -> Call<'a> {
     Call {
         line,
         leaves,
-        d: word(line, 4) as usize,
         k_min: word(line, 5) as usize,
         k: word(line, 6) as usize,
         rounds: word(line, 7) as usize,
@@ -39,7 +38,7 @@ fn room(c: Call, i: usize, most: usize) -> usize
     (word(c.line, plus(c.at, i)) as usize).min(most)
 }
 
-// The number of a refusal, or 0.
+// The number of a refusal, or 0: a line has one number for both, so no Option.
 fn number_of<T: Drop, E: Into<u32>>(r: Result<T, E>) -> u32 {
     match r {
         Ok(_) => 0,
@@ -47,18 +46,13 @@ fn number_of<T: Drop, E: Into<u32>>(r: Result<T, E>) -> u32 {
     }
 }
 
-// Whether all labels are 9, as before a call.
-pub(crate) fn labels_untouched(v: &[u32]) -> bool {
-    v.iter().all(|x| *x == 9)
+// Whether all are 9, as before a call; of f64, 9.0 has one pattern.
+pub(crate) fn untouched<T: Copy + PartialEq>(v: &[T], nine: T) -> bool {
+    v.iter().all(|x| *x == nine)
 }
 
-// Whether all numbers are 9, as before a call.
-fn untouched(v: &[f64]) -> bool {
-    v.iter()
-        .all(|x| float::bits_of(*x) == 0x4022_0000_0000_0000)
-}
-
-// Whether the answer is word 1, the number of a refusal or 0, and the outputs are untouched where it is a refusal.
+// Whether the answer is word 1, the number of a refusal or 0, as the line has it, and the outputs are untouched where
+// it is a refusal.
 fn answer_is(c: u32, same: bool, line: &[u64]) -> bool {
     u64::from(c) == word(line, 1) && (c == 0 || same)
 }
@@ -76,7 +70,7 @@ pub(crate) fn clustering_holds(c: Call) -> bool {
     let r = number_of(spherical::spherical_kmeans(
         c.leaves.weights,
         c.leaves.coords,
-        c.d,
+        c.leaves.d,
         c.k,
         c.rounds,
         c.restarts,
@@ -86,7 +80,7 @@ pub(crate) fn clustering_holds(c: Call) -> bool {
         &mut work[..n],
         &mut work_u32[..p],
     ));
-    let same = labels_untouched(&labels) & untouched(&directions);
+    let same = untouched(&labels, 9) & untouched(&directions, 9.0);
     answer_is(r, same, c.line)
 }
 
@@ -125,10 +119,12 @@ impl Outputs {
 
     // Whether they are still so.
     fn untouched(&self) -> bool {
-        let a = labels_untouched(&self.labels)
-            & untouched(&self.responsibilities)
-            & untouched(&self.directions);
-        let b = untouched(&self.weights) & untouched(&self.concentrations) & untouched(&self.logw);
+        let a = untouched(&self.labels, 9)
+            & untouched(&self.responsibilities, 9.0)
+            & untouched(&self.directions, 9.0);
+        let b = untouched(&self.weights, 9.0)
+            & untouched(&self.concentrations, 9.0)
+            & untouched(&self.logw, 9.0);
         a & b
     }
 }
@@ -149,7 +145,7 @@ pub(crate) fn fit_answer_holds(c: Call) -> bool {
     let r = number_of(movmf::movmf_with(
         c.leaves.weights,
         c.leaves.coords,
-        c.d,
+        c.leaves.d,
         c.k,
         settings(c.rounds),
         &mut o.labels[..i1],
@@ -188,7 +184,7 @@ pub(crate) fn choice_holds(c: Call) -> bool {
     let r = auto::movmf_auto_with(
         c.leaves.weights,
         c.leaves.coords,
-        c.d,
+        c.leaves.d,
         c.k_min,
         c.k,
         settings(c.rounds),
@@ -211,12 +207,11 @@ pub(crate) fn holds<F: FnOnce(Call) -> bool>(line: &[u64], test: F) -> bool
 {
     let mut weights = [0.0; 4097];
     let mut coords = [0.0; 4097];
-    let m = lists::load(&mut weights, line, 9);
     let at = lists::after(line, 9);
-    let n = lists::load(&mut coords, line, at);
     let leaves = Leaves {
-        weights: &weights[..m],
-        coords: &coords[..n],
+        weights: lists::load(&mut weights, line, 9),
+        coords: lists::load(&mut coords, line, at),
+        d: word(line, 4) as usize,
     };
     test(call_of(line, leaves, lists::after(line, at)))
 }

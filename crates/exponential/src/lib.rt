@@ -139,9 +139,8 @@ fn step(t: Term, j: f64) -> Term
     ensures { result ≡ stepped j t }
 {
     Term {
-        r: t.r,
         p: 1.0 + (t.r * t.p) / j,
-        w: t.w,
+        ..t
     }
 }
 

@@ -78,8 +78,7 @@ pub struct Digits {
     pub e: u64,
 }
 
-// A positive x as m * 2^e * 2^-1126, where m has 53 binary digits. The loop counts nothing: a subnormal number is
-// doubled until it has as many.
+// A positive x as m * 2^e * 2^-1126, where m has 53 binary digits. Those of a subnormal number are moved up n places.
 pub fn split(x: f64) -> Digits
     requires { T (positive x) }
     ensures { SplitOf x result.m result.e }
@@ -88,13 +87,11 @@ pub fn split(x: f64) -> Digits
     let f = b / 4503599627370496;
     let t = b % 4503599627370496;
     if f == 0 {
-        let mut m = t;
-        let mut e: u64 = 52;
-        while m < 4503599627370496 {
-            m = m * 2;
-            e = e - 1;
+        let n = t.leading_zeros() - 11;
+        Digits {
+            m: t << n,
+            e: 52 - n as u64,
         }
-        Digits { m, e }
     } else {
         Digits {
             m: t + 4503599627370496,

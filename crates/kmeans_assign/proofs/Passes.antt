@@ -13,7 +13,7 @@ use lib.Ieee.{Float}
 use Rattle.std.specs.Prelude.{Option, None, Some}
 use Rattle.counts.specs.Counts.{AtMost, of_round}
 use Rattle.kmeans_bounds.specs.Shifts.{skips, slowest_of}
-use Rattle.kmeans_bounds.specs.declared.Slowest.{Slowest}
+use Rattle.pick.specs.declared.Best.{Best}
 use Rattle.kmeans_layout.specs.State.{State}
 use Rattle.kmeans_layout.specs.declared.Area.{Area}
 use Rattle.kmeans_assign.specs.Pass.{Pass, bounds_at, put_bounds, put_label, shift_up_to, shifted_for, best_of}
@@ -54,7 +54,7 @@ module _ (a : Area) (s : State) (it n : ℕ) (x : State) (p : Passed)
       record { made = omega (arith, sum, most, few, h); saved = omega (arith, sum, most, few, h) }
 
 -- ---- neither the shift nor the pass moves a centre
-shift_centers : (k : ℕ) (t : Slowest) (s : State) (n : ℕ) → (shift_up_to k t s n).centers ≡ s.centers
+shift_centers : (k : ℕ) (t : Best) (s : State) (n : ℕ) → (shift_up_to k t s n).centers ≡ s.centers
 unfolding shift_up_to put_bounds
 shift_centers k t s zero = refl
 shift_centers k t s (suc n) = shift_centers k t s n

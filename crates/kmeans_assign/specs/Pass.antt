@@ -11,8 +11,7 @@ use Rattle.counts.specs.Counts.{no_counts}
 use Rattle.kmeans_bounds.specs.Shifts.{shifted_bounds, skips, slowest_of, other_than}
 use Rattle.kmeans_nearest.specs.Nearest.{best_to}
 use Rattle.kmeans_bounds.specs.declared.Bounds.{Bounds}
-use Rattle.kmeans_bounds.specs.declared.Slowest.{Slowest}
-use Rattle.kmeans_nearest.specs.declared.Best.{Best}
+use Rattle.pick.specs.declared.Best.{Best}
 use Rattle.kmeans_layout.specs.State.{State}
 
 -- ---- a leaf's bounds and label in the state
@@ -59,7 +58,7 @@ abbrev pub more_saved : ℕ → Counts → Counts
 more_saved n c = record { made = c.made; saved = c.saved + n }
 
 -- ---- the shift: the bounds of the first n leaves, by how far the centres turned
-module _ (k : ℕ) (t : Slowest) where
+module _ (k : ℕ) (t : Best) where
   abbrev pub shift_leaf : ℕ → State → State
   shift_leaf i s =
       let label = get_or s.labels i 0 in
@@ -81,8 +80,8 @@ bounds_by k b o =
     cond (lt plus_zero o.scale)
     (record {
       scale = o.scale;
-      low = div binary64 b.dot o.scale;
-      high = cond (ltb 1 k) (div binary64 b.second o.scale) (inf true);
+      low = div binary64 b.value o.scale;
+      high = cond (ltb 1 k) (div binary64 b.next o.scale) (inf true);
     })
     o
 
@@ -90,7 +89,7 @@ abbrev pub best_of : (coords : List Float) (k d : ℕ) → State → ℕ → Bes
 best_of coords k d s i = best_to (row_of coords d i) s.centers d (k - 1)
 
 abbrev pub put_best : (k i : ℕ) → Best → State → State
-put_best k i b s = put_bounds i (bounds_by k b (bounds_at s i)) (put_label i b.dot b.index s)
+put_best k i b s = put_bounds i (bounds_by k b (bounds_at s i)) (put_label i b.value b.index s)
 
 module _ (coords : List Float) (k d it : ℕ) where
   -- leaf i in a pass of round `it`: skipped, or given its best centre

@@ -1,24 +1,31 @@
 -- What a leaf's turn in a pass does and how it is counted, as the functions of the pass promise it. No definition of
 -- document 01 stands on this file.
 use Rattle.std.specs.Prelude.{◌≡◌, List, Bool, true, not, ◌||◌, cond, Option, None, Some, ℕ, get_or, Float, eqb, ltb}
+use Rattle.std.specs.Float.{nan}
 use Rattle.std.specs.Float.Ieee.{lt}
 use Rattle.float.specs.Arithmetic.{plus_zero}
 use Rattle.kmeans_bounds.specs.declared.Bounds.{Bounds}
-use Rattle.kmeans_bounds.specs.Shifts.{skips}
+use Rattle.kmeans_bounds.specs.declared.Turned.{Turned}
+use Rattle.pick.specs.declared.Best.{Best}
+use Rattle.kmeans_bounds.specs.Shifts.{skips, slowest_of, other_than}
 use Rattle.kmeans_bounds.specs.Products.{NeverSkipped}
 use Rattle.kmeans_layout.specs.State.{State}
 use Rattle.kmeans_layout.specs.declared.Area.{Area}
 use Rattle.kmeans_layout.specs.Areas.{state_of}
 use Rattle.counts.specs.Counts.{AtMost, of_round}
-use Rattle.kmeans_bounds.specs.Shifts.{slowest_of}
-use Rattle.kmeans_assign.specs.Pass.{Pass, bounds_at, best_of, put_best, more_made, more_saved, pass_up_to, shift_up_to}
+use Rattle.kmeans_assign.specs.Pass.{Pass, bounds_at, best_of, put_best, more_made, more_saved, shift_leaf, shift_up_to}
 use Rattle.kmeans_assign.specs.declared.Passed.{Passed}
 
+-- how far leaf i's centre turned, and the others at most, by the two smallest drifts
+abbrev pub turns_of : (k : ℕ) → Best → ℕ → State → Turned
+turns_of k t i s =
+    let label = get_or s.labels i 0 in
+    record { own = get_or s.drift label nan; other = cond (ltb 1 k) (Some (other_than t label)) None }
+
 -- a leaf that no pass skips once its bounds are shifted, and whose new bounds come from its dots alone
-pub record Spent (k : ℕ) (own other : Float) (b : Bounds) : Type 0 where
-  pub several : ltb 1 k ≡ true
+pub record Spent (t : Turned) (b : Bounds) : Type 0 where
   pub scaled : lt plus_zero b.scale ≡ true
-  pub stays : NeverSkipped own other b
+  pub stays : NeverSkipped t b
 
 -- leaf i given its best centre, whether that is another one than before
 pub record LeafPlaced (coords : List Float) (k d i : ℕ) (s s' : State) (changed : Bool) : Type 0 where
@@ -45,11 +52,15 @@ pub record PassDone (p : Pass) (a : Area) (answer : Passed) : Type 0 where
   pub answer_is : passed (state_of a) answer ≡ p
   pub small : AtMost of_round answer.counts
 
--- over the bounds as they are, and over those shifted by the drifts
-abbrev pub passed_by : Area → ℕ → Pass
-passed_by a it = pass_up_to a.leaves.coords.now a.shape.k a.shape.d it (state_of a) a.shape.m
+-- the two smallest drifts, by which a round shifts the bounds; none in the first, before which no centre turned
+abbrev pub drifts_of : ℕ → List Float → Option Best
+drifts_of it drift = cond (ltb 0 it) (Some (slowest_of drift)) None
 
-abbrev pub fused_by : Area → ℕ → Pass
-fused_by a it =
-    let s = shift_up_to a.shape.k (slowest_of a.drift.now) (state_of a) a.shape.m in
-    pass_up_to a.leaves.coords.now a.shape.k a.shape.d it s a.shape.m
+-- leaf i, and the first n leaves, shifted by the drifts; where there are none, the state as it is
+abbrev pub shift_one : ℕ → Option Best → ℕ → State → State
+shift_one k None i s = s
+shift_one k (Some t) i s = shift_leaf k t i s
+
+abbrev pub shift_by : ℕ → Option Best → State → ℕ → State
+shift_by k None s n = s
+shift_by k (Some t) s n = shift_up_to k t s n

@@ -4,13 +4,17 @@
 
 ghost use Rattle.std.specs.Prelude.{◌≡◌, true, not, ◌<◌, ◌≤◌, eqb, get_or};
 ghost use Rattle.counts.specs.Counts.{AtMost, of_round};
-ghost use Rattle.kmeans_bounds.specs.Shifts.{other_than, slowest_of};
+ghost use Rattle.kmeans_bounds.specs.Shifts.{other_than};
 ghost use Rattle.kmeans_layout.specs.Areas.{state_of, Same};
 ghost use Rattle.kmeans_assign.specs.Pass.{bounds_at, put_bounds, put_label, shift_leaf, bounds_by, best_of, pass_of};
-ghost use Rattle.kmeans_assign.specs.Turns.{Spent, LeafPlaced, LeafPassed, tallied, PassDone, passed_by, fused_by};
+ghost use Rattle.kmeans_assign.specs.Turns.{Spent, LeafPlaced, LeafPassed, tallied, PassDone};
+ghost use Rattle.kmeans_assign.specs.Turns.{turns_of, drifts_of, shift_one};
 
-use kmeans_bounds::Bounds;
+use counts::Counts;
+use kmeans_bounds::{Bounds, Turned};
 use kmeans_layout::Area;
+use kmeans_nearest::Centers;
+use pick::Best;
 
 // ---- the bounds of a leaf
 
@@ -38,42 +42,42 @@ fn put_bounds(area: &mut Area, i: usize, b: Bounds)
 }
 
 // The smallest drift of the centres other than the leaf's own.
-fn other_drift(t: kmeans_bounds::Slowest, label: usize) -> f64
+fn other_drift(t: Best, label: usize) -> f64
     ensures { result ≡ other_than t label }
 {
-    if t.at == label { t.next } else { t.least }
+    if t.index == label { t.next } else { t.value }
+}
+
+// How far leaf i's centre turned, and the others at most, by the two smallest drifts.
+fn turns(area: &Area, t: Best, i: usize) -> Turned
+    requires { i < area.now.shape.m }
+    ensures { result ≡ turns_of area.now.shape.k t i (state_of area.now) }
+{
+    let label = area.labels[i] as usize;
+    Turned {
+        own: area.drift[label],
+        other: (area.shape.k > 1).then(|| other_drift(t, label)),
+    }
 }
 
 // Whether the leaf is given new bounds from its dots however its own are shifted.
-fn is_spent(b: Bounds, own: f64, other: f64, k: usize) -> bool
-    ensures { result ≡ true → Spent k own other b }
+fn is_spent(b: Bounds, turns: Turned) -> bool
+    ensures { result ≡ true → Spent turns b }
 {
-    if k > 1 {
-        if b.scale > 0.0 {
-            return !kmeans_bounds::may_skip(b, own, other);
-        }
-    }
-    false
+    b.scale > 0.0 && !b.may_skip(turns)
 }
 
 // ---- the pass
 
 // The bounds of a leaf from its best and its second best dot.
-fn bounds_by(b: kmeans_nearest::Best, o: Bounds, k: usize) -> Bounds
+fn bounds_by(b: Best, o: Bounds, k: usize) -> Bounds
     ensures { result ≡ bounds_by k b o }
 {
     if o.scale > 0.0 {
-        if k > 1 {
-            return Bounds {
-                scale: o.scale,
-                low: b.dot / o.scale,
-                high: b.second / o.scale,
-            };
-        }
         return Bounds {
-            scale: o.scale,
-            low: b.dot / o.scale,
-            high: -1.0 / 0.0,
+            low: b.value / o.scale,
+            high: if k > 1 { b.next / o.scale } else { -1.0 / 0.0 },
+            ..o
         };
     }
     o
@@ -96,19 +100,17 @@ fn put_label(area: &mut Area, i: usize, v: f64, c: usize) -> bool
 
 // The best centre of leaf i, which is one of the k.
 #[tactic(auto, using(kmeans_nearest::proofs::Nearest::best_below))]
-fn best_of(area: &Area, i: usize) -> kmeans_nearest::Best
+fn best_of(area: &Area, i: usize) -> Best
     requires { i < area.now.shape.m }
     ensures best { result ≡ best_of area.now.leaves.coords.now area.now.shape.k area.now.shape.d (state_of area.now) i }
     ensures below { result.index < area.now.shape.k }
 {
-    let d = area.shape.d;
-    let at = i * d;
-    kmeans_nearest::best_of(
-        &area.leaves.coords[at..at + d],
-        area.centers,
-        area.shape.k,
-        d,
-    )
+    let centers = Centers {
+        rows: area.centers,
+        k: area.shape.k,
+        d: area.shape.d,
+    };
+    centers.best_of(area.leaf(i))
 }
 
 // Leaf i is given its best centre; whether its label changes.
@@ -120,7 +122,7 @@ fn place_leaf(area: &mut Area, i: usize) -> bool
 {
     let b = best_of(area, i);
     let n = bounds_by(b, bounds_at(area, i), area.shape.k);
-    let changed = put_label(area, i, b.dot, b.index);
+    let changed = put_label(area, i, b.value, b.index);
     put_bounds(area, i, n);
     changed
 }
@@ -133,7 +135,7 @@ fn assign_leaf(area: &mut Area, it: usize, i: usize) -> Option<bool>
         (state_of area.new) result }
 {
     let b = bounds_at(area, i);
-    if kmeans_bounds::is_skipped(b, it) {
+    if b.is_skipped(it) {
         return None;
     }
     Some(place_leaf(area, i))
@@ -141,21 +143,18 @@ fn assign_leaf(area: &mut Area, it: usize, i: usize) -> Option<bool>
 
 // Leaf i in a pass after the first round: its bounds are shifted by how far the centres turned, unless it gets new ones
 // anyway.
-fn turn_leaf(area: &mut Area, t: kmeans_bounds::Slowest, it: usize, i: usize) -> Option<bool>
+fn turn_leaf(area: &mut Area, t: Best, it: usize, i: usize) -> Option<bool>
     requires { i < area.old.shape.m }
     ensures same { Same area.old area.new }
     ensures passed { LeafPassed area.old.leaves.coords.now area.old.shape.k area.old.shape.d it i
         (shift_leaf area.old.shape.k t i (state_of area.old)) (state_of area.new) result }
 {
-    let k = area.shape.k;
-    let label = area.labels[i] as usize;
-    let own = area.drift[label];
-    let other = other_drift(t, label);
+    let turns = turns(area, t, i);
     let b = bounds_at(area, i);
-    if is_spent(b, own, other, k) {
+    if is_spent(b, turns) {
         return Some(place_leaf(area, i));
     }
-    put_bounds(area, i, kmeans_bounds::shifted(b, own, other, k > 1));
+    put_bounds(area, i, b.shifted(turns));
     assign_leaf(area, it, i)
 }
 
@@ -164,7 +163,7 @@ fn turn_leaf(area: &mut Area, t: kmeans_bounds::Slowest, it: usize, i: usize) ->
 #[derive(Clone, Copy)]
 pub struct Passed {
     pub changed: bool,
-    pub counts: counts::Counts,
+    pub counts: Counts,
 }
 
 // With one leaf more.
@@ -176,72 +175,57 @@ fn tally(p: Passed, turn: Option<bool>, k: usize) -> Passed
     let n = k as u64;
     match turn {
         None => Passed {
-            changed: p.changed,
-            counts: counts::Counts {
-                made: c.made,
+            counts: Counts {
                 saved: c.saved + n,
+                ..c
             },
+            ..p
         },
         Some(changed) => Passed {
             changed: p.changed | changed,
-            counts: counts::Counts {
+            counts: Counts {
                 made: c.made + n,
-                saved: c.saved,
+                ..c
             },
         },
     }
 }
 
-// The pass of round `it` over the bounds as they are.
-#[tactic(auto, using(crate::proofs::Passes::pass_turn), unfolding(crate::specs::Pass::pass_up_to))]
-fn assign(area: &mut Area, it: usize) -> Passed
+// The two smallest drifts; none in the first round, before which no centre turned.
+fn drifts(area: &Area, it: usize) -> Option<Best>
+    ensures { result ≡ drifts_of it area.now.drift.now }
+{
+    (it > 0).then(|| kmeans_bounds::two_smallest(area.drift))
+}
+
+// Leaf i in the pass of round `it`; where there are drifts, with the shift of its bounds.
+fn leaf_turn(area: &mut Area, drifts: Option<Best>, it: usize, i: usize) -> Option<bool>
+    requires { i < area.old.shape.m }
     ensures same { Same area.old area.new }
-    ensures done { PassDone (passed_by area.old it) area.new result }
+    ensures passed { LeafPassed area.old.leaves.coords.now area.old.shape.k area.old.shape.d it i
+        (shift_one area.old.shape.k drifts i (state_of area.old)) (state_of area.new) result }
 {
-    let mut p = Passed {
-        changed: false,
-        counts: counts::none(),
-    };
-    for i in 0..area.shape.m {
-        let turn = assign_leaf(area, it, i);
-        p = tally(p, turn, area.shape.k);
+    match drifts {
+        Some(t) => turn_leaf(area, t, it, i),
+        None => assign_leaf(area, it, i),
     }
-    p
 }
 
-// The two smallest drifts.
-fn slowest(area: &Area) -> kmeans_bounds::Slowest
-    ensures { result ≡ slowest_of area.now.drift.now }
-{
-    kmeans_bounds::two_smallest(area.drift)
-}
-
-// The pass of round `it` after the first, with the shift of the bounds, leaf by leaf.
-#[tactic(auto, unfolding(crate::specs::Pass::pass_up_to, crate::specs::Pass::shift_up_to))]
-fn shift_and_assign(area: &mut Area, it: usize) -> Passed
-    ensures same { Same area.old area.new }
-    ensures done { PassDone (fused_by area.old it) area.new result }
-{
-    let t = slowest(area);
-    let mut p = Passed {
-        changed: false,
-        counts: counts::none(),
-    };
-    for i in 0..area.shape.m {
-        let turn = turn_leaf(area, t, it, i);
-        p = tally(p, turn, area.shape.k);
-    }
-    p
-}
-
-// The pass, after the first round with the shift.
+// The pass of round `it`, after the first with the shift of the bounds, leaf by leaf.
+#[tactic(auto, using(crate::proofs::Fused::none_shifted), unfolding(crate::specs::Pass::pass_up_to))]
 pub fn pass(area: &mut Area, it: usize) -> Passed
     ensures same { Same area.old area.new }
     ensures done { PassDone (pass_of area.old.leaves.coords.now area.old.shape.m area.old.shape.k area.old.shape.d it
         (state_of area.old)) area.new result }
 {
-    if it > 0 {
-        return shift_and_assign(area, it);
+    let drifts = drifts(area, it);
+    let mut p = Passed {
+        changed: false,
+        counts: Counts::default(),
+    };
+    for i in 0..area.shape.m {
+        let turn = leaf_turn(area, drifts, it, i);
+        p = tally(p, turn, area.shape.k);
     }
-    assign(area, it)
+    p
 }

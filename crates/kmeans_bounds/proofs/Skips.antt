@@ -5,6 +5,7 @@ use mathlib.Core.Path.{◌≡◌, refl, sym, ap₂, subst}
 use mathlib.Core.Logic.{◌⊎◌, inl, inr, ⊎_elim}
 use mathlib.Core.Bool.{Bool, true, false, not, ◌&&◌, ◌||◌, cond, true≢false}
 use Prim.Native.Nat.{ℕ}
+use Rattle.std.specs.Prelude.{Some}
 use lib.Dec.{T, not_T, ltb}
 use lib.Ieee.{Float, binary64, add, sub, mul, div, neg, lt, le, is_nan, fits}
 use lib.Ieee.Bits.{is_false}
@@ -22,6 +23,7 @@ use Rattle.float.proofs.Tests.{of_true}
 use Rattle.kmeans_bounds.specs.Products.{reaches_of, half, foot_of, close_of, may_skip, NeverSkipped}
 use Rattle.kmeans_bounds.specs.Shifts.{cosine, squares_of, sines_of, shift_lower, shift_upper, shifted_bounds, slack, skips}
 use Rattle.kmeans_bounds.specs.declared.Bounds.{Bounds}
+use Rattle.kmeans_bounds.specs.declared.Turned.{Turned}
 use Rattle.kmeans_bounds.proofs.Turns.{lower_within, upper_within, neither}
 
 -- the product of two cosines
@@ -163,15 +165,16 @@ tested false true k e = absurd (true≢false e)
 tested false false k e = inr (refl, not-false k e)
 
 -- a leaf that may_skip turns down is not skipped, in no round
-pub no_skip : (b : Bounds) (own other : Float) → may_skip own other b ≡ false → NeverSkipped own other b
-no_skip b own other e it =
+pub no_skip : (b : Bounds) (t : Turned) (other : Float) → t.other ≡ Some other → may_skip t.own other b ≡ false → NeverSkipped t b
+no_skip b t other o e it =
+    let own = t.own in
     let l = b.low in
     let u = b.high in
-    let t = lt (sub binary64 (turned l own) (turned u other)) slack in
+    let d = lt (sub binary64 (turned l own) (turned u other)) slack in
     let g = lt (cosine l) (neg (cosine own)) || le (cosine other) (cosine u) in
     let k = close_of (turned l own) (turned u other) (squares_of (cosine l) (cosine own)) (squares_of (cosine u) (cosine other)) in
-    cannot_skip it b own other
-    (⊎_elim (λ h. apart slack l own u other (of_true t h))
+    rw o (cannot_skip it b own other
+    (⊎_elim (λ h. apart slack l own u other (of_true d h))
     (λ h. let n = neither (lt (cosine l) (neg (cosine own))) (le (cosine other) (cosine u)) h.0 in
     close_apart l own u other n.0 n.1 (of_true k h.1))
-    (tested t g k e))
+    (tested d g k e)))

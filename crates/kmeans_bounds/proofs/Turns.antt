@@ -8,22 +8,13 @@ use native.Mathlib.Numerals.{add-one}
 use lib.ListN.{length, get_or, drop}
 use lib.Seq.{drop-cons}
 use lib.Ieee.{Float, nan, binary64, add, sub, mul, neg, lt, le}
-use Rattle.float.specs.Arithmetic.{number}
 use Rattle.kmeans_bounds.specs.Shifts.{cosine, sines_of, shift_lower, shift_upper, slower_of, slowest_from}
-use Rattle.kmeans_bounds.specs.declared.Slowest.{Slowest}
+use Rattle.pick.specs.declared.Best.{Best}
 
 module _ (x p a b : Float) (held : a ≡ cosine x) (turned : b ≡ cosine p) where
-  pub lower_past : lt a (neg b) ≡ true → neg (number 1) ≡ shift_lower x p
-  unfolding shift_lower
-  lower_past t = rw (← held, ← turned, t)
-
   pub lower_within : (s : Float) → s ≡ sines_of a b → lt a (neg b) ≡ false → sub binary64 (mul binary64 a b) s ≡ shift_lower x p
   unfolding shift_lower
   lower_within s e t = rw (← held, ← turned, t, e)
-
-  pub upper_past : le b a ≡ true → number 1 ≡ shift_upper x p
-  unfolding shift_upper
-  upper_past t = rw (← held, ← turned, t)
 
   pub upper_within : (s : Float) → s ≡ sines_of a b → le b a ≡ false → add binary64 (mul binary64 a b) s ≡ shift_upper x p
   unfolding shift_upper
@@ -34,7 +25,7 @@ neither true q e = absurd (true≢false e)
 neither false q e = (refl, e)
 
 -- the drift of centre c, after those before it
-pub slowest_turn : (drift : List Float) (c : ℕ) (s s' : Slowest) → c < length drift → s' ≡ slower_of s c (get_or drift c nan)
-    → slowest_from s' (c + 1) (drop (c + 1) drift) ≡ slowest_from s c (drop c drift)
+pub slowest_turn : (drift : List Float) (c : ℕ) (b b' : Best) → c < length drift → b' ≡ slower_of b c (get_or drift c nan)
+    → slowest_from b' (c + 1) (drop (c + 1) drift) ≡ slowest_from b c (drop c drift)
 unfolding slowest_from
-slowest_turn drift c s s' h e = rw (e, add-one, drop-cons drift c nan)
+slowest_turn drift c b b' h e = rw (e, add-one, drop-cons drift c nan)

@@ -4,8 +4,10 @@ use Rattle.std.specs.Prelude.{◌≡◌, Bool, true, false, not, ◌&&◌, ◌||
 use Rattle.std.specs.Float.{binary64}
 use Rattle.std.specs.Float.Ieee.{add, sub, mul, div, neg, lt, le}
 use Rattle.float.specs.Arithmetic.{f64, plus_zero, clamp_of}
-use Rattle.kmeans_bounds.specs.Shifts.{cosine, squares_of, shifted_bounds, slack, skips}
+use Rattle.kmeans_bounds.specs.Shifts.{cosine, squares_of, shifted_by, slack, skips}
 use Rattle.kmeans_bounds.specs.declared.Bounds.{Bounds}
+use Rattle.kmeans_bounds.specs.declared.Cosines.{Cosines}
+use Rattle.kmeans_bounds.specs.declared.Turned.{Turned}
 
 -- c is not above zero, or its square is below a, and so c is at most the root of a
 abbrev pub reaches_of : Float → Float → Bool
@@ -28,6 +30,15 @@ close_of x y a e =
     let d = sub binary64 x y in
     close_by x y a e (foot_of d a e) (sub binary64 d (foot_of d a e))
 
+-- the bounds and the turns held to [−1, 1]
+abbrev pub cosines_of : Float → Float → Bounds → Cosines
+cosines_of own other b =
+    record { low = cosine b.low; own = cosine own; high = cosine b.high; other = cosine other }
+
+-- whether one of the shifts needs no root
+abbrev pub root_left_out : Cosines → Bool
+root_left_out c = lt c.low (neg c.own) || le c.other c.high
+
 -- of the cosines l, u of the bounds and p, q of the turns
 abbrev pub may_skip_by : Float → Float → Float → Float → Bool
 may_skip_by l p u q =
@@ -40,5 +51,5 @@ abbrev pub may_skip : Float → Float → Bounds → Bool
 may_skip own other b = may_skip_by (cosine b.low) (cosine own) (cosine b.high) (cosine other)
 
 -- the leaf with these bounds is skipped in no round once they are shifted
-abbrev pub NeverSkipped : Float → Float → Bounds → Type 0
-NeverSkipped own other b = (it : ℕ) → skips it (shifted_bounds true own other b) ≡ false
+abbrev pub NeverSkipped : Turned → Bounds → Type 0
+NeverSkipped t b = (it : ℕ) → skips it (shifted_by t b) ≡ false

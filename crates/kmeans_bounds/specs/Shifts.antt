@@ -1,12 +1,14 @@
 -- Document 01, 'Spherical k-means': the bounds of a leaf, their shifts (Schubert, Lang and Feher), the two smallest
 -- drifts and the skip. Definitions only.
-use Rattle.std.specs.Prelude.{List, [], ◌∷◌, Bool, false, ◌&&◌, cond, ℕ, suc, eqb, ltb, Float}
+use Rattle.std.specs.Prelude.{List, [], ◌∷◌, Bool, true, false, ◌&&◌, cond, Option, None, Some, ℕ, suc, eqb, ltb, Float}
 use Rattle.std.specs.Float.{inf, binary64}
 use Rattle.std.specs.Float.Ieee.{add, sub, mul, neg, lt, le}
 use Rattle.float.specs.Arithmetic.{f64, number, plus_zero, max_of, clamp_of}
 use Rattle.root.specs.Root.{root_of}
 use Rattle.kmeans_bounds.specs.declared.Bounds.{Bounds}
-use Rattle.kmeans_bounds.specs.declared.Slowest.{Slowest}
+use Rattle.kmeans_bounds.specs.declared.Turned.{Turned}
+use Rattle.pick.specs.Places.{best_with}
+use Rattle.pick.specs.declared.Best.{Best}
 
 -- held to [−1, 1]
 abbrev pub cosine : Float → Float
@@ -38,22 +40,20 @@ shift_upper u p = upper_by (cosine u) (cosine p)
 
 -- The two smallest drifts: the place of the smallest, it, and the next, from +infinity; of equals the first is the
 -- smallest. With drift p of centre c:
-abbrev pub slower_of : Slowest → ℕ → Float → Slowest
-slower_of s c p =
-    cond (lt p s.least) (record { at = c; least = p; next = s.least })
-    (cond (lt p s.next) (record { at = s.at; least = s.least; next = p }) s)
+abbrev pub slower_of : Best → ℕ → Float → Best
+slower_of b c p = best_with lt b c p
 
--- s, then the drifts of the centres from c on
-unfoldable pub slowest_from : Slowest → ℕ → List Float → Slowest
-slowest_from s c [] = s
-slowest_from s c (p ∷ ps) = slowest_from (slower_of s c p) (suc c) ps
+-- b, then the drifts of the centres from c on
+unfoldable pub slowest_from : Best → ℕ → List Float → Best
+slowest_from b c [] = b
+slowest_from b c (p ∷ ps) = slowest_from (slower_of b c p) (suc c) ps
 
-abbrev pub slowest_of : List Float → Slowest
-slowest_of drift = slowest_from (record { at = 0; least = inf false; next = inf false }) 0 drift
+abbrev pub slowest_of : List Float → Best
+slowest_of drift = slowest_from (record { index = 0; value = inf false; next = inf false }) 0 drift
 
 -- the smallest drift of the centres other than this one
-abbrev pub other_than : Slowest → ℕ → Float
-other_than s label = cond (eqb s.at label) s.next s.least
+abbrev pub other_than : Best → ℕ → Float
+other_than b label = cond (eqb b.index label) b.next b.value
 
 -- A leaf's bounds after its own centre turned by `own` and the others by `other` at most. With one group there is no
 -- other, and the upper bound stays.
@@ -64,6 +64,14 @@ shifted_bounds several own other b =
       low = shift_lower b.low own;
       high = cond several (shift_upper b.high other) b.high;
     }
+
+-- by turns, which have no other with one group
+abbrev pub shifted_if : Float → Option Float → Bounds → Bounds
+shifted_if own None b = shifted_bounds false own own b
+shifted_if own (Some other) b = shifted_bounds true own other b
+
+abbrev pub shifted_by : Turned → Bounds → Bounds
+shifted_by t b = shifted_if t.own t.other b
 
 -- 1e-12
 abbrev pub slack : Float

@@ -1,8 +1,9 @@
 // The work area of a run of spherical k-means (document 01, 'Spherical k-means'): its sizes and leaves, and the parts
-// of the lent arrays that it works in; how long it is; and which of two runs is held.
+// of the lent arrays that it works in; how long it is; and when a run replaces the held one.
 #![tactic(auto)]
 
-ghost use Rattle.std.specs.Prelude.{◌≡◌, not, ◌≤◌, length};
+ghost use Rattle.std.specs.Prelude.{◌≡◌, not, ◌<◌, ◌≤◌, length};
+ghost use Rattle.rows.specs.Rows.{row_of};
 ghost use Rattle.counts.specs.Counts.{AtMost, of_call, plus_of};
 ghost use Rattle.kmeans_layout.specs.Sized.{Fit, Sized, Labelled, total, work_u32_total, half};
 ghost use Rattle.kmeans_layout.specs.Kept.{kept_of};
@@ -10,10 +11,21 @@ ghost use Rattle.std.specs.Float.Ieee.{le};
 
 use limits::{Leaves, Shape};
 
+// ---- what is given
+
+// The sizes of a run and its leaves, which have them.
+#[derive(Clone, Copy)]
+pub struct Problem<'a> {
+    pub shape: Shape,
+    pub leaves: Leaves<'a>,
+    ghost fit: { Fit shape.m shape.d leaves.weights.now leaves.coords.now },
+}
+
 // ---- the area
 
-// The sizes and the leaves of a run, and what it holds: centres and sums row by row; of each leaf its scale, its
-// bounds, how well it is served and its label; of each centre its drift and how many leaves it has.
+// The leaves of a run and its sizes, which are the leaves' with k; and what it holds: centres and sums row by row; of
+// each leaf its scale, its bounds, how well it is served and its label; of each centre its drift and how many leaves it
+// has.
 #[derive(Drop)]
 pub struct Area<'a> {
     pub shape: Shape,
@@ -35,17 +47,12 @@ pub struct Area<'a> {
 
 impl<'a> Area<'a> {
     // An area in the two lent arrays; every label is 0.
-    pub fn of(
-        shape: Shape,
-        leaves: Leaves<'a>,
-        work: &'a mut [f64],
-        work_u32: &'a mut [u32],
-    ) -> Area<'a>
-        requires fit { Fit shape.m shape.d leaves.weights.now leaves.coords.now }
-        requires room { (total shape.m shape.k shape.d ≤ length work.old)
-            × (work_u32_total shape.m shape.k ≤ length work_u32.old) }
-        ensures { (result.shape ≡ shape) × (result.leaves ≡ leaves.entry) }
+    pub fn of(problem: Problem<'a>, work: &'a mut [f64], work_u32: &'a mut [u32]) -> Area<'a>
+        requires { let z = problem.shape in
+            (total z.m z.k z.d ≤ length work.old) × (work_u32_total z.m z.k ≤ length work_u32.old) }
+        ensures { (result.shape ≡ problem.entry.shape) × (result.leaves ≡ problem.entry.leaves) }
     {
+        let shape = problem.shape;
         let kd = shape.k * shape.d;
         let (centers, rest) = work.split_at_mut(kd);
         let (sums, rest) = rest.split_at_mut(kd);
@@ -59,7 +66,7 @@ impl<'a> Area<'a> {
         rows::fill(labels, 0);
         Area {
             shape,
-            leaves,
+            leaves: problem.leaves,
             centers,
             sums,
             scale,
@@ -70,6 +77,33 @@ impl<'a> Area<'a> {
             labels,
             counts,
         }
+    }
+
+    // Leaf i's coordinates. They outlive the area, so that it may be written while they are held.
+    #[tactic(auto, using(rows::proofs::Rows::row_within))]
+    pub fn leaf(&self, i: usize) -> &'a [f64]
+        requires { i < self.now.shape.m }
+        ensures { result.now ≡ row_of self.now.leaves.coords.now self.now.shape.d i }
+    {
+        rows::row(self.leaves.coords, self.shape.d, i)
+    }
+
+    // Centre c.
+    #[tactic(auto, using(rows::proofs::Rows::row_within))]
+    pub fn center(&self, c: usize) -> &[f64]
+        requires { c < self.now.shape.k }
+        ensures { result.now ≡ row_of self.now.centers.now self.now.shape.d c }
+    {
+        rows::row(self.centers, self.shape.d, c)
+    }
+
+    // The sum of group c.
+    #[tactic(auto, using(rows::proofs::Rows::row_within))]
+    pub fn sum(&self, c: usize) -> &[f64]
+        requires { c < self.now.shape.k }
+        ensures { result.now ≡ row_of self.now.sums.now self.now.shape.d c }
+    {
+        rows::row(self.sums, self.shape.d, c)
     }
 }
 
@@ -116,13 +150,10 @@ impl Held {
           counts = plus_of self.counts more;
         } }
     {
-        let counts = counts::plus(self.counts, more);
+        let counts = self.counts + more;
         if self.gives_way(value) {
             return Held { value, counts };
         }
-        Held {
-            value: self.value,
-            counts,
-        }
+        Held { counts, ..self }
     }
 }

@@ -3,3 +3,4 @@ pub mod Rounds
 pub mod Tallies
 pub mod Runs
 pub mod Doubled
+pub mod Arrays

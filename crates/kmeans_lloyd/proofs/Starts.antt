@@ -1,15 +1,15 @@
 -- Laws of the scales, over plain lists: they are written place by place, by blocks and singly. Assumes nothing.
 use mathlib.Core.Path.{◌≡◌, refl, ap, sym, ◌∙◌}
 use mathlib.Core.List.{List, [], ◌∷◌, ◌++◌}
-use Prim.Native.Nat.{ℕ, zero, suc, ◌+◌, ◌*◌, ◌-◌, ◌≤◌, ◌<◌}
+use Prim.Native.Nat.{ℕ, zero, suc, ◌+◌, ◌≤◌, ◌<◌}
 use native.Mathlib.Numerals.{add-one}
 use native.Mathlib.Omega.{arith}
-use lib.ListN.{length, take, drop, set, take-append-drop, length-append, length-drop}
+use lib.ListN.{length, drop, set, take-append-drop, length-append, length-drop}
 use lib.Ieee.{Float, nan}
 use Rattle.rows.specs.Rows.{put_part, row_of}
 use Rattle.vector.specs.Vectors.{norm_of}
 use Rattle.rows.specs.Tabulate.{tabulate}
-use Rattle.rows.proofs.Rows.{row_cut, put_more}
+use Rattle.rows.proofs.Rows.{put_more}
 use Rattle.rows.proofs.Tabulate.{tabulate_length}
 use Rattle.rows.proofs.Fills.{front_turn}
 use Rattle.kmeans_sums.specs.Sums.{norms_up_to}
@@ -30,18 +30,14 @@ module _ (coords : List Float) (d m : ℕ) (l : List Float) (long : length l ≡
   normed_length : (i : ℕ) → i ≤ m → length (normed i) ≡ m
   normed_length i h = length-append (norms_up_to coords d i) (drop i l) ∙ omega (arith, norms_length coords d i, length-drop i l)
 
-  norms_next : (i : ℕ) (v : Float) → i < m → v ≡ norm_of (row_of coords d i) → set (normed i) i v ≡ normed (i + 1)
+  pub norms_next : (i : ℕ) (v : Float) → i < m → v ≡ norm_of (row_of coords d i) → set (normed i) i v ≡ normed (i + 1)
   unfolding norms_up_to
   norms_next i v h e =
       let more : norms_up_to coords d i ++ (v ∷ []) ≡ norms_up_to coords d (i + 1) = rw (add-one, e) in
       front_turn nan (norms_up_to coords d i) l i (norms_length coords d i) v (omega arith)
       ∙ ap (λ (x : List Float). x ++ drop (i + 1) l) more
 
-  -- a leaf, whose row is as the code cuts it, and n leaves
-  pub norms_turn : (i : ℕ) (v : Float) → i < m → v ≡ norm_of (take (i * d + d - i * d) (drop (i * d) coords))
-      → set (normed i) i v ≡ normed (i + 1)
-  norms_turn i v h e = norms_next i v h (e ∙ ap norm_of (row_cut coords d i))
-
+  -- n leaves
   pub norms_block : (i n : ℕ) → i + n ≤ m → put_part (normed i) i n (norms_from coords d i n) ≡ normed (i + n)
   unfolding tabulate
   norms_block i zero h = let e : i + 0 ≡ i = omega arith in rw e (take-append-drop i (normed i))

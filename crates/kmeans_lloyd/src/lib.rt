@@ -3,7 +3,6 @@
 #![tactic(auto)]
 
 ghost use Rattle.std.specs.Prelude.{◌≡◌, ◌+◌, ◌*◌, ◌≤◌, length};
-ghost use Rattle.limits.specs.Limits.{most_rounds};
 ghost use Rattle.kmeans_sums.specs.Sums.{norms_up_to};
 ghost use Rattle.kmeans_layout.specs.Areas.{state_of, Same};
 ghost use Rattle.kmeans_lloyd.specs.Lloyd.{started_from};
@@ -11,6 +10,7 @@ ghost use Rattle.kmeans_lloyd.specs.Runs.{RoundDone, RunSoFar, put_scale, own_do
 ghost use Rattle.kmeans_lloyd.specs.Runs.{RunDone, RunLeft};
 
 use kmeans_layout::Area;
+use limits::Rounds;
 use std::ops::ControlFlow;
 
 // ---- rounds
@@ -30,17 +30,16 @@ fn one_round(area: &mut Area, it: usize) -> ControlFlow<counts::Counts, counts::
     ControlFlow::Continue(p.counts)
 }
 
-// Rounds until no label changes after the first, at most `rounds`.
-fn lloyd(area: &mut Area, rounds: usize) -> counts::Counts
-    requires { rounds ≤ most_rounds }
+// Rounds until no label changes after the first, as many as there may be.
+fn lloyd(area: &mut Area, rounds: Rounds) -> counts::Counts
     ensures same { Same area.old area.new }
-    ensures done { RunSoFar (rounds_in area.old rounds) (state_of area.new) result }
+    ensures done { RunSoFar (rounds_in area.old rounds.most) (state_of area.new) result }
 {
-    let mut c = counts::none();
-    for it in 0..rounds {
+    let mut c = counts::Counts::default();
+    for it in 0..rounds.most {
         match one_round(area, it) {
-            ControlFlow::Continue(n) => c = counts::plus(c, n),
-            ControlFlow::Break(n) => return counts::plus(c, n),
+            ControlFlow::Continue(n) => c = c + n,
+            ControlFlow::Break(n) => return c + n,
         }
     }
     c
@@ -49,29 +48,27 @@ fn lloyd(area: &mut Area, rounds: usize) -> counts::Counts
 // ---- the start of a run
 
 // The dots of leaves i to i + N - 1 with themselves.
-fn own_dots<const N: usize>(coords: &[f64], i: usize, d: usize) -> [f64; N]
-    requires { (i + N) * d ≤ length coords.now }
-    ensures { result ≡ own_dots coords.now d i N }
+fn own_dots<const N: usize>(area: &Area, i: usize) -> [f64; N]
+    requires { i + N ≤ area.now.shape.m }
+    ensures { result ≡ own_dots area.now.leaves.coords.now area.now.shape.d i N }
 {
-    let mut f = [0.0; N];
-    for e in 0..N {
-        let at = i * d + e * d;
-        let x = &coords[at..at + d];
-        f[e] = vector::dot(x, x);
-    }
-    f
+    std::array::from_fn(|e| {
+        let x = area.leaf(i + e);
+        vector::dot(x, x)
+    })
 }
 
 // The norms of leaves i to i + 3, their roots in step.
-fn four_norms(coords: &[f64], i: usize, d: usize) -> [f64; 4]
-    requires { (i + 4) * d ≤ length coords.now }
-    ensures { result ≡ norms_from coords.now d i 4 }
+#[tactic(auto, unfolding(rows::specs::Tabulate::tabulate))]
+fn four_norms(area: &Area, i: usize) -> [f64; 4]
+    requires { i + 4 ≤ area.now.shape.m }
+    ensures { result ≡ norms_from area.now.leaves.coords.now area.now.shape.d i 4 }
 {
-    let f = own_dots::<4>(coords, i, d);
-    root::roots(f)
+    root::roots(own_dots::<4>(area, i))
 }
 
-// The norm of each leaf becomes its scale: by fours, then singly.
+// The norm of each leaf becomes its scale: by fours, then singly. The loops of this shape share only their borders: one
+// function of them would take two closures that write an area.
 fn leaf_norms(area: &mut Area)
     ensures same { Same area.old area.new }
     ensures state { let z = area.old.shape in
@@ -80,15 +77,13 @@ fn leaf_norms(area: &mut Area)
         ≡ put_scale (norms_up_to l.coords.now z.d z.m) (state_of area.old) }
 {
     let m = area.shape.m;
-    let d = area.shape.d;
-    let coords = area.leaves.coords;
     for b in 0..m / 4 {
         let to = 4 * b;
-        area.scale[to..to + 4].copy_from_slice(&four_norms(coords, to, d));
+        let norms = four_norms(area, to);
+        area.scale[to..to + 4].copy_from_slice(&norms);
     }
     for i in m - m % 4..m {
-        let at = i * d;
-        area.scale[i] = vector::norm(&coords[at..at + d]);
+        area.scale[i] = vector::norm(area.leaf(i));
     }
 }
 
@@ -120,10 +115,9 @@ pub struct RunEnd {
 
 // One run of spherical k-means: seeding, rounds and cohesion. Labels, centres and the sums of the groups stay in the
 // area.
-pub fn run(area: &mut Area, generator: u64, rounds: usize) -> RunEnd
-    requires { rounds ≤ most_rounds }
+pub fn run(area: &mut Area, generator: u64, rounds: Rounds) -> RunEnd
     ensures same { Same area.old area.new }
-    ensures run_done { RunDone (result_in area.old rounds generator) (state_of area.new) result }
+    ensures run_done { RunDone (result_in area.old rounds.most generator) (state_of area.new) result }
     ensures run_left { RunLeft area.new }
 {
     let next = kmeans_seeding::seed(area, generator);

@@ -13,7 +13,8 @@ use Rattle.rows.proofs.Tabulate.{tabulate_length, tabulate_at, tabulate_tail, ta
 use Rattle.vector.specs.Vectors.{dot_of}
 use Rattle.kmeans_nearest.specs.Nearest.{better_of, best_to}
 use Rattle.kmeans_nearest.specs.Blocks.{row_dots, with_dots}
-use Rattle.kmeans_nearest.specs.declared.Best.{Best}
+use Rattle.pick.specs.Places.{best_with}
+use Rattle.pick.specs.declared.Best.{Best}
 
 chosen_below : (s t : Bool) (x y z : Best) (n : ℕ) → x.index < n → y.index < n → z.index < n → (cond s x (cond t y z)).index < n
 chosen_below true t x y z n hx hy hz = hx
@@ -21,7 +22,8 @@ chosen_below false true x y z n hx hy hz = hy
 chosen_below false false x y z n hx hy hz = hz
 
 -- one dot more
-pub with_more : (b : Best) (c : ℕ) (vs : List Float) (v : Float) → with_dots b c (vs ++ (v ∷ [])) ≡ better_of (with_dots b c vs) (c + length vs) v
+pub with_more : (b : Best) (c : ℕ) (vs : List Float) (v : Float)
+    → with_dots b c (vs ++ (v ∷ [])) ≡ better_of (with_dots b c vs) (c + length vs) v
 with_more b c [] v = let e : c + 0 ≡ c = omega arith in rw e
 with_more b c (w ∷ vs) v =
     let e : suc c + length vs ≡ c + suc (length vs) = omega arith in
@@ -51,7 +53,7 @@ module _ (x centers : List Float) (d : ℕ) where
 
   -- the first n centres, whose dots are f
   pub best_first : (n : ℕ) (b' : Best) (f : List Float) → 0 < n → f ≡ row_dots x centers d 0 n
-      → b' ≡ with_dots (record { index = 0; dot = get_or f 0 nan; second = inf true }) 1 (drop 1 f) → b' ≡ best_to x centers d (n - 1)
+      → b' ≡ with_dots (record { index = 0; value = get_or f 0 nan; next = inf true }) 1 (drop 1 f) → b' ≡ best_to x centers d (n - 1)
   unfolding best_to
   best_first zero b' f h dots g = absurd (omega arith)
   best_first (suc n) b' f h dots g =
@@ -65,10 +67,10 @@ module _ (x centers : List Float) (d : ℕ) where
 
   -- the best of the centres 0 to c is one of them
   pub best_below : (c n : ℕ) → c < n → (best_to x centers d c).index < n
-  unfolding best_to
+  unfolding best_to best_with
   best_below zero n h = h
   best_below (suc c) n h =
       let b = best_to x centers d c in
       let v = dot_of x (row_of centers d (suc c)) in
       let below : b.index < n = best_below c n (omega arith) in
-      chosen_below (lt b.dot v) (lt b.second v) _ _ _ n h below below
+      chosen_below (lt b.value v) (lt b.next v) _ _ _ n h below below

@@ -5,7 +5,7 @@ use Rattle.rows.specs.Rows.{row_of}
 use Rattle.rows.specs.Tabulate.{tabulate}
 use Rattle.vector.specs.Vectors.{dot_of}
 use Rattle.kmeans_nearest.specs.Nearest.{better_of}
-use Rattle.kmeans_nearest.specs.declared.Best.{Best}
+use Rattle.pick.specs.declared.Best.{Best}
 
 -- the dots with n centres from c on
 abbrev pub row_dots : (x centers : List Float) (d c n : ℕ) → List Float
@@ -17,7 +17,7 @@ with_dots b c [] = b
 with_dots b c (v ∷ vs) = with_dots (better_of b c v) (suc c) vs
 
 -- what the search for the best asks: k centres of d coordinates, at most 64 and 16,384 numbers
-pub record Centers (numbers k d : ℕ) : Type 0 where
+pub record Fit (numbers k d : ℕ) : Type 0 where
   pub some : 0 < k
   pub few : k ≤ 64
   pub small : k * d ≤ 16384

@@ -4,38 +4,18 @@
 
 ghost use Rattle.std.specs.Prelude.{◌≡◌, ◌+◌, ◌*◌, ◌-◌, ◌<◌, ◌≤◌, length};
 ghost use Rattle.kmeans_nearest.specs.Nearest.{better_of, best_to};
-ghost use Rattle.kmeans_nearest.specs.Blocks.{row_dots, with_dots, Centers};
+ghost use Rattle.kmeans_nearest.specs.Blocks.{row_dots, with_dots, Fit};
 
-// A leaf's best centre, its dot, and the next best dot.
-#[derive(Clone, Copy)]
-pub struct Best {
-    pub index: usize,
-    pub dot: f64,
-    pub second: f64,
-}
+use pick::Best;
 
 // With centre c, whose dot is v.
 fn better(b: Best, c: usize, v: f64) -> Best
     ensures { result ≡ better_of b c v }
 {
-    if b.dot < v {
-        return Best {
-            index: c,
-            dot: v,
-            second: b.dot,
-        };
-    }
-    if b.second < v {
-        return Best {
-            index: b.index,
-            dot: b.dot,
-            second: v,
-        };
-    }
-    b
+    b.with(c, v, |x, held| held < x)
 }
 
-// The dots with rows c to c + N - 1 of the centres.
+// The dots with rows c to c + N - 1 of an array: the centres, or the leaves, so it is no method of `Centers`.
 pub fn row_dots<const N: usize>(x: &[f64], centers: &[f64], c: usize, d: usize) -> [f64; N]
     requires { (c + N) * d ≤ length centers.now }
     ensures { result ≡ row_dots x.now centers.now d c N }
@@ -50,61 +30,72 @@ fn with_dots(b: Best, c: usize, f: &[f64]) -> Best
     ensures { result ≡ with_dots b c f.now }
 {
     let mut b = b;
-    for i in 0..f.len() {
-        b = better(b, c + i, f[i]);
+    for (i, &v) in f.iter().enumerate() {
+        b = better(b, c + i, v);
     }
     b
 }
 
-// The best of the first N centres.
-fn best_of_first<const N: usize>(x: &[f64], centers: &[f64], d: usize) -> Best
-    requires { (0 < N) × (N ≤ 64) × (N * d ≤ length centers.now) }
-    ensures { result ≡ best_to x.now centers.now d (N - 1) }
-{
-    let f = row_dots::<N>(x, centers, 0, d);
-    let v = &f[..];
-    let b = Best {
-        index: 0,
-        dot: v[0],
-        second: -1.0 / 0.0,
-    };
-    with_dots(b, 1, &v[1..])
+// k centres of d coordinates, row by row.
+#[derive(Clone, Copy)]
+pub struct Centers<'a> {
+    pub rows: &'a [f64],
+    pub k: usize,
+    pub d: usize,
+    ghost fit: { Fit (length rows.now) k d },
 }
 
-// The best of the centres before c + N from the best of those before c.
-fn best_through<const N: usize>(x: &[f64], centers: &[f64], b: Best, c: usize, d: usize) -> Best
-    requires centers { (c + N ≤ 64) × ((c + N) * d ≤ length centers.now) }
-    requires start { (0 < c) × (b ≡ best_to x.now centers.now d (c - 1)) }
-    ensures { result ≡ best_to x.now centers.now d (c + N - 1) }
-{
-    let f = row_dots::<N>(x, centers, c, d);
-    with_dots(b, c, &f)
-}
-
-// The best of k centres from the best of those before centre `at`: by fours, then singly.
-fn best_from(x: &[f64], centers: &[f64], start: Best, at: usize, k: usize, d: usize) -> Best
-    requires centers { Centers (length centers.now) k d }
-    requires at_nonzero { (0 < at) × (at ≤ k) × (start ≡ best_to x.now centers.now d (at - 1)) }
-    ensures { result ≡ best_to x.now centers.now d (k - 1) }
-{
-    let mut b = start;
-    for i in 0..(k - at) / 4 {
-        b = best_through::<4>(x, centers, b, at + 4 * i, d);
+impl<'a> Centers<'a> {
+    // The best of the first N.
+    fn best_of_first<const N: usize>(self, x: &[f64]) -> Best
+        requires { (0 < N) × (N ≤ self.k) }
+        ensures { result ≡ best_to x.now self.entry.rows.now self.entry.d (N - 1) }
+    {
+        let f = row_dots::<N>(x, self.rows, 0, self.d);
+        let v = &f[..];
+        let b = Best {
+            index: 0,
+            value: v[0],
+            next: -1.0 / 0.0,
+        };
+        with_dots(b, 1, &v[1..])
     }
-    for c in k - (k - at) % 4..k {
-        b = best_through::<1>(x, centers, b, c, d);
-    }
-    b
-}
 
-// The best of k centres of d coordinates, the first of equals; the first four at once where there are as many.
-pub fn best_of(x: &[f64], centers: &[f64], k: usize, d: usize) -> Best
-    requires { Centers (length centers.now) k d }
-    ensures { result ≡ best_to x.now centers.now d (k - 1) }
-{
-    if k < 4 {
-        best_from(x, centers, best_of_first::<1>(x, centers, d), 1, k, d)
-    } else {
-        best_from(x, centers, best_of_first::<4>(x, centers, d), 4, k, d)
+    // The best of those before c + N from the best of those before c.
+    fn best_through<const N: usize>(self, x: &[f64], b: Best, c: usize) -> Best
+        requires few { c + N ≤ self.k }
+        requires start { (0 < c) × (b ≡ best_to x.now self.rows.now self.d (c - 1)) }
+        ensures { result ≡ best_to x.now self.entry.rows.now self.entry.d (c + N - 1) }
+    {
+        let f = row_dots::<N>(x, self.rows, c, self.d);
+        with_dots(b, c, &f)
+    }
+
+    // The best from the best of those before `at`: by fours, then singly. The loops of this shape share only their
+    // borders, and one function of them would take two closures.
+    fn best_from(self, x: &[f64], start: Best, at: usize) -> Best
+        requires { (0 < at) × (at ≤ self.k) × (start ≡ best_to x.now self.rows.now self.d (at - 1)) }
+        ensures { result ≡ best_to x.now self.entry.rows.now self.entry.d (self.entry.k - 1) }
+    {
+        let left = self.k - at;
+        let mut b = start;
+        for i in 0..left / 4 {
+            b = self.best_through::<4>(x, b, at + 4 * i);
+        }
+        for c in self.k - left % 4..self.k {
+            b = self.best_through::<1>(x, b, c);
+        }
+        b
+    }
+
+    // The best, of equals the first; the first four at once where there are as many.
+    pub fn best_of(self, x: &[f64]) -> Best
+        ensures { result ≡ best_to x.now self.entry.rows.now self.entry.d (self.entry.k - 1) }
+    {
+        if self.k < 4 {
+            self.best_from(x, self.best_of_first::<1>(x), 1)
+        } else {
+            self.best_from(x, self.best_of_first::<4>(x), 4)
+        }
     }
 }

@@ -4,14 +4,14 @@
 
 ghost use Rattle.std.specs.Prelude.{◌≡◌, ◌+◌, ◌*◌, ◌≤◌, ◌++◌, length, drop};
 ghost use Rattle.counts.specs.Counts.{AtMost, of_runs};
-ghost use Rattle.limits.specs.Limits.{most_rounds, most_restarts};
-ghost use Rattle.kmeans_layout.specs.Sized.{Fit, half, work_u32_total};
+ghost use Rattle.limits.specs.Limits.{most_restarts};
+ghost use Rattle.kmeans_layout.specs.Sized.{half, work_u32_total};
 ghost use Rattle.kmeans_layout.specs.Areas.{Same};
 ghost use Rattle.kmeans_lloyd.specs.Runs.{result_in};
 ghost use Rattle.kmeans_restarts.specs.Runs.{runs_in, Holds, Restarted};
 
-use kmeans_layout::{Area, Held};
-use limits::{Leaves, Shape};
+use kmeans_layout::{Area, Held, Problem};
+use limits::Rounds;
 
 // Two areas of the same sizes and leaves, in the halves of the lent work arrays: the held run stands in one, the other
 // is free for the next. It and that of mixture_restarts are no one struct of any area: the borrow checker takes no type
@@ -25,22 +25,18 @@ pub struct Halves<'a> {
 
 impl<'a> Halves<'a> {
     // The areas in the two lent arrays.
-    pub fn of(
-        shape: Shape,
-        leaves: Leaves<'a>,
-        work: &'a mut [f64],
-        work_u32: &'a mut [u32],
-    ) -> Halves<'a>
-        requires fit { Fit shape.m shape.d leaves.weights.now leaves.coords.now }
-        requires room { (half shape.m shape.k shape.d + half shape.m shape.k shape.d ≤ length work.old)
-            × (work_u32_total shape.m shape.k + work_u32_total shape.m shape.k ≤ length work_u32.old) }
-        ensures { (result.held.shape ≡ shape) × (result.held.leaves ≡ leaves.entry) }
+    pub fn of(problem: Problem<'a>, work: &'a mut [f64], work_u32: &'a mut [u32]) -> Halves<'a>
+        requires { let z = problem.shape in
+            (half z.m z.k z.d + half z.m z.k z.d ≤ length work.old)
+            × (work_u32_total z.m z.k + work_u32_total z.m z.k ≤ length work_u32.old) }
+        ensures { (result.held.shape ≡ problem.entry.shape) × (result.held.leaves ≡ problem.entry.leaves) }
     {
+        let shape = problem.shape;
         let (first, second) = work.split_at_mut(kmeans_layout::half(shape));
         let (first_u32, second_u32) = work_u32.split_at_mut(shape.m + shape.k);
         Halves {
-            held: Area::of(shape, leaves, first, first_u32),
-            free: Area::of(shape, leaves, second, second_u32),
+            held: Area::of(problem, first, first_u32),
+            free: Area::of(problem, second, second_u32),
         }
     }
 }
@@ -53,9 +49,9 @@ pub struct Restarts {
 }
 
 // One restart more, in the free area; where it is kept, the areas change places.
-fn restart(halves: &mut Halves, h: Restarts, rounds: usize) -> Restarts
-    requires { (rounds ≤ most_rounds) × (AtMost (of_runs 64) h.held.counts) }
-    ensures { Restarted (result_in halves.old.held rounds h.generator) halves.old.held halves.new.held h result }
+fn restart(halves: &mut Halves, h: Restarts, rounds: Rounds) -> Restarts
+    requires { AtMost (of_runs 64) h.held.counts }
+    ensures { Restarted (result_in halves.old.held rounds.most h.generator) halves.old.held halves.new.held h result }
 {
     let r = kmeans_lloyd::run(&mut halves.free, h.generator, rounds);
     if h.held.gives_way(r.cohesion) {
@@ -68,9 +64,9 @@ fn restart(halves: &mut Halves, h: Restarts, rounds: usize) -> Restarts
 }
 
 // All restarts; what is held in the end.
-pub fn run_all(halves: &mut Halves, seed: u64, rounds: usize, restarts: usize) -> Restarts
-    requires { (rounds ≤ most_rounds) × (restarts ≤ most_restarts) }
-    ensures { Holds (runs_in halves.old.held rounds restarts seed) halves.old.held halves.new.held 64 result }
+pub fn run_all(halves: &mut Halves, seed: u64, rounds: Rounds, restarts: usize) -> Restarts
+    requires { restarts ≤ most_restarts }
+    ensures { Holds (runs_in halves.old.held rounds.most restarts seed) halves.old.held halves.new.held 64 result }
 {
     let first = kmeans_lloyd::run(&mut halves.held, seed, rounds);
     let held = Held {

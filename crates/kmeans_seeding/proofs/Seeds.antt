@@ -1,22 +1,23 @@
 -- Laws of the seeds: an array written place by place holds what is done before what it held, and each definition of specs/Seeding.antt
 -- grows by one place or one centre a turn. First over plain lists, then over areas. Assumes nothing.
 use mathlib.Core.Path.{◌≡◌, refl, ap, sym, subst, ◌∙◌}
-use mathlib.Core.List.{List, [], ◌∷◌, ◌++◌, append_assoc, append-nil}
+use mathlib.Core.List.{List, [], ◌∷◌, ◌++◌, map, map-append, append_assoc, append-nil}
 use mathlib.Core.Bool.{Bool, true, false, cond}
 use Prim.Native.Nat.{ℕ, zero, suc, ◌+◌, ◌*◌, ◌-◌, ◌≤◌, ◌<◌}
 use native.Mathlib.Nat.{suc-mul, zero-mul, add-zero}
 use native.Mathlib.Numerals.{add-one}
 use native.Mathlib.Omega.{arith}
-use lib.ListN.{length, get_or, take, drop, set, replicate, length-append}
-use lib.Seq.{take-suc, take_all, take_at, length-take-le}
+use lib.ListN.{length, get_or, take, drop, set, replicate, length-append, get_or-append}
+use lib.Seq.{take-suc, take_all, take_at, length-take-le, set-append_left}
+use Rattle.std.proofs.lemmas.List.{get_or-append_right, set-append_right}
 use lib.IntN.{ℤ}
 use lib.Ieee.{Float, nan, inf, fin, is_nan, binary64, sub, mul, lt}
 use Rattle.float.specs.Arithmetic.{number, minus_zero, plus_zero, max_of}
 use Rattle.rows.specs.Rows.{put_part, row_of}
 use Rattle.rows.specs.Tabulate.{tabulate}
-use Rattle.rows.proofs.Tabulate.{tabulate_at, tabulate_length, tabulate_same}
+use Rattle.rows.proofs.Tabulate.{tabulate_is, tabulate_length}
 use Rattle.vector.specs.Vectors.{dot_of, unit_vector}
-use Rattle.rows.proofs.Rows.{row_within, length_part, part_put, row_cut}
+use Rattle.rows.proofs.Rows.{row_within, length_part, part_put}
 use Rattle.rows.proofs.Fills.{front_turn, front_next, front_end}
 use Rattle.pick.specs.Pick.{pick_of}
 use Rattle.pick.specs.declared.Picked.{Picked}
@@ -32,19 +33,18 @@ use Rattle.kmeans_seeding.specs.Distances.{first_distances, lowered_by, chanced,
 
 -- ---- the distances
 
--- how far n leaves are from centre c, the centre's row being the first of each dot
-pub distances_done : (centers coords : List Float) (d c i n : ℕ) (f : List Float)
-    → f ≡ row_dots (take (c * d + d - c * d) (drop (c * d) centers)) coords d i n
-    → tabulate (λ (e : ℕ). max_of (sub binary64 (number 1) (get_or f e nan)) plus_zero) n
-    ≡ cosine_distances coords d (row_of centers d c) i n
-distances_done centers coords d c i n f is =
-    let row = row_of centers d c in
-    let g = row_cut centers d c in
-    let dots : f ≡ row_dots row coords d i n = rw g at is in
-    tabulate_same (λ (e : ℕ). max_of (sub binary64 (number 1) (get_or f e nan)) plus_zero) _ n
-    (λ e l. let at : get_or f e nan ≡ dot_of row (row_of coords d (i + e)) =
-    rw dots (tabulate_at (λ (j : ℕ). dot_of row (row_of coords d (i + j))) n e nan l) in
-    rw (at, dot_comm minus_zero row (row_of coords d (i + e))))
+-- how far n leaves are from a centre, by their dots with it
+abbrev pub distance_by : Float → Float
+distance_by v = max_of (sub binary64 (number 1) v) plus_zero
+
+pub distances_done : (coords : List Float) (d : ℕ) (row : List Float) (i n : ℕ)
+    → map distance_by (row_dots row coords d i n) ≡ cosine_distances coords d row i n
+unfolding tabulate
+distances_done coords d row i zero = refl
+distances_done coords d row i (suc n) =
+    let x = row_of coords d (i + n) in
+    map-append distance_by (row_dots row coords d i n) (dot_of row x ∷ [])
+    ∙ rw (distances_done coords d row i n, dot_comm minus_zero row x)
 
 -- one new distance more
 lower_more : (w : List Float) (at : ℕ) (vs : List Float) (v : Float)
@@ -54,12 +54,24 @@ lower_more w at (x ∷ vs) v =
     let e : suc at + length vs ≡ at + suc (length vs) = omega arith in
     lower_more (lower_at w at x) (suc at) vs v ∙ rw e
 
--- with the first e, the next
-pub lower_turn : (w w' f : List Float) (at e : ℕ) → e < length f → w' ≡ lower_from w at (take e f)
-    → lower_at w' (at + e) (get_or f e nan) ≡ lower_from w at (take (e + 1) f)
-lower_turn w w' f at e h is =
-    let l : length (take e f) ≡ e = length-take-le e f (omega arith) in
-    rw (add-one, take-suc f e nan h, lower_more, l, is)
+-- with the first e, the next, in the n distances from place `at` on
+pub lower_turn : (w l f : List Float) (at n e : ℕ) → at ≤ length w → e < length l → e < length f
+    → put_part w at n l ≡ lower_from w at (take e f) → let v = get_or f e nan in
+    let held = get_or l e nan in
+    put_part w at n (set l e (cond (lt v held) v held)) ≡ lower_from w at (take (e + 1) f)
+unfolding lower_at
+lower_turn w l f at n e in_w in_l in_f is =
+    let p = take at w in
+    let r = drop n (drop at w) in
+    let v = get_or f e nan in
+    let le : length (take e f) ≡ e = length-take-le e f (omega arith) in
+    let place : at + e - at ≡ e = omega arith in
+    let lp : length p ≡ at = length-take-le at w in_w in
+    let held : get_or (put_part w at n l) (at + e) nan ≡ get_or l e nan =
+    get_or-append_right p (l ++ r) at (at + e) nan lp (omega arith) ∙ rw place (get_or-append l r nan e in_l) in
+    let stored : (x : Float) → set (put_part w at n l) (at + e) x ≡ put_part w at n (set l e x) =
+    λ x. set-append_right p (l ++ r) at (at + e) x lp (omega arith) ∙ rw (place, set-append_left l r e x in_l) in
+    rw (add-one, take-suc f e nan in_f, lower_more, le, ← is, held) (sym (stored _))
 
 -- the distances lowered where a further centre is nearer
 module _ (coords : List Float) (d : ℕ) (row : List Float) where
@@ -201,51 +213,11 @@ chances_at (w ∷ ws) [] i h g = absurd (omega arith)
 chances_at (w ∷ ws) (x ∷ xs) zero h g = refl
 chances_at (w ∷ ws) (x ∷ xs) (suc i) h g = chances_at ws xs i (omega arith) (omega arith)
 
--- the area of which the first i chances are written
-pub record Chanced (a₀ a : Area) (i : ℕ) : Type 0 where
-  pub same : Same a₀ a
-  pub state : let s = state_of a₀ in
-      state_of a ≡ put_high (take i (chances a₀.leaves.weights.now s.low) ++ drop i s.high) s
-
-pub chanced_none : (a : Area) → Chanced a a 0
-unfolding put_high
-chanced_none a = record { same = (refl, refl); state = refl }
-
-pub chanced_more : (a₀ a a' : Area) (i : ℕ) → i < a₀.shape.m → Chanced a₀ a i → Same a a'
-    → state_of a' ≡ put_high (set a.high.now i (mul binary64 (get_or a.leaves.weights.now i nan) (get_or a.low.now i nan))) (state_of a)
-    → Chanced a₀ a' (i + 1)
-unfolding put_high
-chanced_more a₀ a a' i h g same st =
-    let ws = a₀.leaves.weights.now in
-    let s = state_of a₀ in
-    let new = chances ws s.low in
-    let x = mul binary64 (get_or ws i nan) (get_or s.low i nan) in
-    let ln : length new ≡ length s.low = chances_length ws s.low (omega (arith, a₀.fit.weights_long, a₀.sized.low_long)) in
-    let lp : length (take i new) ≡ i = length-take-le i new (omega (arith, a₀.sized.low_long)) in
-    let at : x ≡ get_or new i nan =
-    sym (chances_at ws s.low i (omega (arith, a₀.fit.weights_long)) (omega (arith, a₀.sized.low_long))) in
-    let more : take i new ++ (x ∷ []) ≡ take (i + 1) new =
-    rw (add-one, at) (sym (take-suc new i nan (omega (arith, a₀.sized.low_long)))) in
-    let now : state_of a' ≡ put_high (set a.high.now i (mul binary64 (get_or ws i nan) (get_or a.low.now i nan))) (state_of a) =
-    rw (← g.same.1) st in
-    record {
-      same = (same.0 ∙ g.same.0, same.1 ∙ g.same.1);
-      state = now
-          ∙ ap (λ (t : State). put_high (set t.high i (mul binary64 (get_or ws i nan) (get_or t.low i nan))) t) g.state
-          ∙ ap (λ (r : List Float). put_high r s)
-          (front_turn nan (take i new) s.high i lp x (omega (arith, a₀.sized.high_long))
-          ∙ ap (λ (r : List Float). r ++ drop (i + 1) s.high) more);
-    }
-
-pub chanced_end : (a₀ a : Area) (i : ℕ) → i ≡ a₀.shape.m → Chanced a₀ a i → state_of a ≡ chanced a₀.leaves.weights.now (state_of a₀)
-chanced_end a₀ a i e g =
-    let ws = a₀.leaves.weights.now in
-    let s = state_of a₀ in
-    let new = chances ws s.low in
-    let ln : length new ≤ i =
-    omega (arith, chances_length ws s.low (omega (arith, a₀.fit.weights_long, a₀.sized.low_long)), a₀.sized.low_long) in
-    g.state ∙ ap (λ (r : List Float). put_high r s)
-    (front_end (take i new) s.high i (omega (arith, a₀.sized.high_long)) ∙ take_all i new ln)
+pub chances_by : (ws xs : List Float) (n : ℕ) → length ws ≡ n → length xs ≡ n
+    → tabulate (λ i. mul binary64 (get_or ws i nan) (get_or xs i nan)) n ≡ chances ws xs
+chances_by ws xs n lw lx =
+    sym (tabulate_is _ (chances ws xs) n nan (chances_length ws xs (lw ∙ sym lx) ∙ lx)
+    (λ i h. chances_at ws xs i (omega arith) (omega arith)))
 
 -- ---- one centre more
 

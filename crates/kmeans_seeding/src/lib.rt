@@ -21,13 +21,8 @@ fn cosine_distances<const N: usize>(area: &Area, c: usize, i: usize) -> [f64; N]
     ensures { result ≡ cosine_distances area.now.leaves.coords.now area.now.shape.d
         (row_of area.now.centers.now area.now.shape.d c) i N }
 {
-    let d = area.shape.d;
-    let at = c * d;
-    let mut f = kmeans_nearest::row_dots::<N>(&area.centers[at..at + d], area.leaves.coords, i, d);
-    for e in 0..N {
-        f[e] = float::max(1.0 - f[e], 0.0);
-    }
-    f
+    let f = kmeans_nearest::row_dots::<N>(area.center(c), area.leaves.coords, i, area.shape.d);
+    f.map(|v| float::max(1.0 - v, 0.0))
 }
 
 // The smaller of a distance and a new one; the held one where it is a NaN, which `f64::min` would not answer.
@@ -43,12 +38,13 @@ fn lower_from<const N: usize>(distances: &mut [f64], at: usize, f: [f64; N])
     requires { at + N ≤ length distances.old }
     ensures { distances.new ≡ lower_from distances.old at f.entry }
 {
-    for e in 0..N {
-        distances[at + e] = nearer(f[e], distances[at + e]);
+    for (e, held) in distances[at..at + N].iter_mut().enumerate() {
+        *held = nearer(f[e], *held);
     }
 }
 
-// The distance of each leaf lowered where centre c is nearer: by fours, then singly.
+// The distance of each leaf lowered where centre c is nearer: by fours, then singly. The loops of this shape share only
+// their borders: one function of them would take two closures that write an area.
 fn lower_distances(area: &mut Area, c: usize)
     requires { c < area.old.shape.k }
     ensures same { Same area.old area.new }
@@ -75,15 +71,14 @@ fn first_distances(area: &mut Area)
     lower_distances(area, 0);
 }
 
-// Weight times distance, leaf by leaf.
-#[tactic(auto, using(crate::proofs::Seeds::chanced_none))]
+// Weight times distance, leaf by leaf. The distances are lent as `&mut`, so that it is known that they stay.
 fn put_chances(area: &mut Area)
     ensures same { Same area.old area.new }
     ensures state { state_of area.new ≡ chanced area.old.leaves.weights.now (state_of area.old) }
 {
-    for i in 0..area.shape.m {
-        area.high[i] = area.leaves.weights[i] * area.low[i];
-    }
+    let weights = area.leaves.weights;
+    let distances = &mut *area.low;
+    rows::put(area.high, |i| weights[i] * distances[i]);
 }
 
 // A leaf by its chance, by one draw from the generator.
@@ -103,11 +98,9 @@ fn seed_center(area: &mut Area, c: usize, i: usize)
 {
     let d = area.shape.d;
     let to = c * d;
-    let from = i * d;
-    vector::unit(
-        &mut area.centers[to..to + d],
-        &area.leaves.coords[from..from + d],
-    );
+    let leaf = area.leaf(i);
+    // Written, so cut here; rows says why.
+    vector::unit(&mut area.centers[to..to + d], leaf);
 }
 
 // One centre more, by the weights times the distances; answers the generator after it.

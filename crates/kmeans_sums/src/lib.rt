@@ -21,6 +21,7 @@ pub fn add_leaf(area: &mut Area, c: usize, w: f64, x: &[f64])
 {
     let d = area.shape.d;
     let to = c * d;
+    // Written, so cut here; rows says why.
     vector::add_scaled(&mut area.sums[to..to + d], w, x);
 }
 
@@ -37,9 +38,7 @@ pub fn sum_norm(area: &Area, c: usize) -> f64
     requires { c < area.now.shape.k }
     ensures { result ≡ norm_of (row_of area.now.sums.now area.now.shape.d c) }
 {
-    let d = area.shape.d;
-    let at = c * d;
-    vector::norm(&area.sums[at..at + d])
+    vector::norm(area.sum(c))
 }
 
 // Leaf i adds its weighted row to the sum of its group, which counts it.
@@ -47,11 +46,10 @@ fn gain(area: &mut Area, i: usize)
     requires { (i < area.old.shape.m) × (get_or area.old.counts.now (get_or area.old.labels.now i 0) 0 ≤ 4096) }
     ensures { Gained i area.old area.new }
 {
-    let leaves = area.leaves;
-    let d = area.shape.d;
-    let from = i * d;
     let c = area.labels[i] as usize;
-    add_leaf(area, c, leaves.weights[i], &leaves.coords[from..from + d]);
+    let w = area.leaves.weights[i];
+    let x = area.leaf(i);
+    add_leaf(area, c, w, x);
     area.counts[c] = area.counts[c] + 1;
 }
 

@@ -24,23 +24,6 @@ fn has_empty(area: &Area) -> bool
     area.counts.contains(&0)
 }
 
-// How well the centre of its label serves leaf i.
-#[tactic(auto, using(rows::proofs::Rows::row_within))]
-fn served_of(area: &Area, i: usize) -> f64
-    requires { i < area.now.shape.m }
-    ensures { result ≡ dot_of (row_of area.now.leaves.coords.now area.now.shape.d i)
-        (row_of area.now.centers.now area.now.shape.d (get_or area.now.labels.now i 0)) }
-{
-    let d = area.shape.d;
-    let c = area.labels[i] as usize;
-    let from = i * d;
-    let to = c * d;
-    vector::dot(
-        &area.leaves.coords[from..from + d],
-        &area.centers[to..to + d],
-    )
-}
-
 // Leaf i is served as well as the centre of its label serves it.
 #[tactic(auto, unfolding(crate::specs::Update::put_served))]
 fn refresh_leaf(area: &mut Area, i: usize)
@@ -48,7 +31,8 @@ fn refresh_leaf(area: &mut Area, i: usize)
     ensures around { Around area.old area.new }
     ensures state { state_of area.new ≡ serve_leaf area.old.leaves.coords.now area.old.shape.d i (state_of area.old) }
 {
-    area.served[i] = served_of(area, i);
+    let c = area.labels[i] as usize;
+    area.served[i] = vector::dot(area.leaf(i), area.center(c));
 }
 
 // Every leaf is served as well as the centre of its label serves it.
@@ -73,17 +57,6 @@ fn turned(row: &[f64], to: &[f64]) -> f64
     float::clamp(vector::dot(row, to), -1.0, 1.0)
 }
 
-// How far centre c turns into the row that stands in its place among the sums.
-fn turn_of(area: &Area, c: usize) -> f64
-    requires { c < area.now.shape.k }
-    ensures { result ≡ cosine (dot_of (row_of area.now.centers.now area.now.shape.d c)
-        (row_of area.now.sums.now area.now.shape.d c)) }
-{
-    let d = area.shape.d;
-    let at = c * d;
-    turned(&area.centers[at..at + d], &area.sums[at..at + d])
-}
-
 // Centre c becomes the row that stands in its place among the sums; its drift is taken against the old row first.
 #[tactic(auto, unfolding(crate::specs::Update::move_center))]
 fn move_center(area: &mut Area, c: usize)
@@ -94,20 +67,8 @@ fn move_center(area: &mut Area, c: usize)
 {
     let d = area.shape.d;
     let at = c * d;
-    area.drift[c] = turn_of(area, c);
+    area.drift[c] = turned(area.center(c), area.sum(c));
     rows::copy_part(area.centers, area.sums, at, d);
-}
-
-// How far centre c turns where it stays.
-fn turn_kept(area: &Area, c: usize) -> f64
-    requires { c < area.now.shape.k }
-    ensures { result ≡ cosine (dot_of (row_of area.now.centers.now area.now.shape.d c)
-        (row_of area.now.centers.now area.now.shape.d c)) }
-{
-    let d = area.shape.d;
-    let at = c * d;
-    let row = &area.centers[at..at + d];
-    turned(row, row)
 }
 
 // Centre c stays; its drift is that of a centre which did not turn.
@@ -117,7 +78,7 @@ fn keep_center(area: &mut Area, c: usize)
     ensures around { Around area.old area.new }
     ensures state { state_of area.new ≡ keep_center area.old.shape.d c (state_of area.old) }
 {
-    area.drift[c] = turn_kept(area, c);
+    area.drift[c] = turned(area.center(c), area.center(c));
 }
 
 // Centre c becomes its sum over the sum's norm, where that is above 0.
@@ -131,6 +92,7 @@ fn recenter(area: &mut Area, c: usize)
     if 0.0 < n {
         let d = area.shape.d;
         let at = c * d;
+        // Written, so cut here; rows says why.
         vector::divide_by(&mut area.sums[at..at + d], n);
         move_center(area, c);
     } else {
@@ -156,12 +118,10 @@ fn reseed(area: &mut Area, c: usize)
 {
     let d = area.shape.d;
     let worst = worst(area);
-    let from = worst * d;
     let to = c * d;
-    vector::unit(
-        &mut area.sums[to..to + d],
-        &area.leaves.coords[from..from + d],
-    );
+    let leaf = area.leaf(worst);
+    // Written, so cut here; rows says why.
+    vector::unit(&mut area.sums[to..to + d], leaf);
     area.served[worst] = 1.0 / 0.0;
     move_center(area, c);
 }

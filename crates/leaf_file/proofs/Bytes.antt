@@ -1,58 +1,19 @@
--- The number of four bytes from their values, and of eight; and what a file's header says. By unfolding the definition as far as the bytes
--- go. Assumes nothing.
+-- What a file's header says. By unfolding what is refused. Assumes nothing.
 use mathlib.Core.Path.{◌≡◌, refl, sym, ap, subst}
 use mathlib.Core.List.{List}
 use mathlib.Core.Bool.{◌&&◌}
-use Prim.Native.Nat.{ℕ, ◌+◌, ◌-◌, ◌*◌, ◌≤◌, ◌<◌}
+use Prim.Native.Nat.{ℕ, ◌+◌, ◌*◌, ◌≤◌}
 use native.Mathlib.Nat.{mul-le-mul}
 use native.Mathlib.Omega.{arith}
 use lib.Dec.{T, leb, eqb}
 use borrow.Author.Tests.{leb-true, eqb-true}
-use lib.ListN.{length, get_or, take, drop}
-use lib.Seq.{get_or-take, get_or-drop}
+use lib.ListN.{length}
 use Rattle.std.specs.Prelude.{Result, Ok, Err, is_err, ⊤}
 use Rattle.limits.specs.declared.Refusal.{Refusal}
 use Rattle.limits.proofs.Limits.{both, met}
 use Rattle.leaf_file.specs.LeafFile.{whole_at, file_refusal, header_by, header_of}
 use Rattle.leaf_file.specs.declared.Header.{Header}
 use Rattle.leaf_file.specs.Texts.{Sized}
-
-module _ (bytes : List ℕ) (at : ℕ) where
-  -- byte i of the n bytes that the code cuts out
-  abbrev pub cut : ℕ → ℕ → ℕ
-  cut n i = get_or (take (at + n - at) (drop at bytes)) i 0
-
-  byte_cut : (n i j : ℕ) → i < n → at + i ≡ j → cut n i ≡ get_or bytes j 0
-  byte_cut n i j h e =
-      let m : at + n - at ≡ n = omega arith in
-      rw (m, get_or-take n (drop at bytes) i 0 h, get_or-drop at bytes i 0, e)
-
-  pub whole_four : (r : ℕ) → r ≡ cut 4 0 + cut 4 1 * 256 + cut 4 2 * 65536 + cut 4 3 * 16777216 → r ≡ whole_at bytes at 4
-  unfolding whole_at
-  whole_four r p =
-      let f₀ = byte_cut 4 0 at (omega arith) (omega arith) in
-      let f₁ = byte_cut 4 1 (at + 1) (omega arith) (omega arith) in
-      let f₂ = byte_cut 4 2 (at + 1 + 1) (omega arith) (omega arith) in
-      let f₃ = byte_cut 4 3 (at + 1 + 1 + 1) (omega arith) (omega arith) in
-      omega (arith, p, f₀, f₁, f₂, f₃)
-
-  pub whole_eight : (r : ℕ)
-      → r
-      ≡ cut 8 0 + cut 8 1 * 256 + cut 8 2 * 65536 + cut 8 3 * 16777216 + cut 8 4 * 4294967296 + cut 8 5 * 1099511627776
-      + cut 8 6 * 281474976710656
-      + cut 8 7 * 72057594037927936
-      → r ≡ whole_at bytes at 8
-  unfolding whole_at
-  whole_eight r p =
-      let f₀ = byte_cut 8 0 at (omega arith) (omega arith) in
-      let f₁ = byte_cut 8 1 (at + 1) (omega arith) (omega arith) in
-      let f₂ = byte_cut 8 2 (at + 1 + 1) (omega arith) (omega arith) in
-      let f₃ = byte_cut 8 3 (at + 1 + 1 + 1) (omega arith) (omega arith) in
-      let f₄ = byte_cut 8 4 (at + 1 + 1 + 1 + 1) (omega arith) (omega arith) in
-      let f₅ = byte_cut 8 5 (at + 1 + 1 + 1 + 1 + 1) (omega arith) (omega arith) in
-      let f₆ = byte_cut 8 6 (at + 1 + 1 + 1 + 1 + 1 + 1) (omega arith) (omega arith) in
-      let f₇ = byte_cut 8 7 (at + 1 + 1 + 1 + 1 + 1 + 1 + 1) (omega arith) (omega arith) in
-      omega (arith, p, f₀, f₁, f₂, f₃, f₄, f₅, f₆, f₇)
 
 -- what it says that nothing is refused
 pub sized : (bytes : List ℕ) (m d : ℕ) → m ≡ whole_at bytes 0 4 → d ≡ whole_at bytes 4 4 → file_refusal bytes ≡ Ok tt

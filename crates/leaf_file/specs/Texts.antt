@@ -23,8 +23,3 @@ pub record Grown (bytes : List ℕ) (t t' : Text) : Type 0 where
   pub ends : t'.at ≡ t.at + length bytes
   pub front : written t' ≡ written t ++ bytes
   pub rest : behind t' ≡ drop (length bytes) (behind t)
-
--- n counts elements at the start of an array. The second part follows from the first; both are stated, since lending
--- that part of the array asks for both
-abbrev pub Counted : {A : Type 0} → ℕ → List A → Type 0
-Counted n xs = (n ≤ length xs) × (n ≡ length (take n xs))

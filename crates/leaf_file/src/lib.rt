@@ -2,13 +2,13 @@
 // fitted by the automatic fit, and listed as text.
 #![tactic(auto)]
 
-ghost use Rattle.std.specs.Prelude.{◌≡◌, ◌++◌, ◌+◌, ◌*◌, ◌≤◌, ◌<◌, length, drop, Ok};
+ghost use Rattle.std.specs.Prelude.{◌≡◌, ◌++◌, ◌+◌, ◌*◌, ◌≤◌, ◌<◌, length, take, drop, Ok};
 ghost use Rattle.leaf_file.specs.LeafFile.{whole_at, f64_at, f64s_at, refusal_by, file_refusal, leaves_of, leaves_in};
 ghost use Rattle.leaf_file.specs.LeafFile.{header_of};
 ghost use Rattle.leaf_file.specs.LeafFile.{LeavesKeepBest, FileFit, file_fit_by, file_fit};
 ghost use Rattle.leaf_file.specs.Listing.{decimal, number_line, shop_line, shop_lines, groups_text};
 ghost use Rattle.leaf_file.specs.Listing.{text_of, listing};
-ghost use Rattle.leaf_file.specs.Texts.{Sized, Grown, Counted};
+ghost use Rattle.leaf_file.specs.Texts.{Sized, Grown};
 
 use auto::{Chosen, NotChosen};
 use limits::{Refusal, need};
@@ -20,25 +20,37 @@ const COORDINATES: usize = 16;
 
 const GROUPS: usize = 4;
 
+// The length of the longest leaf file.
+pub const LONGEST: usize = 8 + 8 * LEAVES + 8 * LEAVES * COORDINATES;
+
 // ---- reading
 
+// The N bytes from `at` on.
+fn array_at<const N: usize>(bytes: &[u8], at: usize) -> [u8; N]
+    requires { at + N ≤ length bytes.now }
+    ensures { result ≡ take N (drop at bytes.now) }
+{
+    let mut b = [0; N];
+    b.copy_from_slice(&bytes[at..at + N]);
+    b
+}
+
 // The number of the four bytes from `at` on, the lowest first.
+#[tactic(auto, unfolding(crate::specs::LeafFile::whole_at))]
 fn u32_at(bytes: &[u8], at: usize) -> u64
     requires { at + 4 ≤ length bytes.now }
     ensures { (result ≡ whole_at bytes.now at 4) × (result < 4294967296) }
 {
-    let b = &bytes[at..at + 4];
-    u64::from(u32::from_le_bytes([b[0], b[1], b[2], b[3]]))
+    u64::from(u32::from_le_bytes(array_at(bytes, at)))
 }
 
 // The f64 of the eight bytes from `at` on.
+#[tactic(auto, unfolding(crate::specs::LeafFile::whole_at))]
 fn f64_at(bytes: &[u8], at: usize) -> f64
     requires { at + 8 ≤ length bytes.now }
     ensures { result ≡ f64_at bytes.now at }
 {
-    let b = &bytes[at..at + 8];
-    let bits = u64::from_le_bytes([b[0], b[1], b[2], b[3], b[4], b[5], b[6], b[7]]);
-    float::of_bits(bits)
+    float::of_bits(u64::from_le_bytes(array_at(bytes, at)))
 }
 
 // Fills out with the f64 from `at` on.
@@ -46,9 +58,7 @@ fn load(out: &mut [f64], bytes: &[u8], at: usize)
     requires { at + 8 * length out.old ≤ length bytes.now }
     ensures { out.new ≡ f64s_at bytes.now at (length out.old) }
 {
-    for i in 0..out.len() {
-        out[i] = f64_at(bytes, at + 8 * i);
-    }
+    rows::put(out, |i| f64_at(bytes, at + 8 * i));
 }
 
 // What is wrong with a file of n bytes, if anything: m or d too large, or the length.
@@ -162,7 +172,8 @@ pub fn fit_file(bytes: &[u8], labels: &mut [u32]) -> Result<Chosen, NotChosen>
 // ---- the listing's text
 
 // A text on its way: it stands at the start of `out`, and `at` is the place after it. No String, since the station has
-// no heap.
+// no heap; and no `write!`, which promises what it writes only where it answers Ok, and not that it does where there is
+// room, so that it would not show which bytes come out.
 #[derive(Drop)]
 struct Text<'a> {
     out: &'a mut [u8],
@@ -246,7 +257,7 @@ impl Text<'_> {
     }
 }
 
-// How many leaves a file says that it holds; 0 where it is refused.
+// How many leaves a file says that it holds; 0 and no None where it is refused, since a refusal lists no shop.
 fn shops(bytes: &[u8]) -> usize
     ensures { (result ≤ 64) × (file_refusal bytes.now ≡ Ok tt → result ≡ whole_at bytes.now 0 4) }
 {
@@ -256,11 +267,12 @@ fn shops(bytes: &[u8]) -> usize
     }
 }
 
-// Puts the listing of a leaf file at the start of out, and answers how many bytes it has. The rest of out is as found.
+// Puts the listing of a leaf file at the start of out, and answers how many bytes it has. The rest of out is as found:
+// the answer is a length and no part of out, so that a caller may look at what stands behind the listing too.
 pub fn list_file(bytes: &[u8], out: &mut [u8; 4096]) -> usize
     ensures value { (result ≡ length (listing bytes.now))
         × (out.new ≡ listing bytes.now ++ drop result out.old) }
-    ensures counted { Counted result out.new }
+    ensures upper_bound { result ≤ length out.new }
 {
     let mut labels = [0u32; LEAVES];
     let r = fit_file(bytes, &mut labels);

@@ -1,5 +1,6 @@
 -- Document 01, 'Leaves, settings, fit' and 'Refusals by call': the limits that the entries share. Definitions only.
-use Rattle.std.specs.Prelude.{◌≡◌, List, [], ◌∷◌, Bool, true, ◌&&◌, ℕ, ◌+◌, ◌*◌, eqb, leb, length, Float, Result, Ok, ⊤}
+use Rattle.std.specs.Prelude.{◌≡◌, List, Bool, true, ◌&&◌, ℕ, ◌+◌, ◌*◌, eqb, leb, length, Float, Result, Ok, ⊤}
+use Rattle.std.specs.List.{list_all}
 use Rattle.std.specs.Float.Ieee.{neg, le}
 use Rattle.float.specs.Arithmetic.{number, plus_zero}
 use Rattle.limits.specs.Refusals.{need}
@@ -19,8 +20,7 @@ abbrev pub coordinate_ok : Float → Bool
 coordinate_ok x = within (neg (number 2)) (number 2) x
 
 abbrev pub every : (Float → Bool) → List Float → Bool
-every ok [] = true
-every ok (x ∷ xs) = ok x && every ok xs
+every ok xs = list_all ok xs
 
 -- the lent work arrays: 2·m·k + 4·k·d + 8·m + 16·k f64 and 2·m + 2·k u32
 abbrev pub work_length : ℕ → ℕ → ℕ → ℕ

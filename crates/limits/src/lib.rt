@@ -3,7 +3,7 @@
 
 ghost use Rattle.std.specs.Prelude.{◌≡◌, ◌≤◌, Ok};
 ghost use Rattle.limits.specs.Limits.{within, weight_ok, coordinate_ok, every, leaves_refusal};
-ghost use Rattle.limits.specs.Limits.{sizes_ok, groups_ok, work_ok};
+ghost use Rattle.limits.specs.Limits.{sizes_ok, groups_ok, work_ok, most_rounds};
 ghost use Rattle.limits.specs.Refusals.{number_of, need};
 ghost use Rattle.limits.specs.Sizes.{Sizes};
 
@@ -23,11 +23,12 @@ const MOST_WEIGHT: f64 = 1099511627776.0;
 
 const FARTHEST: f64 = 2.0;
 
-// The leaves: m weights, and the coordinates row by row.
+// The leaves: m weights, the coordinates row by row, and how many a leaf has.
 #[derive(Clone, Copy)]
 pub struct Leaves<'a> {
     pub weights: &'a [f64],
     pub coords: &'a [f64],
+    pub d: usize,
 }
 
 // The sizes of a run, within the limits: m leaves of d coordinates, k groups.
@@ -37,6 +38,13 @@ pub struct Shape {
     pub k: usize,
     pub d: usize,
     ghost sizes: { Sizes m k d },
+}
+
+// How many rounds a run may begin, within the limit.
+#[derive(Clone, Copy)]
+pub struct Rounds {
+    pub most: usize,
+    ghost small: { most ≤ most_rounds },
 }
 
 // What an entry refuses, each with its number.
@@ -98,12 +106,7 @@ fn is_within(x: f64, low: f64, high: f64) -> bool
 fn all_within(xs: &[f64], low: f64, high: f64) -> bool
     ensures { result ≡ every (within low high) xs.now }
 {
-    for x in xs {
-        if !is_within(*x, low, high) {
-            return false;
-        }
-    }
-    true
+    xs.iter().all(|x| is_within(*x, low, high))
 }
 
 // Every weight is from 0 to 2^40.
@@ -142,7 +145,8 @@ pub fn groups_ok(k: usize, m: usize) -> bool
     1 <= k && k <= MOST_GROUPS && k <= m
 }
 
-// The lent work arrays are long enough.
+// The lent work arrays are long enough. It takes m, k and d, since what it asks of them is tested one by one, and there
+// is no Shape before all of it is.
 pub fn work_ok(m: usize, k: usize, d: usize, work: usize, work_u32: usize) -> bool
     requires { (m ≤ 4096) × (k ≤ 64) × (d ≤ 256) }
     ensures { result ≡ work_ok m k d work work_u32 }

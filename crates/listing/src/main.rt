@@ -8,7 +8,9 @@ use std::io::Read;
 fn main(rt: HostRuntime) -> io::Result<()> {
     let mut bytes = Vec::new(rt.alloc());
     // One byte more than the longest leaf file: what is longer still is refused alike.
-    rt.reader().take(8713).read_to_end(&mut bytes)?;
+    rt.reader()
+        .take(leaf_file::LONGEST as u64 + 1)
+        .read_to_end(&mut bytes)?;
     let mut text = [0u8; 4096];
     let end = leaf_file::list_file(&bytes, &mut text);
     rt.write_all(&text[..end])

@@ -8,19 +8,20 @@ ghost use Rattle.std.specs.Float.{binary64};
 ghost use Rattle.std.specs.Float.Ieee.{add};
 ghost use Rattle.float.specs.Arithmetic.{max_of};
 ghost use Rattle.logarithm.specs.Logarithm.{ln_of};
-ghost use Rattle.bessel.specs.Start.{StartOf};
 ghost use Rattle.mixture_kappa.specs.Kappas.{parameters_of};
 ghost use Rattle.mixture_kappa.specs.Groups.{weight_floor, log_norm_of};
 
+use bessel::Order;
+
 // How a mixture estimates its concentrations: one for each group, or one for all.
-#[derive(Clone, Copy)]
+#[derive(Clone, Copy, Debug, PartialEq, Eq)]
 pub enum Kappa {
     Free,
     Shared,
 }
 
 // The round limit, the seed and the Kappa of a fit.
-#[derive(Clone, Copy)]
+#[derive(Clone, Copy, Debug, PartialEq, Eq)]
 pub struct Settings {
     pub rounds: usize,
     pub seed: u64,
@@ -38,12 +39,11 @@ pub fn parameters(kappa: Kappa, k: usize, d: usize) -> usize
     }
 }
 
-// The log normalizer of a concentration; `start` is ln_gamma(d / 2).
-pub fn log_norm_from(kappa: f64, d: usize, start: f64) -> f64
-    requires { StartOf d start }
-    ensures { result ≡ log_norm_of d kappa }
+// The log normalizer of a concentration, from the order of its dimension.
+pub fn log_norm_from(kappa: f64, order: Order) -> f64
+    ensures { result ≡ log_norm_of order.d kappa }
 {
-    bessel::log_vmf_norm_from(d, float::max(kappa, 1e-8), start)
+    order.log_norm(float::max(kappa, 1e-8))
 }
 
 // The log coefficient of a group, ln weight + log normalizer; `norm` is the log normalizer.

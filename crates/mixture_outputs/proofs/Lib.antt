@@ -1,4 +1,3 @@
 -- Laws that other proofs cite, each file named after what it is about.
 pub mod Refusals
-pub mod Listed
 pub mod Labels

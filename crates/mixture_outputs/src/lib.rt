@@ -2,7 +2,9 @@
 // fit', 'Mixture' and 'Refusals by call'): what they refuse, and the outputs filled from the area of the kept run.
 #![tactic(auto)]
 
-ghost use Rattle.std.specs.Prelude.{◌≡◌, ◌++◌, true, ◌≤◌, length, drop, Float};
+ghost use Rattle.std.specs.Prelude.{◌≡◌, ◌++◌, true, ◌<◌, ◌≤◌, length, drop, Float};
+ghost use Rattle.rows.specs.Rows.{row_of};
+ghost use Rattle.pick.specs.Places.{argmax_of};
 ghost use Rattle.limits.specs.Limits.{most_groups};
 ghost use Rattle.mixture_run.specs.Fits.{labels_of, ln_weight, logw_of};
 ghost use Rattle.mixture_run.specs.Areas.{parts_of, model_of, em_of};
@@ -10,6 +12,7 @@ ghost use Rattle.mixture_outputs.specs.Outputs.{lengths_of, written};
 ghost use Rattle.mixture_outputs.specs.Refusals.{outputs_ok, arrays_ok, fit_refusal};
 ghost use Rattle.mixture_outputs.specs.Lent.{outputs_of, SameArrays, Fits};
 
+use bessel::Order;
 use limits::{Leaves, Refusal, need};
 use mixture_kappa::Settings;
 use mixture_run::layout::Area;
@@ -29,7 +32,8 @@ pub struct Lengths {
     pub work_u32: usize,
 }
 
-// The outputs are long enough. That m, k and d are within their limits is tested before.
+// The outputs are long enough. It takes m, k and d, since what it asks of them is tested one by one, and there is no
+// Shape before all of it is.
 fn outputs_ok(m: usize, k: usize, d: usize, l: Lengths) -> bool
     requires { (m ≤ 4096) × (k ≤ 64) × (d ≤ 256) }
     ensures { result ≡ outputs_ok m k d l }
@@ -44,7 +48,8 @@ fn outputs_ok(m: usize, k: usize, d: usize, l: Lengths) -> bool
         && k <= l.logw
 }
 
-// The outputs and the work arrays are long enough. That m, k and d are within their limits is tested before.
+// The outputs and the work arrays are long enough. It takes m, k and d, since what it asks of them is tested one by
+// one, and there is no Shape before all of it is.
 fn arrays_ok(m: usize, k: usize, d: usize, l: Lengths) -> bool
     requires { (m ≤ 4096) × (k ≤ 64) × (d ≤ 256) }
     ensures { result ≡ arrays_ok m k d l }
@@ -55,18 +60,12 @@ fn arrays_ok(m: usize, k: usize, d: usize, l: Lengths) -> bool
 // The first refusal from 1 to 6 that holds, if any, of a fit of k groups, of the automatic fit up to k. Whether k is
 // admitted is the fit's to say: `groups` is the outcome of its test.
 #[tactic(auto, unfolding(crate::specs::Refusals::fit_refusal))]
-pub fn check(
-    leaves: Leaves,
-    d: usize,
-    k: usize,
-    groups: bool,
-    s: Settings,
-    l: Lengths,
-) -> Result<(), Refusal>
+pub fn check(leaves: Leaves, k: usize, groups: bool, s: Settings, l: Lengths) -> Result<(), Refusal>
     requires { groups ≡ true → k ≤ most_groups }
-    ensures { result ≡ fit_refusal groups leaves.entry.weights.now leaves.entry.coords.now d k s l }
+    ensures { result ≡ fit_refusal groups leaves.entry.weights.now leaves.entry.coords.now leaves.entry.d k s l }
 {
     let m = leaves.weights.len();
+    let d = leaves.d;
     need(limits::sizes_ok(m, d, leaves.coords.len()), Refusal::Sizes)?;
     need(groups, Refusal::Groups)?;
     need(s.rounds <= limits::MOST_ROUNDS, Refusal::Rounds)?;
@@ -107,16 +106,20 @@ impl Arrays<'_> {
 
 // ---- filled
 
-// The label of each leaf: the first group of its greatest responsibility.
+// The label of leaf i: the first group of its greatest responsibility.
+fn label_of(area: &Area, i: usize) -> u32
+    requires { i < area.now.warm.shape.m }
+    ensures { result ≡ argmax_of (row_of area.now.responsibilities.now area.now.warm.shape.k i) }
+{
+    pick::argmax(area.leaf_responsibilities(i)) as u32
+}
+
+// The label of each leaf.
 fn put_labels(labels: &mut [u32], area: &Area)
     requires { length labels.old ≡ area.now.warm.shape.m }
     ensures { labels.new ≡ labels_of area.now.responsibilities.now area.now.warm.shape.m area.now.warm.shape.k }
 {
-    let k = area.warm.shape.k;
-    for i in 0..area.warm.shape.m {
-        let at = i * k;
-        labels[i] = pick::argmax(&area.responsibilities[at..at + k]) as u32;
-    }
+    rows::put(labels, |i| label_of(area, i));
 }
 
 // The logarithm of a weight, with mixture.rs's floor.
@@ -131,12 +134,10 @@ fn put_logw(logw: &mut [f64], area: &Area)
     requires { length logw.old ≡ area.now.warm.shape.k }
     ensures { logw.new ≡ logw_of area.now.warm.shape.k area.now.warm.shape.d (model_of (parts_of area.now)) }
 {
-    let d = area.warm.shape.d;
-    let start = gamma_table::ln_gamma_half(d);
-    for c in 0..area.warm.shape.k {
-        logw[c] = ln_weight(area.weights[c])
-            + mixture_kappa::log_norm_from(area.kappas[c], d, start);
-    }
+    let order = Order::of(area.warm.shape.d);
+    rows::put(logw, |c| {
+        ln_weight(area.weights[c]) + mixture_kappa::log_norm_from(area.kappas[c], order)
+    });
 }
 
 // The labels at the start of an array that may be longer.

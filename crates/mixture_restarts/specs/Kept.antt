@@ -1,6 +1,6 @@
 -- What the runs of a fit leave in their areas, and which of them the keeper hands back. No definition of document 01
 -- stands on this file.
-use Rattle.std.specs.Prelude.{◌≡◌, ℕ, Float}
+use Rattle.std.specs.Prelude.{◌≡◌, List, ℕ, Float}
 use Rattle.counts.specs.Counts.{plus_of, AtMost, of_runs}
 use Rattle.kmeans_layout.specs.Kept.{kept_of}
 use Rattle.kmeans_layout.specs.declared.Held.{Held}
@@ -12,23 +12,20 @@ use Rattle.mixture_restarts.specs.Runs.{run_of, runs_up_to, fit_of}
 use Rattle.mixture_restarts.specs.declared.Runs.{Runs}
 
 -- with the sizes and leaves of an area: run t; the first run and n more; the fit
-abbrev pub run_in : Area → Settings → ℕ → Once
-run_in a s t =
+abbrev in_area : {A : Type 0} → Area → ((weights coords : List Float) (m k d : ℕ) → A) → A
+in_area a f =
     let l = a.warm.leaves in
     let z = a.warm.shape in
-    run_of s l.weights.now l.coords.now z.m z.k z.d t
+    f l.weights.now l.coords.now z.m z.k z.d
+
+abbrev pub run_in : Area → Settings → ℕ → Once
+run_in a s = in_area a (run_of s)
 
 abbrev pub runs_in : Area → Settings → ℕ → Once
-runs_in a s n =
-    let l = a.warm.leaves in
-    let z = a.warm.shape in
-    runs_up_to s l.weights.now l.coords.now z.m z.k z.d n
+runs_in a s = in_area a (runs_up_to s)
 
 abbrev pub fit_in : Area → Settings → Once
-fit_in a s =
-    let l = a.warm.leaves in
-    let z = a.warm.shape in
-    fit_of s l.weights.now l.coords.now z.m z.k z.d
+fit_in a s = in_area a (fit_of s)
 
 -- after t runs the held area a' has what this run found, with the sizes and leaves of the area a
 pub record Holds (once : Once) (a a' : Area) (t : ℕ) (h : Held) : Type 0 where

@@ -4,14 +4,12 @@
 
 ghost use Rattle.std.specs.Prelude.{◌≡◌, ◌+◌, ◌<◌, ◌≤◌, length};
 ghost use Rattle.counts.specs.Counts.{AtMost, of_runs};
-ghost use Rattle.limits.specs.Limits.{most_rounds};
-ghost use Rattle.kmeans_layout.specs.Sized.{Fit, half, work_u32_total};
+ghost use Rattle.kmeans_layout.specs.Sized.{half, work_u32_total};
 ghost use Rattle.kmeans_layout.specs.Kept.{kept_of};
 ghost use Rattle.mixture_run.specs.Areas.{parts_of, Same, RunDone};
 ghost use Rattle.mixture_restarts.specs.Kept.{run_in, runs_in, Holds, OneMore, Both, kept_loglik};
 
-use kmeans_layout::Held;
-use limits::{Leaves, Shape};
+use kmeans_layout::{Held, Problem};
 use mixture_kappa::Settings;
 use mixture_run::RunEnd;
 use mixture_run::layout::Area;
@@ -28,43 +26,37 @@ pub struct Halves<'a> {
 
 impl<'a> Halves<'a> {
     // The areas in the two lent arrays.
-    pub fn of(
-        shape: Shape,
-        leaves: Leaves<'a>,
-        work: &'a mut [f64],
-        work_u32: &'a mut [u32],
-    ) -> Halves<'a>
-        requires fit { Fit shape.m shape.d leaves.weights.now leaves.coords.now }
-        requires room { (half shape.m shape.k shape.d + half shape.m shape.k shape.d ≤ length work.old)
-            × (work_u32_total shape.m shape.k + work_u32_total shape.m shape.k ≤ length work_u32.old) }
-        ensures { (result.held.warm.shape ≡ shape) × (result.held.warm.leaves ≡ leaves.entry) }
+    pub fn of(problem: Problem<'a>, work: &'a mut [f64], work_u32: &'a mut [u32]) -> Halves<'a>
+        requires { let z = problem.shape in
+            (half z.m z.k z.d + half z.m z.k z.d ≤ length work.old)
+            × (work_u32_total z.m z.k + work_u32_total z.m z.k ≤ length work_u32.old) }
+        ensures { (result.held.warm.shape ≡ problem.entry.shape) × (result.held.warm.leaves ≡ problem.entry.leaves) }
     {
+        let shape = problem.shape;
         let (first, second) = work.split_at_mut(kmeans_layout::half(shape));
         let (first_u32, second_u32) = work_u32.split_at_mut(shape.m + shape.k);
         Halves {
-            held: Area::of(shape, leaves, first, first_u32),
-            free: Area::of(shape, leaves, second, second_u32),
+            held: Area::of(problem, first, first_u32),
+            free: Area::of(problem, second, second_u32),
         }
     }
 }
 
 // Run t in an area.
 fn run(area: &mut Area, s: Settings, t: u64) -> RunEnd
-    requires { s.rounds ≤ most_rounds }
     ensures same { Same area.old area.new }
     ensures done { RunDone (run_in area.old s t) (parts_of area.new) result }
 {
     let own = Settings {
-        rounds: s.rounds,
         seed: rng::restart_seed(s.seed, t),
-        kappa: s.kappa,
+        ..s
     };
     mixture_run::movmf_once(area, own)
 }
 
 // Run t in the free area; where it is kept, the areas change places.
 fn one_more(halves: &mut Halves, h: Held, s: Settings, t: u64) -> Held
-    requires { (s.rounds ≤ most_rounds) × (t < 4) × (AtMost (of_runs t) h.counts) }
+    requires { (t < 4) × (AtMost (of_runs t) h.counts) }
     ensures { OneMore (run_in halves.old.held s t) halves.old.held halves.new.held h result }
 {
     let r = run(&mut halves.free, s, t);
@@ -76,7 +68,6 @@ fn one_more(halves: &mut Halves, h: Held, s: Settings, t: u64) -> Held
 
 // The first three runs; what is held of them.
 fn first_runs(halves: &mut Halves, s: Settings) -> Held
-    requires { s.rounds ≤ most_rounds }
     ensures { Holds (runs_in halves.old.held s 2) halves.old.held halves.new.held 3 result }
 {
     let first = run(&mut halves.held, s, 0);
@@ -101,13 +92,12 @@ pub struct Runs {
 
 // All four runs.
 pub fn four_runs(halves: &mut Halves, s: Settings) -> Runs
-    requires { s.rounds ≤ most_rounds }
     ensures { Both (runs_in halves.old.held s 2) (run_in halves.old.held s 3) halves.old.held halves.new.held
         halves.new.free result }
 {
     let h = first_runs(halves, s);
     let r = run(&mut halves.free, s, 3);
-    let counts = counts::plus(h.counts, r.counts);
+    let counts = h.counts + r.counts;
     Runs {
         held: h.value,
         last: r.loglik,
@@ -117,29 +107,24 @@ pub fn four_runs(halves: &mut Halves, s: Settings) -> Runs
 
 // ---- the keeper
 
-// Of two runs in two areas, the area of the kept one: that of the run, unless its log-likelihood is at most the held
-// one's.
-fn keeper<'a, 'b>(
-    held: &'a Area<'b>,
-    run: &'a Area<'b>,
-    held_loglik: f64,
-    run_loglik: f64,
-) -> &'a Area<'b>
-    ensures { result.now ≡ kept_of held_loglik run_loglik held.now run.now }
+// Of what is the held run's and what is the last one's, that of the kept run: the last one's, unless its log-likelihood
+// is at most the held one's. Of two lent areas it hands back one.
+fn keeper<T: Copy>(r: Runs, held: T, last: T) -> T
+    ensures { result ≡ kept_of r.held r.last held last }
 {
-    if run_loglik <= held_loglik { held } else { run }
+    if r.last <= r.held { held } else { last }
 }
 
 // The kept one's log-likelihood.
 pub fn kept_loglik(r: Runs) -> f64
     ensures { result ≡ kept_loglik r.held r.last }
 {
-    if r.last <= r.held { r.held } else { r.last }
+    keeper(r, r.held, r.last)
 }
 
 // The kept one's area.
 pub fn kept<'a, 'b>(halves: &'a Halves<'b>, r: Runs) -> &'a Area<'b>
     ensures { result.now ≡ kept_of r.held r.last halves.now.held halves.now.free }
 {
-    keeper(&halves.held, &halves.free, r.held, r.last)
+    keeper(r, &halves.held, &halves.free)
 }

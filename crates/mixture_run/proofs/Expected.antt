@@ -15,7 +15,7 @@ use Rattle.vector.specs.Vectors.{dot_of}
 use Rattle.kmeans_nearest.specs.Blocks.{row_dots}
 use Rattle.rows.proofs.Rows.{put_more}
 use Rattle.rows.proofs.Fills.{front_end}
-use Rattle.rows.proofs.Tabulate.{tabulate_length, tabulate_at, tabulate_turn, tabulate_same}
+use Rattle.rows.proofs.Tabulate.{tabulate_length, tabulate_at, tabulate_turn, tabulated_turn, tabulated_next}
 use Rattle.mixture_softmax.specs.Softmax.{log_sum_exp}
 use Rattle.mixture_softmax.specs.Leaves.{log_sum_at, shares_at, joined, weighed, shares_up_to, logs_up_to}
 use Rattle.mixture_softmax.proofs.Softmax.{shares_length}
@@ -23,18 +23,28 @@ use Rattle.mixture_softmax.proofs.Joined.{joined_length, joined_row, joined_none
 use Rattle.mixture_run.specs.Mixture.{Model, log_density_at, log_densities, softmax, expect_up_to}
 use Rattle.mixture_run.specs.Areas.{Parts, model_of, with_resp, log_densities_from}
 
--- ---- the log densities of a leaf in n groups, by the dots f
+-- ---- the log densities of leaf x in n groups, from c on, of which the first e stand before what was there, the dots f
+module _ (d : ℕ) (coefficients : List Float) (p : Model) (x y : List Float) (c n : ℕ) (f : List Float)
+    (is : f ≡ row_dots y p.directions d c n) (leaf : y ≡ x) where
+  dots_length : length f ≡ n
+  dots_length = ap length is ∙ tabulate_length _ n
 
-module _ (coefficients : List Float) (p : Model) (c : ℕ) where
-  abbrev pub density_by : (f : List Float) (e : ℕ) → Float
-  density_by f e = add binary64 (get_or coefficients (c + e) nan) (mul binary64 (get_or p.kappas (c + e) nan) (get_or f e nan))
+  abbrev densities_to : ℕ → List Float
+  densities_to e = log_densities_from d coefficients p x c e ++ drop e f
 
-  pub densities_done : (d : ℕ) (x : List Float) (n : ℕ) (f : List Float) → f ≡ row_dots x p.directions d c n
-      → tabulate (density_by f) n ≡ log_densities_from d coefficients p x c n
-  densities_done d x n f is =
-      let dot : ℕ → Float = λ (e : ℕ). dot_of x (row_of p.directions d (c + e)) in
-      tabulate_same (density_by f) _ n
-      (λ e h. let at : get_or f e nan ≡ dot e = rw is (tabulate_at dot n e nan h) in rw at)
+  pub densities_turn : (l : List Float) (e : ℕ) → l ≡ densities_to e → e < n
+      → set l e (add binary64 (get_or coefficients (c + e) nan) (mul binary64 (get_or p.kappas (c + e) nan) (get_or l e nan)))
+      ≡ densities_to (e + 1)
+  densities_turn l e g h =
+      let density : ℕ → Float = λ (j : ℕ). log_density_at d coefficients p x (c + j) in
+      let within : e < length f = omega (arith, dots_length) in
+      let held : get_or l e nan ≡ get_or f e nan = rw g (tabulated_next density f e nan within) in
+      let dot : get_or f e nan ≡ dot_of x (row_of p.directions d (c + e)) =
+      rw (is, leaf) (tabulate_at (λ (j : ℕ). dot_of x (row_of p.directions d (c + j))) n e nan h) in
+      rw (held, dot, g) (tabulated_turn density f e (density e) nan within refl)
+
+  pub densities_end : (l : List Float) (e : ℕ) → l ≡ densities_to e → e ≡ n → l ≡ log_densities_from d coefficients p x c n
+  densities_end l e g h = g ∙ rw h (front_end (log_densities_from d coefficients p x c n) f n dots_length)
 
 -- ---- the row of a leaf, of which n are written from place `at` on
 module _ (f : ℕ → Float) (w : List Float) (at : ℕ) where

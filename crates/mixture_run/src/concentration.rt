@@ -20,8 +20,8 @@ fn kappa_by(resultant: f64, weight: f64, d: usize) -> f64
     bessel::estimate_kappa(0.0, d)
 }
 
-// The concentration of each group by its own length and weight.
-#[tactic(auto, unfolding(rows::specs::Tabulate::tabulate))]
+// The concentration of each group by its own length and weight, which are only read: they are lent as `&mut`, so that
+// it is known that they stay.
 fn free_kappas(area: &mut Area)
     ensures same { Same area.old area.new }
     ensures parts { let z = area.old.warm.shape in
@@ -29,9 +29,9 @@ fn free_kappas(area: &mut Area)
         parts_of area.new ≡ with_kappas (tabulate (kappa_at z.d p.norms p.totals) z.k) p }
 {
     let d = area.warm.shape.d;
-    for c in 0..area.warm.shape.k {
-        area.kappas[c] = kappa_by(area.norms[c], area.totals[c], d);
-    }
+    let norms = &mut *area.norms;
+    let totals = &mut *area.totals;
+    rows::put(area.kappas, |c| kappa_by(norms[c], totals[c], d));
 }
 
 // The concentration by the pooled length of the resultants.

@@ -2,26 +2,27 @@
 // log-likelihood.
 ghost use Rattle.std.specs.Prelude.{◌≡◌, ◌+◌, ◌*◌, ◌<◌, ◌≤◌};
 ghost use Rattle.rows.specs.Rows.{put_part, row_of};
-ghost use Rattle.bessel.specs.Start.{StartOf};
 ghost use Rattle.mixture_kappa.specs.Groups.{log_norm_of};
 ghost use Rattle.mixture_run.specs.Mixture.{log_coefficients, log_densities, expect_up_to};
 ghost use Rattle.mixture_run.specs.Areas.{parts_of, model_of, with_log_coefficients, with_resp};
 ghost use Rattle.mixture_run.specs.Areas.{log_densities_from, Same};
 
 use super::layout::Area;
+use bessel::Order;
 
 // The log normalizer of a concentration after the last one, whose own is `norm`; equal ones share it.
-fn norm_for(kappa: f64, last: f64, norm: f64, d: usize, start: f64) -> f64
-    requires { (StartOf d start) × (norm ≡ log_norm_of d last) }
-    ensures { result ≡ log_norm_of d kappa }
+fn norm_for(kappa: f64, last: f64, norm: f64, order: Order) -> f64
+    requires { norm ≡ log_norm_of order.d last }
+    ensures { result ≡ log_norm_of order.d kappa }
 {
     if float::bits_of(kappa) == float::bits_of(last) {
         return norm;
     }
-    mixture_kappa::log_norm_from(kappa, d, start)
+    mixture_kappa::log_norm_from(kappa, order)
 }
 
-// The log coefficient of each group. The table is read once for all.
+// The log coefficient of each group. The table is read once for all. It goes by index, since it carries the last
+// concentration and its normalizer from group to group, and reads two parts of the area beside the one it writes.
 #[tactic(auto, unfolding(rows::specs::Tabulate::tabulate))]
 pub(crate) fn put_log_coefficients(area: &mut Area)
     ensures same { Same area.old area.new }
@@ -29,20 +30,19 @@ pub(crate) fn put_log_coefficients(area: &mut Area)
         let p = parts_of area.old in
         parts_of area.new ≡ with_log_coefficients (log_coefficients z.k z.d (model_of p)) p }
 {
-    let d = area.warm.shape.d;
-    let start = gamma_table::ln_gamma_half(d);
+    let order = Order::of(area.warm.shape.d);
     let mut last = area.kappas[0];
-    let mut norm = mixture_kappa::log_norm_from(last, d, start);
+    let mut norm = mixture_kappa::log_norm_from(last, order);
     for c in 0..area.warm.shape.k {
         let kappa = area.kappas[c];
-        norm = norm_for(kappa, last, norm, d, start);
+        norm = norm_for(kappa, last, norm, order);
         last = kappa;
         area.log_coefficients[c] = mixture_kappa::log_coefficient(area.weights[c], norm);
     }
 }
 
 // The log densities of leaf i in groups c to c + N - 1.
-#[tactic(auto, unfolding(rows::specs::Tabulate::tabulate))]
+#[tactic(auto, using(crate::proofs::Expected::densities_end), unfolding(rows::specs::Tabulate::tabulate))]
 fn log_densities<const N: usize>(area: &Area, i: usize, c: usize) -> [f64; N]
     requires { (i < area.now.warm.shape.m) × (c + N ≤ area.now.warm.shape.k) }
     ensures { let z = area.now.warm.shape in
@@ -51,20 +51,15 @@ fn log_densities<const N: usize>(area: &Area, i: usize, c: usize) -> [f64; N]
         result ≡ log_densities_from z.d p.log_coefficients (model_of p) x c N }
 {
     let d = area.warm.shape.d;
-    let at = i * d;
-    let mut f = kmeans_nearest::row_dots::<N>(
-        &area.warm.leaves.coords[at..at + d],
-        area.warm.centers,
-        c,
-        d,
-    );
-    for e in 0..N {
-        f[e] = area.log_coefficients[c + e] + area.kappas[c + e] * f[e];
+    let mut f = kmeans_nearest::row_dots::<N>(area.warm.leaf(i), area.warm.centers, c, d);
+    for (e, v) in f.iter_mut().enumerate() {
+        *v = area.log_coefficients[c + e] + area.kappas[c + e] * *v;
     }
     f
 }
 
-// The log densities of leaf i stand where its responsibilities will: by fours, then singly.
+// The log densities of leaf i stand where its responsibilities will: by fours, then singly. The loops of this shape
+// share only their borders; one function of them would take two closures that write an area.
 fn put_log_densities(area: &mut Area, i: usize)
     requires { i < area.old.warm.shape.m }
     ensures same { Same area.old area.new }

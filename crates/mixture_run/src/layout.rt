@@ -1,11 +1,12 @@
 // The work area of a run of the mixture: that of its warm start, whose centres and sums are the directions and the
 // resultants; of each group its weight, concentration, log coefficient, whole weight and length of resultant; and the
 // responsibilities, leaf by leaf.
-ghost use Rattle.std.specs.Prelude.{◌≡◌, ◌≤◌, length};
-ghost use Rattle.kmeans_layout.specs.Sized.{Fit, work_u32_total};
+ghost use Rattle.std.specs.Prelude.{◌≡◌, ◌<◌, ◌≤◌, length};
+ghost use Rattle.rows.specs.Rows.{row_of};
+ghost use Rattle.kmeans_layout.specs.Sized.{work_u32_total};
 ghost use Rattle.mixture_run.specs.Sized.{Sized, total};
 
-use limits::{Leaves, Shape};
+use kmeans_layout::Problem;
 
 #[derive(Drop)]
 pub struct Area<'a> {
@@ -22,17 +23,12 @@ pub struct Area<'a> {
 
 impl<'a> Area<'a> {
     // An area in the two lent arrays.
-    pub fn of(
-        shape: Shape,
-        leaves: Leaves<'a>,
-        work: &'a mut [f64],
-        work_u32: &'a mut [u32],
-    ) -> Area<'a>
-        requires fit { Fit shape.m shape.d leaves.weights.now leaves.coords.now }
-        requires room { (total shape.m shape.k shape.d ≤ length work.old)
-            × (work_u32_total shape.m shape.k ≤ length work_u32.old) }
-        ensures { (result.warm.shape ≡ shape) × (result.warm.leaves ≡ leaves.entry) }
+    pub fn of(problem: Problem<'a>, work: &'a mut [f64], work_u32: &'a mut [u32]) -> Area<'a>
+        requires { let z = problem.shape in
+            (total z.m z.k z.d ≤ length work.old) × (work_u32_total z.m z.k ≤ length work_u32.old) }
+        ensures { (result.warm.shape ≡ problem.entry.shape) × (result.warm.leaves ≡ problem.entry.leaves) }
     {
+        let shape = problem.shape;
         let k = shape.k;
         let (own, rest) = work.split_at_mut(kmeans_layout::total(shape));
         let (weights, rest) = rest.split_at_mut(k);
@@ -42,7 +38,7 @@ impl<'a> Area<'a> {
         let (norms, rest) = rest.split_at_mut(k);
         let (responsibilities, _) = rest.split_at_mut(shape.m * k);
         Area {
-            warm: kmeans_layout::Area::of(shape, leaves, own, work_u32),
+            warm: kmeans_layout::Area::of(problem, own, work_u32),
             weights,
             kappas,
             log_coefficients,
@@ -50,5 +46,14 @@ impl<'a> Area<'a> {
             norms,
             responsibilities,
         }
+    }
+
+    // Leaf i's responsibilities.
+    #[tactic(auto, using(rows::proofs::Rows::row_within))]
+    pub fn leaf_responsibilities(&self, i: usize) -> &[f64]
+        requires { i < self.now.warm.shape.m }
+        ensures { result.now ≡ row_of self.now.responsibilities.now self.now.warm.shape.k i }
+    {
+        rows::row(self.responsibilities, self.warm.shape.k, i)
     }
 }

@@ -2,9 +2,8 @@
 // 'Mixture'): the warm start, then rounds of E-step and M-step.
 #![tactic(auto)]
 
-ghost use Rattle.std.specs.Prelude.{◌≡◌, true, ◌≤◌};
+ghost use Rattle.std.specs.Prelude.{◌≡◌, true};
 ghost use Rattle.std.specs.Float.{inf};
-ghost use Rattle.limits.specs.Limits.{most_rounds};
 ghost use Rattle.mixture_run.specs.Mixture.{em_round, stops_at, em_from};
 ghost use Rattle.mixture_run.specs.Areas.{parts_of, model_of, em_of, Same, once_in, RunDone};
 
@@ -15,6 +14,7 @@ mod maximization;
 mod start;
 
 use layout::Area;
+use limits::Rounds;
 use mixture_kappa::{Kappa, Settings};
 
 // The rounds of the warm start.
@@ -44,7 +44,6 @@ fn stops_at(it: usize, old: f64, new: f64) -> bool
 // Rounds until the log-likelihood stands, at most `rounds`; the last log-likelihood.
 #[tactic(auto, using(crate::proofs::Rounds::em_turn, crate::proofs::Rounds::em_end))]
 fn em(area: &mut Area, kappa: Kappa, rounds: usize) -> f64
-    requires { rounds ≤ most_rounds }
     ensures same { Same area.old area.new }
     ensures rounds_done { let z = area.old.warm.shape in
         let l = area.old.warm.leaves in
@@ -73,11 +72,10 @@ pub struct RunEnd {
 
 // One run: the warm start, the concentrations of its groups, and the rounds. What it found stays in the area.
 pub fn movmf_once(area: &mut Area, s: Settings) -> RunEnd
-    requires { s.rounds ≤ most_rounds }
     ensures same { Same area.old area.new }
     ensures done { RunDone (once_in area.old s) (parts_of area.new) result }
 {
-    let warm = kmeans_lloyd::run(&mut area.warm, s.seed, WARM_ROUNDS);
+    let warm = kmeans_lloyd::run(&mut area.warm, s.seed, Rounds { most: WARM_ROUNDS });
     let kappa = s.kappa;
     start::init_kappas(area, kappa);
     start::clear(area);

@@ -24,7 +24,7 @@ fn share(area: &Area, i: usize, c: usize) -> f64
     ensures { result ≡ mul binary64 (get_or area.now.warm.leaves.weights.now i nan)
         (get_or (row_of area.now.responsibilities.now area.now.warm.shape.k i) c nan) }
 {
-    area.warm.leaves.weights[i] * area.responsibilities[i * area.warm.shape.k + c]
+    area.warm.leaves.weights[i] * area.leaf_responsibilities(i)[c]
 }
 
 // Group c gains a leaf, of this weight.
@@ -52,10 +52,7 @@ fn accumulate_leaf(area: &mut Area, i: usize)
         parts_of area.new ≡ with_statistics (accumulate_leaf z.d w (row_of p.resp z.k i)
         x (statistics_of p) z.k) p }
 {
-    let leaves = area.warm.leaves;
-    let d = area.warm.shape.d;
-    let from = i * d;
-    let x = &leaves.coords[from..from + d];
+    let x = area.warm.leaf(i);
     for c in 0..area.warm.shape.k {
         let w = share(area, i, c);
         accumulate_group(area, c, w, x);
@@ -79,17 +76,16 @@ fn accumulate(area: &mut Area)
     }
 }
 
-// The length of each resultant.
-#[tactic(auto, unfolding(rows::specs::Tabulate::tabulate))]
+// The length of each resultant. The area of the warm start is only read: it is lent as `&mut`, so that it is known that
+// it stays.
 pub(crate) fn put_norms(area: &mut Area)
     ensures same { Same area.old area.new }
     ensures parts { let z = area.old.warm.shape in
         let p = parts_of area.old in
         parts_of area.new ≡ with_norms (norms_up_to p.sums z.d z.k) p }
 {
-    for c in 0..area.warm.shape.k {
-        area.norms[c] = kmeans_sums::sum_norm(&area.warm, c);
-    }
+    let warm = &mut area.warm;
+    rows::put(area.norms, |c| kmeans_sums::sum_norm(warm, c));
 }
 
 // 1 / k.
@@ -118,8 +114,7 @@ fn whole_weight(area: &Area) -> f64
     vector::sum(area.totals)
 }
 
-// The weight of each group.
-#[tactic(auto, unfolding(rows::specs::Tabulate::tabulate))]
+// The weight of each group. The totals are only read, and lent as `&mut` for the same reason.
 fn put_weights(area: &mut Area, whole: f64)
     ensures same { Same area.old area.new }
     ensures parts { let z = area.old.warm.shape in
@@ -127,9 +122,8 @@ fn put_weights(area: &mut Area, whole: f64)
         parts_of area.new ≡ with_weights (tabulate (weight_at z.k whole p.totals) z.k) p }
 {
     let k = area.warm.shape.k;
-    for c in 0..k {
-        area.weights[c] = weight_by(area.totals[c], whole, k);
-    }
+    let totals = &mut *area.totals;
+    rows::put(area.weights, |c| weight_by(totals[c], whole, k));
 }
 
 // The direction of group c: its resultant over this length, where that is above 0.
@@ -148,6 +142,7 @@ fn redirect_group(warm: &mut kmeans_layout::Area, c: usize, n: f64)
     let at = c * d;
     if n > 0.0 {
         rows::copy_part(warm.centers, warm.sums, at, d);
+        // Written, so cut here; rows says why.
         vector::divide_by(&mut warm.centers[at..at + d], n);
     }
 }

@@ -9,7 +9,8 @@ use super::layout::Area;
 use super::{concentration, maximization};
 use mixture_kappa::Kappa;
 
-// The weights of the groups that the labels make.
+// The weights of the groups that the labels make. The leaves go by number: labels lent to an iterator would no longer
+// be known.
 #[tactic(auto, using(crate::proofs::LabelTotals::totals_turn), unfolding(crate::specs::Fits::label_totals_up_to))]
 fn label_totals(area: &mut Area)
     ensures same { Same area.old area.new }

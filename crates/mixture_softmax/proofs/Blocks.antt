@@ -7,7 +7,7 @@ use native.Mathlib.Nat.{add-mul, mul-le-mul_right}
 use native.Mathlib.Omega.{arith}
 use lib.ListN.{length, length-map, take, drop}
 use lib.Seq.{take_at, drop_at, drop-drop, get_or-take, get_or-drop}
-use lib.Ieee.{Float, nan}
+use lib.Ieee.{Float, nan, binary64, sub}
 use Rattle.exponential.specs.Exponential.{exp_of}
 use Rattle.rows.specs.Rows.{part, put_part, row_of}
 use Rattle.rows.proofs.Rows.{row_within, length_part, part_take}
@@ -15,30 +15,23 @@ use Rattle.mixture_softmax.specs.Softmax.{shares_of, log_sum_exp}
 use Rattle.mixture_softmax.specs.Leaves.{joined, weighed, log_sum_at, shares_at, shares_up_to, logs_up_to}
 use Rattle.mixture_softmax.specs.Blocks.{less_by, from_greatest, from_greatest_at, from_greatests, log_sum_over, log_over_at, from_log_at}
 use Rattle.mixture_softmax.specs.Blocks.{from_logs, logs_over, Block}
-use Rattle.mixture_softmax.proofs.Softmax.{less_length, shares_length, shares_by, log_sum_over_law}
+use Rattle.mixture_softmax.proofs.Softmax.{shares_length, shares_by, log_sum_over_law}
 use Rattle.mixture_softmax.proofs.Joined.{joined_length, joined_row, joined_turn, joined_map, joined_same, joined_more, weighed_same}
 use Rattle.mixture_softmax.proofs.Joined.{weighed_more}
-
--- the softmax of a row where it stands, by what it is as the code cuts it
-pub leaf_done : (e rows v : List Float) (at k : ℕ) (r : Float) → r ≡ log_sum_over (part rows at (at + k - at)) (part e at (at + k - at))
-    → v ≡ less_by r (part rows at (at + k - at))
-    → (r ≡ log_sum_over (part rows at k) (part e at k)) × (put_part e at (at + k - at) v ≡ put_part e at k (less_by r (part rows at k)))
-leaf_done e rows v at k r p q =
-    let n : at + k - at ≡ k = omega arith in
-    (rw n at p, rw (q, n))
 
 module _ (k : ℕ) (rows : List Float) (m : ℕ) (long : length rows ≡ m * k) where
   -- a row less a number is k elements long
   less_row : (g : Float) (i : ℕ) → i < m → length (less_by g (row_of rows k i)) ≡ k
-  less_row g i h = less_length g (row_of rows k i) ∙ length_part rows (i * k) k (omega (arith, row_within i m k h))
+  less_row g i h =
+      length-map (row_of rows k i) (λ (x : Float). sub binary64 x g)
+      ∙ length_part rows (i * k) k (omega (arith, row_within i m k h))
 
   -- a turn of `less_greatests`
   pub greatests_turn : (e₀ e v : List Float) (i n : ℕ) → i < m → n ≡ k → e ≡ from_greatests k rows i ++ drop (i * k) e₀
-      → v ≡ from_greatest (part rows (i * k) n)
+      → v ≡ from_greatest_at k rows i
       → put_part e (i * k) n v ≡ from_greatests k rows (i + 1) ++ drop ((i + 1) * k) e₀
   greatests_turn e₀ e v i n h p q r =
-      joined_turn (from_greatest_at k rows) k i n e₀ e v (λ j g. less_row _ j (omega arith)) p q
-      (r ∙ ap (λ (x : ℕ). from_greatest (part rows (i * k) x)) p)
+      joined_turn (from_greatest_at k rows) k i n e₀ e v (λ j g. less_row _ j (omega arith)) p q r
 
   -- a turn of `less_log_sums`
   module _ (e₀ e : List Float) (i : ℕ) (h : i < m) (q : e ≡ from_logs k rows e₀ i ++ drop (i * k) e₀) (lse : Float)

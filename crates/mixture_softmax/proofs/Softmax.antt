@@ -14,11 +14,6 @@ use Rattle.rows.specs.Rows.{put_part}
 use Rattle.mixture_softmax.specs.Softmax.{exp_sum_from, shares_of, log_sum_exp}
 use Rattle.mixture_softmax.specs.Blocks.{less_by, log_sum_over, from_greatest}
 
--- ---- lengths
-pub less_length : (g : Float) (row : List Float) → length (less_by g row) ≡ length row
-less_length g [] = refl
-less_length g (x ∷ row) = ap suc (less_length g row)
-
 pub shares_length : (lse : Float) (row : List Float) → length (shares_of lse row) ≡ length row
 shares_length lse [] = refl
 shares_length lse (x ∷ row) = ap suc (shares_length lse row)

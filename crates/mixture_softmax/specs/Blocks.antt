@@ -1,6 +1,6 @@
 -- What the inner functions ask and promise one another, a block of leaves at a time.
 -- No definition of document 01 stands on this file.
-use Rattle.std.specs.Prelude.{◌≡◌, List, [], ◌∷◌, true, ℕ, ◌*◌, ◌≤◌, Float}
+use Rattle.std.specs.Prelude.{◌≡◌, List, true, map, ℕ, ◌*◌, ◌≤◌, Float}
 use Rattle.std.specs.Float.{inf, binary64}
 use Rattle.std.specs.Float.Ieee.{add, sub}
 use Rattle.float.specs.Arithmetic.{plus_zero, sum_from}
@@ -11,8 +11,7 @@ use Rattle.mixture_softmax.specs.Leaves.{joined, weighed}
 
 -- x − g of each element
 abbrev pub less_by : Float → List Float → List Float
-less_by g [] = []
-less_by g (x ∷ xs) = sub binary64 x g ∷ less_by g xs
+less_by g row = map (λ (x : Float). sub binary64 x g) row
 
 -- a row less its greatest, and the first n rows
 abbrev pub from_greatest : List Float → List Float

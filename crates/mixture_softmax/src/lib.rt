@@ -39,9 +39,7 @@ fn less(e: &mut [f64], row: &[f64], g: f64)
     requires { Alike e.old row.now }
     ensures { e.new ≡ less_by g row.now }
 {
-    for (j, x) in row.iter().enumerate() {
-        e[j] = x - g;
-    }
+    rows::put(e, |j| row[j] - g);
 }
 
 // Eight elements become their exponentials.
@@ -74,14 +72,16 @@ fn less_greatest(e: &mut [f64], row: &[f64])
     less(e, row, greatest(row));
 }
 
-// The m rows of e become the rows less their greatest.
+// The m rows of e become the rows less their greatest. A struct of rows, m and k was tried: all contracts kept their
+// clause about e, and had to name its slice at the entry, so they got longer.
 fn less_greatests(e: &mut [f64], rows: &[f64], m: usize, k: usize)
     requires { Beside (length e.old) (length rows.now) m k }
     ensures { e.new ≡ from_greatests k rows.now m ++ drop (m * k) e.old }
 {
     for i in 0..m {
         let at = i * k;
-        less_greatest(&mut e[at..at + k], &rows[at..at + k]);
+        // Written, so cut here; rows says why.
+        less_greatest(&mut e[at..at + k], rows::row(rows, k, i));
     }
 }
 
@@ -103,7 +103,8 @@ fn leaf_log_sum(e: &mut [f64], rows: &[f64], i: usize, m: usize, k: usize) -> f6
         × (e.new ≡ put_part e.old (i * k) k (less_by result (row_of rows.now k i))) }
 {
     let at = i * k;
-    less_log_sum(&mut e[at..at + k], &rows[at..at + k])
+    // Written, so cut here; rows says why.
+    less_log_sum(&mut e[at..at + k], rows::row(rows, k, i))
 }
 
 // The rows of e become the rows less their log-sums; l, with the weight of each leaf times its log-sum added in order.
@@ -116,8 +117,8 @@ fn less_log_sums(e: &mut [f64], rows: &[f64], weights: &[f64], k: usize, l: f64)
 {
     let m = weights.len();
     let mut s = l;
-    for i in 0..m {
-        s = s + weights[i] * leaf_log_sum(e, rows, i, m, k);
+    for (i, w) in weights.iter().enumerate() {
+        s = s + w * leaf_log_sum(e, rows, i, m, k);
     }
     s
 }

@@ -12,13 +12,14 @@ ghost use Rattle.movmf.specs.Refusals.{refusal_of};
 ghost use Rattle.movmf.specs.Outcome.{answered, outcome};
 ghost use Rattle.movmf.specs.Answers.{AnswersWith, AnswerLabelsFirst};
 
+use kmeans_layout::Problem;
 use limits::{Leaves, Refusal, Shape};
 use mixture_kappa::Settings;
 use mixture_outputs::Arrays;
 use mixture_restarts::Halves;
 
 // What a call finds: k, the log-likelihood and the counts.
-#[derive(Clone, Copy)]
+#[derive(Clone, Copy, Debug, PartialEq)]
 pub struct Fitted {
     pub k: usize,
     pub loglik: f64,
@@ -29,7 +30,6 @@ pub struct Fitted {
 // say that their lengths stay.
 fn fit(
     leaves: Leaves,
-    d: usize,
     k: usize,
     s: Settings,
     o: &mut Arrays,
@@ -38,13 +38,15 @@ fn fit(
 ) -> Result<Fitted, Refusal>
     ensures same { SameArrays o.old o.new }
     ensures fitted { answered result (outputs_of o.new) ≡ outcome (outputs_of o.old) leaves.entry.weights.now
-        leaves.entry.coords.now d k s (length work.old) (length work_u32.old) }
+        leaves.entry.coords.now leaves.entry.d k s (length work.old) (length work_u32.old) }
     ensures labels_first { AnswerLabelsFirst (length leaves.entry.weights.now) result (outputs_of o.new) }
 {
     let l = o.lengths(work.len(), work_u32.len());
     let m = leaves.weights.len();
-    mixture_outputs::check(leaves, d, k, limits::groups_ok(k, m), s, l)?;
-    let mut halves = Halves::of(Shape { m, k, d }, leaves, work, work_u32);
+    let d = leaves.d;
+    mixture_outputs::check(leaves, k, limits::groups_ok(k, m), s, l)?;
+    let shape = Shape { m, k, d };
+    let mut halves = Halves::of(Problem { shape, leaves }, work, work_u32);
     let r = mixture_restarts::four_runs(&mut halves, s);
     mixture_outputs::fill_outputs(o, mixture_restarts::kept(&halves, r));
     let loglik = mixture_restarts::kept_loglik(r);
@@ -93,7 +95,8 @@ pub fn movmf_with(
         concentrations,
         logw,
     };
-    fit(Leaves { weights, coords }, d, k, s, &mut o, work, work_u32)
+    let leaves = Leaves { weights, coords, d };
+    fit(leaves, k, s, &mut o, work, work_u32)
 }
 
 // The same, each group with a concentration of its own.

@@ -2,10 +2,18 @@
 use Rattle.std.specs.Prelude.{◌≡◌, List, Bool, cond, ℕ, zero, suc, length, get_or, Float}
 use Rattle.std.specs.Float.{nan}
 use Rattle.std.specs.Float.Ieee.{lt}
+use Rattle.pick.specs.declared.Best.{Best}
 
 -- a closure's answers are this test's
 abbrev pub Tests : (Float → Float → Bool → Type 0) → (Float → Float → Bool) → Type 0
 Tests answers test = (x y : Float) (t : Bool) → answers x y t → t ≡ test x y
+
+-- Of the elements looked at the best, which is the one that passes all others, its place, and the next. Element v at
+-- place i becomes the best where it passes it, and that the next; else the next, where it passes that.
+unfoldable pub best_with : (passes : Float → Float → Bool) → Best → ℕ → Float → Best
+best_with passes b i v =
+    cond (passes v b.value) (record { index = i; value = v; next = b.value })
+    (cond (passes v b.next) (record { index = b.index; value = b.value; next = v }) b)
 
 -- The place held among the first n elements, where an element takes the place only if it passes the one held.
 module _ (passes : Float → Float → Bool) (v : List Float) where

@@ -1,9 +1,9 @@
 // The places that vmf.rs picks in a vector, on lent slices of f64: the greatest, the least, and one with a chance in
-// proportion to its weight.
+// proportion to its weight; and the best with the next of numbers that come one by one.
 #![tactic(auto)]
 
-ghost use Rattle.std.specs.Prelude.{◌≡◌, max, Bool, Float};
-ghost use Rattle.pick.specs.Places.{Tests, place_of, argmax_of, argmin_of};
+ghost use Rattle.std.specs.Prelude.{◌≡◌, Bool, Float};
+ghost use Rattle.pick.specs.Places.{Tests, best_with, place_of, argmax_of, argmin_of};
 ghost use Rattle.pick.specs.Pick.{pick_of, pick_from};
 
 // From the first place on, an element takes the place where it passes the one held; the place held at the end.
@@ -34,6 +34,36 @@ pub fn argmin(v: &[f64]) -> usize
     place_by(v, |x, held| x < held)
 }
 
+// Of the elements looked at the best, which is the one that passes all others by a test, its place, and the next.
+#[derive(Clone, Copy)]
+pub struct Best {
+    pub index: usize,
+    pub value: f64,
+    pub next: f64,
+}
+
+impl Best {
+    // With element v at place i: the best where it passes it by the test, else the next where it passes that.
+    #[tactic(auto, unfolding(crate::specs::Places::best_with))]
+    pub fn with<F: Fn(f64, f64) -> bool>(self, i: usize, v: f64, passes: F) -> Best
+        requires { F.IsAlwaysCallable passes }
+        ensures { (test : Float → Float → Bool) → Tests (λ x y t. F.post passes x y t) test
+            → result ≡ best_with test self i v }
+    {
+        if passes(v, self.value) {
+            return Best {
+                index: i,
+                value: v,
+                next: self.value,
+            };
+        }
+        if passes(v, self.next) {
+            return Best { next: v, ..self };
+        }
+        self
+    }
+}
+
 // What a pick answers: the place, and the generator after its draw.
 #[derive(Clone, Copy)]
 pub struct Picked {
@@ -55,13 +85,6 @@ fn pick_at(w: &[f64], start: f64) -> usize
     w.len().saturating_sub(1)
 }
 
-// n, and 1 for 0.
-fn at_least_one(n: usize) -> usize
-    ensures { result ≡ max n 1 }
-{
-    n.max(1)
-}
-
 // A place with a chance in proportion to its weight, by one draw from the generator.
 pub fn weighted_pick(w: &[f64], generator: u64) -> Picked
     ensures { result ≡ pick_of w.now generator }
@@ -70,7 +93,7 @@ pub fn weighted_pick(w: &[f64], generator: u64) -> Picked
     let drawn = rng::draw::<u64>(generator);
     if total <= 0.0 {
         return Picked {
-            index: drawn.out as usize % at_least_one(w.len()),
+            index: drawn.out as usize % w.len().max(1),
             generator: drawn.state,
         };
     }

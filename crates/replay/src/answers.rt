@@ -1,120 +1,71 @@
 // What the three fits answer, and what a case says of it.
+use super::case::Case;
 use super::outputs::{Form, Place};
 use auto::{Chosen, NotChosen};
 use limits::Refusal;
-use words::{is_number, plus, word};
-
-// What a fit found: the number of groups, 0 where it isn't asked; the cohesion or the log-likelihood; the score.
-#[derive(Clone, Copy)]
-struct Found {
-    k: u64,
-    x: f64,
-    score: f64,
-}
-
-// What a fit that isn't refused answers: what it found, if anything, and the counts.
-#[derive(Clone, Copy)]
-pub(crate) struct Answer {
-    found: Option<Found>,
-    counts: counts::Counts,
-}
+use words::plus;
 
 // Whether the counts are the words from word `at` on.
-fn counts_agree(c: counts::Counts, case: &[u64], at: usize) -> bool {
-    c.made == word(case, at) && c.saved == word(case, plus(at, 1))
+fn counts_agree(c: counts::Counts, case: Case, at: usize) -> bool {
+    c.made == case.word(at) && c.saved == case.word(plus(at, 1))
 }
 
-// Whether something was found in k groups, which has the words from word `at` on.
-fn found_agrees(a: Answer, k: u64, case: &[u64], at: usize) -> bool {
-    match a.found {
-        Some(f) => {
-            f.k == k && is_number(f.x, case, at) && counts_agree(a.counts, case, plus(at, 1))
-        }
-        None => false,
-    }
-}
-
-// Whether an answer with k groups has the words from word `at` on: the place after them, of that form.
-pub(crate) fn answer_agrees(
-    a: Option<Answer>,
-    k: u64,
-    case: &[u64],
-    at: usize,
-    form: Form,
-) -> Option<Place> {
-    if !found_agrees(a?, k, case, at) {
+// Whether the answer is a number and the counts: the place after them, of that form.
+fn answer_agrees(x: f64, counts: counts::Counts, case: Case, form: Form) -> Option<Place> {
+    if !case.answer_is(x) || !counts_agree(counts, case, plus(case.ins, 1)) {
         return None;
     }
     Some(Place {
-        at: plus(at, 3),
+        at: plus(case.ins, 3),
         form,
     })
 }
 
-// Whether the number kept, its log-likelihood and its score are the words from word `at` on; only the number, which is
-// 0, where none is kept.
-fn kept_agrees(found: Option<Found>, case: &[u64], at: usize) -> bool {
-    match found {
-        Some(f) => {
-            f.k == word(case, at)
-                && is_number(f.x, case, plus(at, 1))
-                && is_number(f.score, case, plus(at, 2))
-        }
-        None => word(case, at) == 0,
-    }
+// Whether the answer is the cohesion and the counts: the place after them, of words.
+pub(crate) fn clustering_agrees(
+    r: Result<spherical::Clustered, Refusal>,
+    case: Case,
+) -> Option<Place> {
+    let c = r.ok()?;
+    answer_agrees(c.cohesion, c.counts, case, Form::Words)
 }
 
-// Whether the answer is what the words from word `at` on say: the number, 0 where none is kept, its log-likelihood and
-// score, and the counts. The place after them, of digests.
-pub(crate) fn choice_agrees(a: Option<Answer>, case: &[u64], at: usize) -> Option<Place> {
-    let a = a?;
-    if !kept_agrees(a.found, case, at) || !counts_agree(a.counts, case, plus(at, 3)) {
+// Whether the fit has k groups, and the answer is the log-likelihood and the counts: the place after them, of that
+// form.
+pub(crate) fn fit_agrees(
+    r: Result<movmf::Fitted, Refusal>,
+    k: u64,
+    case: Case,
+    form: Form,
+) -> Option<Place> {
+    let f = r.ok()?;
+    if f.k as u64 != k {
+        return None;
+    }
+    answer_agrees(f.loglik, f.counts, case, form)
+}
+
+// Whether the answer begins with the number kept, its log-likelihood and its score.
+fn chosen_agrees(c: Chosen, case: Case) -> bool {
+    c.k as u64 == case.word(case.ins)
+        && case.is_number(c.loglik, plus(case.ins, 1))
+        && case.is_number(c.score, plus(case.ins, 2))
+}
+
+// Whether the answer is the number, 0 where none is kept, its log-likelihood and score, and the counts. The place after
+// them, of digests.
+pub(crate) fn choice_agrees(r: Result<Chosen, NotChosen>, case: Case) -> Option<Place> {
+    let at = plus(case.ins, 3);
+    let same = match r {
+        Ok(c) => chosen_agrees(c, case) && counts_agree(c.counts, case, at),
+        Err(NotChosen::Unscored(n)) => case.word(case.ins) == 0 && counts_agree(n, case, at),
+        Err(NotChosen::Refused(_)) => false,
+    };
+    if !same {
         return None;
     }
     Some(Place {
-        at: plus(at, 5),
+        at: plus(case.ins, 5),
         form: Form::Digest,
     })
-}
-
-pub(crate) fn clustered(r: Result<spherical::Clustered, Refusal>) -> Option<Answer> {
-    let c = r.ok()?;
-    Some(Answer {
-        found: Some(Found {
-            k: 0,
-            x: c.cohesion,
-            score: 0.0,
-        }),
-        counts: c.counts,
-    })
-}
-
-pub(crate) fn fitted(r: Result<movmf::Fitted, Refusal>) -> Option<Answer> {
-    let f = r.ok()?;
-    Some(Answer {
-        found: Some(Found {
-            k: f.k as u64,
-            x: f.loglik,
-            score: 0.0,
-        }),
-        counts: f.counts,
-    })
-}
-
-pub(crate) fn chosen(r: Result<Chosen, NotChosen>) -> Option<Answer> {
-    match r {
-        Ok(c) => Some(Answer {
-            found: Some(Found {
-                k: c.k as u64,
-                x: c.loglik,
-                score: c.score,
-            }),
-            counts: c.counts,
-        }),
-        Err(NotChosen::Refused(_)) => None,
-        Err(NotChosen::Unscored(counts)) => Some(Answer {
-            found: None,
-            counts,
-        }),
-    }
 }

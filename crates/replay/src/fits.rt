@@ -1,10 +1,11 @@
 // Cases of the three fits.
 ghost use Rattle.std.specs.Prelude.{◌≡◌};
 
+use super::case::Case;
 use super::outputs::{Form, Place};
 use super::{answers, outputs};
 use limits::Leaves;
-use words::{plus, word};
+use words::plus;
 
 // The product of two counts.
 fn times(a: usize, b: usize) -> usize {
@@ -13,27 +14,25 @@ fn times(a: usize, b: usize) -> usize {
 
 // Whether the test holds of the leaves: word 0 is m and word 1 is d, and m weights and m * d coordinates stand from
 // word `from` on.
-fn holds<F: FnOnce(Leaves) -> bool>(case: &[u64], from: usize, test: F) -> bool
+fn holds<F: FnOnce(Leaves) -> bool>(case: Case, from: usize, test: F) -> bool
     requires { F.IsAlwaysCallable test }
 {
-    let m = word(case, 0) as usize;
-    let n = times(m, word(case, 1) as usize);
+    let m = case.word(0) as usize;
+    let d = case.word(1) as usize;
+    let n = times(m, d);
     let mut weights = [0.0; 128];
     let mut coords = [0.0; 1024];
-    let a = words::load(&mut weights, case, from, m, m);
-    let b = words::load(&mut coords, case, plus(from, m), n, n);
     test(Leaves {
-        weights: &weights[..a],
-        coords: &coords[..b],
+        weights: words::load(&mut weights, case.words, from, m, m),
+        coords: words::load(&mut coords, case.words, plus(from, m), n, n),
+        d,
     })
 }
 
 // Spherical k-means: m, d, k, rounds, restarts, seed, m weights, m * d coordinates; cohesion, made, saved, the labels,
-// the directions. The answer's words are from word `at` on. The outputs are longer than needed, and their rest is
-// looked at too.
-fn groups_agree(case: &[u64], leaves: Leaves, at: usize) -> Option<Place> {
-    let d = word(case, 1) as usize;
-    let k = word(case, 2) as usize;
+// the directions. The outputs are longer than needed, and their rest is looked at too.
+fn groups_agree(case: Case, leaves: Leaves) -> Option<Place> {
+    let k = case.word(2) as usize;
     let mut labels = [7u32; 132];
     let mut directions = [7.5; 640];
     let mut work = [0.0; 12288];
@@ -41,28 +40,26 @@ fn groups_agree(case: &[u64], leaves: Leaves, at: usize) -> Option<Place> {
     let r = spherical::spherical_kmeans(
         leaves.weights,
         leaves.coords,
-        d,
+        leaves.d,
         k,
-        word(case, 3) as usize,
-        word(case, 4) as usize,
-        word(case, 5),
+        case.word(3) as usize,
+        case.word(4) as usize,
+        case.word(5),
         &mut labels,
         &mut directions,
         &mut work,
         &mut work_u32,
     );
-    let p = answers::answer_agrees(answers::clustered(r), 0, case, at, Form::Words)?;
+    let p = answers::clustering_agrees(r, case)?;
     let q = outputs::labels_agree(&labels, leaves.weights.len(), case, p)?;
-    outputs::rows_agree(&directions, times(k, d), case, q)
+    outputs::rows_agree(&directions, times(k, leaves.d), case, q)
 }
 
-pub(crate) fn spherical_agrees(case: &[u64], ins: usize) -> bool {
-    holds(case, 6, |leaves| {
-        groups_agree(case, leaves, ins).is_some()
-    })
+pub(crate) fn spherical_agrees(case: Case) -> bool {
+    holds(case, 6, |leaves| { groups_agree(case, leaves).is_some() })
 }
 
-// A function and no From, since Kappa is of another crate.
+// A function and no From: that any number but 0 is Shared is this list's way alone.
 fn kappa_of(x: u64) -> mixture_kappa::Kappa {
     if x == 0 {
         mixture_kappa::Kappa::Free
@@ -86,12 +83,6 @@ struct Shape {
     m: usize,
     k: usize,
     d: usize,
-}
-
-// The outputs of a case with m labels and k groups: word 1 has the number of coordinates.
-fn shape_of(case: &[u64], m: usize, k: usize) -> Shape {
-    let d = word(case, 1) as usize;
-    Shape { m, k, d }
 }
 
 // The six outputs of a mixture fit, longer than needed: their rest is looked at too. Those of edge_cases have other
@@ -120,7 +111,7 @@ impl Outputs {
     }
 
     // Whether those of that shape are as p says, and the rest as before: the place after them.
-    fn agree(&self, s: Shape, case: &[u64], p: Place) -> Option<Place> {
+    fn agree(&self, s: Shape, case: Case, p: Place) -> Option<Place> {
         let p = outputs::labels_agree(&self.labels, s.m, case, p)?;
         let p = outputs::rows_agree(&self.responsibilities, times(s.m, s.k), case, p)?;
         let p = outputs::rows_agree(&self.weights, s.k, case, p)?;
@@ -132,8 +123,12 @@ impl Outputs {
 
 // The mixture fit: m, d, k, rounds, seed, Kappa, m weights, m * d coordinates; the log-likelihood, made, saved, and the
 // six outputs in that form.
-fn fit_agrees(case: &[u64], leaves: Leaves, at: usize, form: Form) -> Option<Place> {
-    let s = shape_of(case, leaves.weights.len(), word(case, 2) as usize);
+fn fit_agrees(case: Case, leaves: Leaves, form: Form) -> Option<Place> {
+    let s = Shape {
+        m: leaves.weights.len(),
+        k: case.word(2) as usize,
+        d: leaves.d,
+    };
     let mut o = Outputs::new();
     let mut work = [0.0; 18432];
     let mut work_u32 = [0u32; 384];
@@ -142,7 +137,7 @@ fn fit_agrees(case: &[u64], leaves: Leaves, at: usize, form: Form) -> Option<Pla
         leaves.coords,
         s.d,
         s.k,
-        settings(word(case, 3), word(case, 4), word(case, 5)),
+        settings(case.word(3), case.word(4), case.word(5)),
         &mut o.labels,
         &mut o.responsibilities,
         &mut o.weights,
@@ -152,13 +147,13 @@ fn fit_agrees(case: &[u64], leaves: Leaves, at: usize, form: Form) -> Option<Pla
         &mut work,
         &mut work_u32,
     );
-    let p = answers::answer_agrees(answers::fitted(r), word(case, 2), case, at, form)?;
+    let p = answers::fit_agrees(r, case.word(2), case, form)?;
     o.agree(s, case, p)
 }
 
-pub(crate) fn mixture_agrees(case: &[u64], ins: usize, form: Form) -> bool {
+pub(crate) fn mixture_agrees(case: Case, form: Form) -> bool {
     holds(case, 6, |leaves| {
-        fit_agrees(case, leaves, ins, form).is_some()
+        fit_agrees(case, leaves, form).is_some()
     })
 }
 
@@ -169,9 +164,13 @@ fn labelled(k: usize, m: usize) -> usize {
 
 // The automatic fit: m, d, k_min, k_max, rounds, seed, Kappa, m weights, m * d coordinates;
 // the number, the log-likelihood, the score, made, saved, and a digest of each output.
-fn choice_agrees(case: &[u64], leaves: Leaves, at: usize) -> Option<Place> {
-    let k = word(case, at) as usize;
-    let s = shape_of(case, labelled(k, leaves.weights.len()), k);
+fn choice_agrees(case: Case, leaves: Leaves) -> Option<Place> {
+    let k = case.word(case.ins) as usize;
+    let s = Shape {
+        m: labelled(k, leaves.weights.len()),
+        k,
+        d: leaves.d,
+    };
     let mut o = Outputs::new();
     let mut work = [0.0; 8192];
     let mut work_u32 = [0u32; 384];
@@ -179,9 +178,9 @@ fn choice_agrees(case: &[u64], leaves: Leaves, at: usize) -> Option<Place> {
         leaves.weights,
         leaves.coords,
         s.d,
-        word(case, 2) as usize,
-        word(case, 3) as usize,
-        settings(word(case, 4), word(case, 5), word(case, 6)),
+        case.word(2) as usize,
+        case.word(3) as usize,
+        settings(case.word(4), case.word(5), case.word(6)),
         &mut o.labels,
         &mut o.responsibilities,
         &mut o.weights,
@@ -191,12 +190,10 @@ fn choice_agrees(case: &[u64], leaves: Leaves, at: usize) -> Option<Place> {
         &mut work,
         &mut work_u32,
     );
-    let p = answers::choice_agrees(answers::chosen(r), case, at)?;
+    let p = answers::choice_agrees(r, case)?;
     o.agree(s, case, p)
 }
 
-pub(crate) fn auto_agrees(case: &[u64], ins: usize) -> bool {
-    holds(case, 7, |leaves| {
-        choice_agrees(case, leaves, ins).is_some()
-    })
+pub(crate) fn auto_agrees(case: Case) -> bool {
+    holds(case, 7, |leaves| { choice_agrees(case, leaves).is_some() })
 }

@@ -1,10 +1,11 @@
 // Runs the oracle's list of cases (standard input; oracle/README.md says how it is made) and prints, for each kind, how
 // many cases agreed, bit for bit and all NaN as one. A word of the list is 16 hexadecimal digits and one byte after
 // them. A block is its kind, the numbers of words in and out of a case, the number of cases, and the cases; kind 0 ends
-// the list. The list is read case by case: `case` is its words in and then the answer.
+// the list. The list is read case by case.
 #![tactic(auto)]
 
 mod answers;
+mod case;
 mod files;
 mod fits;
 mod kind;
@@ -12,39 +13,37 @@ mod numbers;
 mod outputs;
 mod vectors;
 
-ghost use Rattle.std.specs.Prelude.{◌≡◌, ◌≤◌, IfOk, OnErr};
-ghost use Rattle.words.specs.Words.{Counted};
-
+use case::Case;
 use kind::Kind;
 use outputs::Form;
 use std::io::Read;
 use std::{fmt, io};
 use words::{plus, word};
 
-// Whether a case agrees, which has that many words in.
-fn agrees(kind: Kind, case: &[u64], ins: usize) -> bool {
+// Whether a case agrees.
+fn agrees(kind: Kind, case: Case) -> bool {
     match kind {
-        Kind::Arithmetic(operation) => numbers::arithmetic_agrees(operation, case, ins),
+        Kind::Arithmetic(operation) => numbers::arithmetic_agrees(operation, case),
         Kind::Draw => numbers::draw_agrees(case),
         Kind::Draws => numbers::draws_agree(case),
         Kind::Product => numbers::product_agrees(case),
         Kind::RestartSeed => numbers::restart_seed_agrees(case),
-        Kind::Dot => vectors::dot_agrees(case, ins),
-        Kind::Norm => vectors::norm_agrees(case, ins),
-        Kind::Unit => vectors::unit_agrees(case, ins),
-        Kind::Argmax => vectors::argmax_agrees(case, ins),
-        Kind::Argmin => vectors::argmin_agrees(case, ins),
-        Kind::Pick => vectors::pick_agrees(case, ins),
-        Kind::LnGamma => numbers::ln_gamma_agrees(case, ins),
-        Kind::LnGammaHalf => numbers::ln_gamma_half_agrees(case, ins),
-        Kind::LogVmfNorm => numbers::log_vmf_norm_agrees(case, ins),
-        Kind::EstimateKappa => numbers::estimate_kappa_agrees(case, ins),
-        Kind::KappaMax => numbers::kappa_max_agrees(case, ins),
-        Kind::Spherical => fits::spherical_agrees(case, ins),
-        Kind::Mixture => fits::mixture_agrees(case, ins, Form::Words),
-        Kind::MixtureDigests => fits::mixture_agrees(case, ins, Form::Digest),
-        Kind::Auto => fits::auto_agrees(case, ins),
-        Kind::Listing => files::listing_agrees(case, ins),
+        Kind::Dot => vectors::dot_agrees(case),
+        Kind::Norm => vectors::norm_agrees(case),
+        Kind::Unit => vectors::unit_agrees(case),
+        Kind::Argmax => vectors::argmax_agrees(case),
+        Kind::Argmin => vectors::argmin_agrees(case),
+        Kind::Pick => vectors::pick_agrees(case),
+        Kind::LnGamma => numbers::ln_gamma_agrees(case),
+        Kind::LnGammaHalf => numbers::ln_gamma_half_agrees(case),
+        Kind::LogVmfNorm => numbers::log_vmf_norm_agrees(case),
+        Kind::EstimateKappa => numbers::estimate_kappa_agrees(case),
+        Kind::KappaMax => numbers::kappa_max_agrees(case),
+        Kind::Spherical => fits::spherical_agrees(case),
+        Kind::Mixture => fits::mixture_agrees(case, Form::Words),
+        Kind::MixtureDigests => fits::mixture_agrees(case, Form::Digest),
+        Kind::Auto => fits::auto_agrees(case),
+        Kind::Listing => files::listing_agrees(case),
         Kind::Unknown(_) => false,
     }
 }
@@ -57,21 +56,16 @@ struct Page {
 }
 
 impl Page {
-    // Reads words until `part` ends, and answers how many there were.
-    fn read_part(&mut self, mut part: impl Read + Drop) -> io::Result<usize>
-        ensures counted { IfOk result (λ n. (n ≤ 4096) × Counted n self.new.words) }
-        ensures err { OnErr result (self.new.words ≡ self.old.words) }
-    {
-        self.bytes.clear();
-        part.read_to_end(&mut self.bytes)?;
-        Ok(words::read(&mut self.words, &self.bytes))
+    // Reads words until `part` ends.
+    fn read_part(&mut self, mut part: impl Read + Drop) -> io::Result<&[u64]> {
+        let Page { bytes, words } = self;
+        bytes.clear();
+        part.read_to_end(bytes)?;
+        Ok(words::read(words, bytes))
     }
 
-    // Reads that many words, and answers how many there were; no more than 65,536 bytes hold, and a page.
-    fn read(&mut self, rt: &impl Input, count: usize) -> io::Result<usize>
-        ensures counted { IfOk result (λ n. (n ≤ 4096) × Counted n self.new.words) }
-        ensures err { OnErr result (self.new.words ≡ self.old.words) }
-    {
+    // Reads that many words, or as many as there are; no more than 65,536 bytes hold, and a page.
+    fn read(&mut self, rt: &impl Input, count: usize) -> io::Result<&[u64]> {
         let bytes = (count % 65536 * 17).min(65536);
         self.read_part(rt.reader().take(bytes as u64))
     }
@@ -140,15 +134,15 @@ fn block_of(words: &[u64]) -> Option<Block> {
 
 // The next block, if there is one.
 fn read_block(rt: &impl Input, page: &mut Page) -> io::Result<Option<Block>> {
-    let n = page.read(rt, 4)?;
-    Ok(block_of(&page.words[..n]))
+    Ok(block_of(page.read(rt, 4)?))
 }
 
 // Whether the next case agrees.
 fn run_case(rt: &impl Input, page: &mut Page, b: Block) -> io::Result<bool> {
     let width = plus(b.ins, b.outs);
-    let n = page.read(rt, width)?;
-    Ok(n == width && agrees(b.kind, &page.words[..n], b.ins))
+    let words = page.read(rt, width)?;
+    let case = Case { words, ins: b.ins };
+    Ok(words.len() == width && agrees(b.kind, case))
 }
 
 // How many of a block's cases agree.
@@ -177,6 +171,7 @@ fn run_block(
     })
 }
 
+// Runs the list's blocks; no more than 4096, so that it ends whatever the list says.
 fn run_list(rt: &(impl Input + Print), page: &mut Page) -> io::Result<()> {
     let mut tally = None;
     for _ in 0..4096 {

@@ -1,7 +1,8 @@
 // What a case says of an output: its words or a digest of them, and what lies behind it.
 ghost use Rattle.std.specs.Prelude.{◌≡◌};
 
-use words::{plus, word};
+use super::case::Case;
+use words::plus;
 
 // How an output stands in a case: its words, or one word that is a digest of them.
 #[derive(Clone, Copy, Debug, PartialEq, Eq)]
@@ -31,15 +32,15 @@ fn digested(h: u64, w: u64) -> u64 {
 }
 
 // The place after an output of n words, whose digest is h; none where the digest differs.
-fn past(p: Place, n: usize, h: u64, case: &[u64]) -> Option<Place> {
+fn past(p: Place, n: usize, h: u64, case: Case) -> Option<Place> {
     match p.form {
         Form::Words => Some(Place {
             at: plus(p.at, n),
-            form: p.form,
+            ..p
         }),
-        Form::Digest if h == word(case, p.at) => Some(Place {
+        Form::Digest if h == case.word(p.at) => Some(Place {
             at: plus(p.at, 1),
-            form: p.form,
+            ..p
         }),
         Form::Digest => None,
     }
@@ -47,9 +48,9 @@ fn past(p: Place, n: usize, h: u64, case: &[u64]) -> Option<Place> {
 
 // Whether element j of n, whose word is w, may stand there: one of the first n as the place says, one after them as
 // `rest`.
-fn stands(w: u64, j: usize, n: usize, rest: u64, case: &[u64], p: Place) -> bool {
+fn stands(w: u64, j: usize, n: usize, rest: u64, case: Case, p: Place) -> bool {
     if j < n {
-        return p.form == Form::Digest || w == word(case, plus(p.at, j));
+        return p.form == Form::Digest || w == case.word(plus(p.at, j));
     }
     w == rest
 }
@@ -60,7 +61,7 @@ fn agree<T: Copy, F: Fn(T) -> u64>(
     word_of: F,
     n: usize,
     rest: u64,
-    case: &[u64],
+    case: Case,
     p: Place,
 ) -> Option<Place>
     requires { F.IsAlwaysCallable word_of }
@@ -79,11 +80,11 @@ fn agree<T: Copy, F: Fn(T) -> u64>(
 }
 
 // Labels, the others still 7.
-pub(crate) fn labels_agree(v: &[u32], n: usize, case: &[u64], p: Place) -> Option<Place> {
+pub(crate) fn labels_agree(v: &[u32], n: usize, case: Case, p: Place) -> Option<Place> {
     agree(v, |x| u64::from(x), n, 7, case, p)
 }
 
 // The same of f64, the others still 7.5.
-pub(crate) fn rows_agree(v: &[f64], n: usize, case: &[u64], p: Place) -> Option<Place> {
+pub(crate) fn rows_agree(v: &[f64], n: usize, case: Case, p: Place) -> Option<Place> {
     agree(v, |x| float::bits_of(x), n, 0x401E_0000_0000_0000, case, p)
 }

@@ -1,5 +1,5 @@
 // The square root of an f64 (document 01, 'Arithmetic under the Rust'), by a loop over the 53 binary places of its Y:
-// of one root, of two in step and of four in step. It takes any f64.
+// of one root, or of any number of roots in step. It takes any f64.
 #![tactic(auto)]
 
 ghost use Rattle.std.specs.Prelude.{◌≡◌, ◌^◌, ◌≤◌, map, T};
@@ -41,18 +41,18 @@ fn place(s: Square, top: u64, less: u64) -> Square
     requires { Words top less s }
     ensures { Placed top s result }
 {
-    let over = std::num::wrapping_sub_u64(s.rest, s.step);
+    let over = s.rest.wrapping_sub(s.step);
     if over < 0x8000_0000_0000_0000 {
         Square {
             rest: over * 2,
             step: s.step + top * 3,
-            power: s.power,
+            ..s
         }
     } else {
         Square {
             rest: s.rest * 2,
-            step: std::num::wrapping_add_u64(s.step, less),
-            power: s.power,
+            step: s.step.wrapping_add(less),
+            ..s
         }
     }
 }
@@ -80,7 +80,7 @@ fn positive_roots<const N: usize>(x: [f64; N]) -> [f64; N]
     let mut s = x.map(begin);
     let mut top = TOP;
     while 0 < top {
-        let less = std::num::wrapping_sub_u64(0, top);
+        let less = top.wrapping_neg();
         s = s.map(|square| place(square, top, less));
         top = top / 2;
     }

@@ -1,16 +1,30 @@
 // Flat arrays and their rows (document 01, 'From generics and vectors to lent slices'): parts that are filled and
-// copied. Vectors of vectors are flat arrays with a row length; a row is lent as a part.
+// copied. Vectors of vectors are flat arrays with a row length; a row is lent as a part. A row that is only read is
+// lent by `row`; one that is written is cut where it is lent. There is no `row_mut`: a function that hands a cut back
+// as `&mut` has to say how the array ends (`ensures*`, Lends), and of a cut of a slice the borrow checker does not
+// prove that.
 #![tactic(auto)]
 
-ghost use Rattle.std.specs.Prelude.{◌≡◌, ◌+◌, ◌≤◌, ◌++◌, length, replicate, drop};
-ghost use Rattle.rows.specs.Rows.{Alike, part, put_part};
+ghost use Rattle.std.specs.Prelude.{◌≡◌, ℕ, ◌+◌, ◌*◌, ◌<◌, ◌≤◌, ◌++◌, length, replicate, drop};
+ghost use Rattle.rows.specs.Rows.{Alike, part, put_part, row_of};
+ghost use Rattle.rows.specs.Tabulate.{tabulate, Gives};
 
-// Every element becomes x.
+// Every element becomes x. The library's `fill` asks for a clone that can't fail, which a Copy type doesn't promise.
 pub fn fill<T: Copy>(v: &mut [T], x: T)
     ensures { v.new ≡ replicate (length v.old) x }
 {
-    for j in 0..v.len() {
-        v[j] = x;
+    for e in v.iter_mut() {
+        *e = x;
+    }
+}
+
+// Each element becomes the value of its place.
+pub fn put<T: Copy, F: Fn(usize) -> T>(v: &mut [T], value: F)
+    requires { (j : ℕ) → j < length v.old → F.pre value j }
+    ensures { (f : ℕ → T) → Gives (λ j x. F.post value j x) f (length v.old) → v.new ≡ tabulate f (length v.old) }
+{
+    for (j, e) in v.iter_mut().enumerate() {
+        *e = value(j);
     }
 }
 
@@ -37,4 +51,13 @@ pub fn copy_part<T: Copy>(to: &mut [T], from: &mut [T], at: usize, n: usize)
     ensures { (to.new ≡ put_part to.old at n (part from.old at n)) × (from.new ≡ from.old) }
 {
     to[at..at + n].copy_from_slice(&from[at..at + n]);
+}
+
+// Row i of rows of d elements.
+pub fn row<T>(v: &[T], d: usize, i: usize) -> &[T]
+    requires { i * d + d ≤ length v.now }
+    ensures { result.now ≡ row_of v.now d i }
+{
+    let at = i * d;
+    &v[at..at + d]
 }

@@ -9,8 +9,9 @@ ghost use Rattle.spherical.specs.Outcome.{Outcome, outcome};
 ghost use Rattle.spherical.specs.Answers.{AnswersWith};
 ghost use Rattle.spherical.specs.Work.{CountsEveryRound};
 
+use kmeans_layout::Problem;
 use kmeans_restarts::Halves;
-use limits::{Leaves, Refusal, Shape, need};
+use limits::{Leaves, Refusal, Rounds, Shape, need};
 
 // ---- what is refused
 
@@ -23,7 +24,8 @@ struct Lengths {
     work_u32: usize,
 }
 
-// The outputs and the work arrays are long enough. That m, k and d are within their limits is tested before.
+// The outputs and the work arrays are long enough. It takes m, k and d, since what it asks of them is tested one by
+// one, and there is no Shape before all of it is.
 fn arrays_ok(m: usize, k: usize, d: usize, l: Lengths) -> bool
     requires { (m ≤ 4096) × (k ≤ 64) × (d ≤ 256) }
     ensures { result ≡ arrays_ok m k d l.labels l.directions l.work l.work_u32 }
@@ -36,16 +38,16 @@ fn arrays_ok(m: usize, k: usize, d: usize, l: Lengths) -> bool
 #[tactic(auto, unfolding(crate::specs::Refusals::refusal_of))]
 fn check(
     leaves: Leaves,
-    d: usize,
     k: usize,
     rounds: usize,
     restarts: usize,
     l: Lengths,
 ) -> Result<(), Refusal>
-    ensures { result ≡ refusal_of leaves.entry.weights.now leaves.entry.coords.now d k rounds restarts l.labels
-        l.directions l.work l.work_u32 }
+    ensures { result ≡ refusal_of leaves.entry.weights.now leaves.entry.coords.now leaves.entry.d k rounds restarts
+        l.labels l.directions l.work l.work_u32 }
 {
     let m = leaves.weights.len();
+    let d = leaves.d;
     need(limits::sizes_ok(m, d, leaves.coords.len()), Refusal::Sizes)?;
     need(limits::groups_ok(k, m), Refusal::Groups)?;
     need(
@@ -59,7 +61,7 @@ fn check(
 // ---- the entry
 
 // What a call finds: the cohesion and the counts.
-#[derive(Clone, Copy)]
+#[derive(Clone, Copy, Debug, PartialEq)]
 pub struct Clustered {
     pub cohesion: f64,
     pub counts: counts::Counts,
@@ -89,17 +91,18 @@ pub fn spherical_kmeans(
         (length work_u32.old))) result }
     ensures counts_every_round { CountsEveryRound weights.now coords.now d k rounds seed restarts result }
 {
-    let leaves = Leaves { weights, coords };
+    let leaves = Leaves { weights, coords, d };
     let l = Lengths {
         labels: labels.len(),
         directions: directions.len(),
         work: work.len(),
         work_u32: work_u32.len(),
     };
-    check(leaves, d, k, rounds, restarts, l)?;
+    check(leaves, k, rounds, restarts, l)?;
     let m = weights.len();
-    let mut halves = Halves::of(Shape { m, k, d }, leaves, work, work_u32);
-    let h = kmeans_restarts::run_all(&mut halves, seed, rounds, restarts);
+    let shape = Shape { m, k, d };
+    let mut halves = Halves::of(Problem { shape, leaves }, work, work_u32);
+    let h = kmeans_restarts::run_all(&mut halves, seed, Rounds { most: rounds }, restarts);
     kmeans_restarts::fill_outputs(labels, directions, &halves.held);
     Ok(Clustered {
         cohesion: h.held.value,

@@ -8,7 +8,8 @@ use Rattle.root.specs.Root.{root_of}
 use Rattle.exponential.specs.Exponential.{exp_of}
 use Rattle.logarithm.specs.Logarithm.{ln_of}
 use Rattle.bessel.specs.Concentration.{estimate_of, kappa_max}
-use Rattle.kmeans_bounds.specs.declared.Slowest.{Slowest}
+use Rattle.pick.specs.Places.{best_with}
+use Rattle.pick.specs.declared.Best.{Best}
 use Rattle.kmeans_bounds.specs.Shifts.{shift_lower, shift_upper, slowest_of, slowest_from}
 use Rattle.auto_choice.specs.Choice.{Choice, chosen}
 
@@ -39,8 +40,8 @@ quarter = fin false 1 (negsuc 1)
 abbrev slow : ℕ → Float → Float → List Value
 slow c p q = whole c ∷ float p ∷ float q ∷ []
 
-abbrev slowest : Slowest → List Value
-slowest s = slow s.at s.least s.next
+abbrev slowest : Best → List Value
+slowest b = slow b.index b.value b.next
 
 -- a choice: the number and its score, or nothing; and scores from number lo on
 abbrev choice : Choice → List Value
@@ -91,6 +92,6 @@ all_say (r ∷ rs) = r.says ∷ all_say rs
 
 -- every definition gives what document 01 says
 pub examples : all_give table ≡ all_say table
-unfolding table root_of exp_of ln_of estimate_of shift_lower shift_upper slowest_from chosen max_of clamp_of
+unfolding table root_of exp_of ln_of estimate_of shift_lower shift_upper slowest_from best_with chosen max_of clamp_of
     add sub mul div neg lt le is_nan of_int of_bits round size
 examples = refl

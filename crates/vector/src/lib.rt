@@ -20,8 +20,8 @@ pub fn dots<const N: usize>(x: &[f64], rows: &[f64], d: usize) -> [f64; N]
     let mut s = [-0.0; N];
     for j in 0..x.len().min(d) {
         let v = x[j];
-        for c in 0..N {
-            s[c] = s[c] + v * rows[c * d + j];
+        for (c, t) in s.iter_mut().enumerate() {
+            *t = *t + v * rows[c * d + j];
         }
     }
     s
@@ -66,8 +66,8 @@ fn accumulate(start: f64, v: &[f64]) -> f64
 pub fn divide_by(row: &mut [f64], n: f64)
     ensures { row.new ≡ divided_by n row.old }
 {
-    for j in 0..row.len() {
-        row[j] = row[j] / n;
+    for e in row.iter_mut() {
+        *e = *e / n;
     }
 }
 
@@ -83,11 +83,13 @@ pub fn unit(to: &mut [f64], from: &[f64])
     }
 }
 
-// row + w * x, in place, to the end of the shorter.
+// row + w * x, in place, to the end of the shorter. x is read by index, since a proof learns nothing of what is written
+// through `iter_mut().zip(x)`.
 pub fn add_scaled(row: &mut [f64], w: f64, x: &[f64])
     ensures { row.new ≡ add_scaled w row.old x.now }
 {
-    for j in 0..row.len().min(x.len()) {
-        row[j] = row[j] + w * x[j];
+    let n = row.len().min(x.len());
+    for (j, e) in row[..n].iter_mut().enumerate() {
+        *e = *e + w * x[j];
     }
 }

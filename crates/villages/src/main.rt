@@ -11,7 +11,8 @@ use std::{env, fs, io};
 fn list_open(rt: &(impl Print + Alloc), file: impl Read + Drop) -> io::Result<()> {
     let mut bytes = Vec::new(rt.alloc());
     // One byte more than the longest leaf file: what is longer still is refused alike.
-    file.take(8713).read_to_end(&mut bytes)?;
+    file.take(leaf_file::LONGEST as u64 + 1)
+        .read_to_end(&mut bytes)?;
     let mut text = [0u8; 4096];
     let end = leaf_file::list_file(&bytes, &mut text);
     rt.write_all(&text[..end])

@@ -1,17 +1,13 @@
 -- What the programs that run lists of examples read: the words of a text, and the lists among them. Definitions
 -- only.
-use Rattle.std.specs.Prelude.{◌≡◌, cond, List, [], ◌∷◌, ◌++◌, length, take, get_or, Float}
-use Rattle.std.specs.Prelude.{ℕ, zero, suc, ◌+◌, ◌-◌, ◌*◌, ◌/◌, ◌%◌, ◌^◌, ◌≤◌, ◌<◌, min, eqb, ltb}
+use Rattle.std.specs.Prelude.{◌≡◌, cond, List, [], ◌∷◌, length, get_or, Float}
+use Rattle.std.specs.Prelude.{ℕ, suc, ◌+◌, ◌-◌, ◌*◌, ◌/◌, ◌%◌, ◌^◌, ◌<◌, min, eqb, ltb}
 use Rattle.std.specs.Float.{binary64}
 use Rattle.std.specs.Float.Ieee.{of_bits}
+use Rattle.rows.specs.Tabulate.{tabulate}
 use Rattle.words.specs.declared.Bytes.{Bytes}
 use Rattle.words.specs.declared.Layout.{Layout}
 use Rattle.words.specs.declared.Layout.TheVariants.{Packed, Spread}
-
--- n counts elements at the start of an array. The second part follows from the first; both are stated, since lending
--- that part of the array asks for both
-abbrev pub Counted : {A : Type 0} → ℕ → List A → Type 0
-Counted n xs = (n ≤ length xs) × (n ≡ length (take n xs))
 
 -- the value of a hexadecimal digit; 16 for any other byte
 unfoldable pub digit_of : ℕ → ℕ
@@ -43,9 +39,7 @@ element_of words from last j = get_or words (plus_of from (min j last)) 0
 
 -- the first elements of that list, as patterns
 abbrev pub values_up_to : List ℕ → (from last n : ℕ) → List Float
-values_up_to words from last zero = []
-values_up_to words from last (suc n) =
-    values_up_to words from last n ++ (of_bits binary64 (element_of words from last n) ∷ [])
+values_up_to words from last n = tabulate (λ j. of_bits binary64 (element_of words from last j)) n
 
 -- byte j of a list of bytes, which are packed eight to a word, the first lowest, or stand one to a word; and the first
 abbrev pub byte_in : List ℕ → (from : ℕ) → Layout → ℕ → ℕ
@@ -56,8 +50,7 @@ abbrev pub byte_of : List ℕ → Bytes → ℕ → ℕ
 byte_of words list j = byte_in words list.from list.layout j
 
 abbrev pub bytes_up_to : List ℕ → Bytes → ℕ → List ℕ
-bytes_up_to words list zero = []
-bytes_up_to words list (suc n) = bytes_up_to words list n ++ (byte_of words list n ∷ [])
+bytes_up_to words list n = tabulate (byte_of words list) n
 
 -- place j of an array, where the list's first n bytes stand at its start and the rest is still 7
 abbrev pub due_at : List ℕ → Bytes → (n j : ℕ) → ℕ

@@ -3,10 +3,13 @@
 // parts of that array.
 #![tactic(auto)]
 
-ghost use Rattle.std.specs.Prelude.{◌≡◌, ◌↔◌, IsTrue, ◌+◌, ◌≤◌, min, eqb, length, take, drop, get_or};
+ghost use Rattle.std.specs.Prelude.{◌≡◌, ◌↔◌, IsTrue, ℕ, ◌+◌, ◌≤◌, min, eqb};
+ghost use Rattle.std.specs.Prelude.{List, length, take, drop, get_or, replicate};
 ghost use Rattle.std.specs.Float.{binary64};
 ghost use Rattle.std.specs.Float.Ieee.{of_bits, to_bits};
-ghost use Rattle.words.specs.Words.{Counted, digit_of, words_of, place_of};
+ghost use Rattle.std.specs.Fn.{FnOnceReturnsAtMut};
+ghost use Rattle.rows.specs.Tabulate.{tabulate, Gives};
+ghost use Rattle.words.specs.Words.{digit_of, words_of, place_of};
 ghost use Rattle.words.specs.Words.{plus_of, element_of, values_up_to, byte_of, bytes_up_to};
 ghost use Rattle.words.specs.Words.{due_at, AreBytes};
 ghost use Rattle.words.specs.Arithmetic.{operation_of, arithmetic_of};
@@ -19,6 +22,7 @@ pub fn plus(a: usize, b: usize) -> usize
 }
 
 // The value of a hexadecimal digit; 16 for any other byte.
+#[tactic(auto, unfolding(crate::specs::Words::digit_of))]
 fn digit(b: u8) -> u64
     ensures { result ≡ digit_of b }
 {
@@ -29,16 +33,15 @@ fn digit(b: u8) -> u64
     }
 }
 
-// Puts the words of a text at the start of `to`, and answers how many; no more than `to` holds.
-pub fn read(to: &mut [u64], text: &[u8]) -> usize
-    ensures counted { Counted result to.new }
-    ensures to_after { take result to.new ≡ take (length to.old) (words_of text.now) }
+// The words of a text, put at the start of `to`; no more than it holds.
+pub fn read<'a>(to: &'a mut [u64], text: &[u8]) -> &'a [u64]
+    ensures { result.now ≡ take (length to.old) (words_of text.now) }
 {
     let mut n = 0;
     let mut x: u64 = 0;
     for b in text {
         if n == to.len() {
-            return n;
+            return to;
         }
         let d = digit(*b);
         if d < 16 {
@@ -49,14 +52,15 @@ pub fn read(to: &mut [u64], text: &[u8]) -> usize
             x = 0;
         }
     }
-    n
+    &to[..n]
 }
 
-// The place of the first byte b from place `from` on; the text's end where there is none.
+// The place of the first byte b from place `from` on; the text's end and no None where there is none, since callers cut
+// the text there. A loop: with `position` in its place the search finds no proof.
 pub fn place_of(text: &[u8], from: usize, b: u8) -> usize
     requires { from ≤ length text.now }
     ensures lower_bound { from ≤ result }
-    ensures counted { Counted result text.now }
+    ensures upper_bound { result ≤ length text.now }
     ensures value { result ≡ from + place_of b (drop from text.now) }
 {
     for i in from..text.len() {
@@ -88,6 +92,18 @@ pub fn is_number(x: f64, words: &[u64], j: usize) -> bool
     float::bits_of(x) == word(words, j)
 }
 
+// The first n elements of a list, put at the start of v; no more than it holds.
+fn fill_by<'a, T: Copy, F: Fn(usize) -> T>(v: &'a mut [T], n: usize, element: F) -> &'a [T]
+    requires { F.IsAlwaysCallable element }
+    ensures { (f : ℕ → T) → Gives (λ j x. F.post element j x) f (min n (length v.old))
+        → result.now ≡ tabulate f (min n (length v.old)) }
+{
+    let m = n.min(v.len());
+    let part = &mut v[..m];
+    rows::put(part, element);
+    part
+}
+
 // Element j of the list from word `from` on, of which elements 0 to `last` are written; the last of them stands for the
 // rest.
 pub fn element(words: &[u64], from: usize, last: usize, j: usize) -> u64
@@ -96,19 +112,11 @@ pub fn element(words: &[u64], from: usize, last: usize, j: usize) -> u64
     word(words, plus(from, j.min(last)))
 }
 
-// Puts the first n elements of that list at the start of v, and answers n; no more than v holds. It and `load_bytes`
-// are no one function with a closure: that would promise element by element, and of each the list would have to be
-// proved from it.
-pub fn load(v: &mut [f64], words: &[u64], from: usize, last: usize, n: usize) -> usize
-    ensures counted { Counted result v.new }
-    ensures value { result ≡ min n (length v.old) }
-    ensures v_after { take result v.new ≡ values_up_to words.now from last result }
+// The first n elements of that list, put at the start of v; no more than it holds.
+pub fn load<'a>(v: &'a mut [f64], words: &[u64], from: usize, last: usize, n: usize) -> &'a [f64]
+    ensures { result.now ≡ values_up_to words.now from last (min n (length v.old)) }
 {
-    let m = n.min(v.len());
-    for j in 0..m {
-        v[j] = float::of_bits(element(words, from, last, j));
-    }
-    m
+    fill_by(v, n, |j| float::of_bits(element(words, from, last, j)))
 }
 
 // How the bytes of a list stand: eight to a word, the first lowest; or one to a word, of which elements 0 to `last` are
@@ -138,17 +146,11 @@ fn byte(words: &[u64], list: Bytes, j: usize) -> u8
     (value % 256) as u8
 }
 
-// Puts a list at the start of v, and answers its length; no more than v holds.
-pub fn load_bytes(v: &mut [u8], words: &[u64], list: Bytes) -> usize
-    ensures counted { Counted result v.new }
-    ensures value { result ≡ min list.count (length v.old) }
-    ensures v_after { take result v.new ≡ bytes_up_to words.now list result }
+// A list, put at the start of v; no more than it holds.
+pub fn load_bytes<'a>(v: &'a mut [u8], words: &[u64], list: Bytes) -> &'a [u8]
+    ensures { result.now ≡ bytes_up_to words.now list (min list.count (length v.old)) }
 {
-    let m = list.count.min(v.len());
-    for j in 0..m {
-        v[j] = byte(words, list, j);
-    }
-    m
+    fill_by(v, list.count, |j| byte(words, list, j))
 }
 
 // What place j of an array is due, where the list's first n bytes stand at its start and the rest is still 7.
@@ -162,12 +164,21 @@ fn due(words: &[u64], list: Bytes, n: usize, j: usize) -> u8
 pub fn are_bytes(v: &[u8; 4096], n: usize, words: &[u64], list: Bytes) -> bool
     ensures { IsTrue result ↔ AreBytes v.now n words.now list }
 {
-    for (j, x) in v.iter().enumerate() {
-        if *x != due(words, list, n, j) {
-            return false;
-        }
-    }
-    n == list.count
+    v.iter()
+        .enumerate()
+        .all(|(j, x)| *x == due(words, list, n, j))
+        && n == list.count
+}
+
+// Whether `print` puts the list at the start of an array of 7, answers its length, and leaves the rest.
+pub fn fills<F: FnOnce(&mut [u8; 4096]) -> usize>(words: &[u64], list: Bytes, print: F) -> bool
+    requires { F.IsAlwaysCallable print }
+    ensures { (n : ℕ) × (v : List ℕ) × (FnOnceReturnsAtMut F.FnOnce print (replicate 4096 7) n v)
+        × (IsTrue result ↔ AreBytes v n words.now list) }
+{
+    let mut out = [7u8; 4096];
+    let n = print(&mut out);
+    are_bytes(&out, n, words, list)
 }
 
 // The functions that examples are of.

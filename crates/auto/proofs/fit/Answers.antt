@@ -28,9 +28,9 @@ fit_range-requires c =
     let some = some_at (goal.at.fit_range-requires c).After-highest_number-hi in
     let a = c.args in
     let none = sym (rw c.lengths-l.ensures at c.check.ensures) ∙ c.in_ok-check.was in record {
-      fittable = fittable (leb hi most_groups) a.leaves.weights.now a.leaves.coords.now a.d hi a.s.rounds (outputs_of a.o.now)
+      fittable = fittable (leb hi most_groups) a.leaves.weights.now a.leaves.coords.now a.leaves.d hi a.s.rounds (outputs_of a.o.now)
           (length a.work.now) (length a.work_u32.now)
-          (admitted a.leaves.weights.now a.leaves.coords.now a.d hi a.s
+          (admitted a.leaves.weights.now a.leaves.coords.now a.leaves.d hi a.s
           (lengths_of (outputs_of a.o.now) (length a.work.now) (length a.work_u32.now)) some none);
       le_lo = (
         lowest_some a.k_min hi l.result l.ensures some,
@@ -49,10 +49,10 @@ returns c =
     let o = outputs_of n.new.o in
     let none = sym (rw c.lengths-l.ensures at c.check.ensures) ∙ c.in_ok-check.was in record {
       same = n.ensures.same;
-      fitted = done o₀ a.leaves.weights.now a.leaves.coords.now a.d a.k_min a.k_max a.s (length a.work.now) (length a.work_u32.now)
+      fitted = done o₀ a.leaves.weights.now a.leaves.coords.now a.leaves.d a.k_min a.k_max a.s (length a.work.now) (length a.work_u32.now)
           l.result h.result h.ensures l.ensures n.result c.answer.result o n.ensures.fitted c.answer.ensures none;
-      keeps_best = done_best o₀ a.leaves.weights.now a.leaves.coords.now a.d a.k_min a.k_max a.s (length a.work.now) (length a.work_u32.now)
-          l.result h.result h.ensures l.ensures n.result c.answer.result o n.ensures.fitted c.answer.ensures;
-      labels_first = done_first o₀ a.leaves.weights.now a.leaves.coords.now a.d a.k_min a.k_max a.s (length a.work.now)
+      keeps_best = done_best o₀ a.leaves.weights.now a.leaves.coords.now a.leaves.d a.k_min a.k_max a.s (length a.work.now)
+          (length a.work_u32.now) l.result h.result h.ensures l.ensures n.result c.answer.result o n.ensures.fitted c.answer.ensures;
+      labels_first = done_first o₀ a.leaves.weights.now a.leaves.coords.now a.leaves.d a.k_min a.k_max a.s (length a.work.now)
           (length a.work_u32.now) l.result h.result h.ensures l.ensures n.result c.answer.result o n.ensures.fitted c.answer.ensures;
     }

@@ -22,14 +22,14 @@ kept_at p =
 
 -- it has what the lone fit finds
 em_at : (p : After-four_runs-r) → let a = p.args in let r = p.four_runs-r.result in
-    em_of (parts_of (kept_at p)) (kept_loglik r.held r.last) ≡ (lone a.leaves.weights.now a.leaves.coords.now a.d a.s a.k).em
+    em_of (parts_of (kept_at p)) (kept_loglik r.held r.last) ≡ (lone a.leaves.weights.now a.leaves.coords.now a.leaves.d a.s a.k).em
 em_at p =
     let z = p.of-halves.ensures in
     let h = p.four_runs-r in
     rw (z.0, z.1) at (kept_em p.of-halves.result.held h.new.halves.held h.new.halves.free p.args.s h.result h.ensures)
 
 counts_at : (p : After-four_runs-r) → let a = p.args in
-    p.four_runs-r.result.counts ≡ (lone a.leaves.weights.now a.leaves.coords.now a.d a.s a.k).counts
+    p.four_runs-r.result.counts ≡ (lone a.leaves.weights.now a.leaves.coords.now a.leaves.d a.s a.k).counts
 counts_at p =
     let z = p.of-halves.ensures in
     let h = p.four_runs-r in
@@ -46,12 +46,13 @@ returns-then-beats-clause-fit c =
     let a = c.args in
     let r = c.four_runs-r in
     let sh = shape_at p ∙ c.of-halves.ensures.0 in
+    let beats = rw c.choice_of.ensures at c.beats.ensures in
     let loglik = kept_loglik r.result.held r.result.last in
     let filled = rw (c.kept.ensures, sh, em_at p) at (c.fill_outputs.ensures.filled loglik) in
-    fitted_kept a.leaves.weights.now a.leaves.coords.now a.d a.k a.s (kept_at p) r.result (em_at p) (counts_at p) r.ensures.small
+    fitted_kept a.leaves.weights.now a.leaves.coords.now a.leaves.d a.k a.s (kept_at p) r.result (em_at p) (counts_at p) r.ensures.small
     (ap (λ (z : Shape). z.m) sh) (ap (λ (z : Shape). z.k) sh) (ap (λ (z : Shape). z.d) sh)
-    a.t c.kept_loglik-loglik.result a.ln_total c.score_at-score.result c.beats.result c.plus-counts.result c.kept_loglik-loglik.ensures
-    c.requires.at_most.1 c.score_at-score.ensures c.beats.ensures c.plus-counts.ensures (outputs_of a.o.now)
+    a.t c.kept_loglik-loglik.result a.ln_total c.score_at-score.result c.beats.result c.add-counts.result c.kept_loglik-loglik.ensures
+    c.requires.at_most.1 c.score_at-score.ensures beats c.add-counts.ensures (outputs_of a.o.now)
     (outputs_of c.fill_outputs.new.o)
     c.if-beats.true filled
 
@@ -61,7 +62,8 @@ returns-clause-fit c =
     let a = c.args in
     let r = c.four_runs-r in
     let sh = shape_at p ∙ c.of-halves.ensures.0 in
-    fitted_left a.leaves.weights.now a.leaves.coords.now a.d a.k a.s (kept_at p) r.result (em_at p) (counts_at p) r.ensures.small
+    let beats = rw c.choice_of.ensures at c.beats.ensures in
+    fitted_left a.leaves.weights.now a.leaves.coords.now a.leaves.d a.k a.s (kept_at p) r.result (em_at p) (counts_at p) r.ensures.small
     (ap (λ (z : Shape). z.m) sh) (ap (λ (z : Shape). z.k) sh) (ap (λ (z : Shape). z.d) sh)
-    a.t c.kept_loglik-loglik.result a.ln_total c.score_at-score.result c.beats.result c.plus-counts.result c.kept_loglik-loglik.ensures
-    c.requires.at_most.1 c.score_at-score.ensures c.beats.ensures c.plus-counts.ensures (outputs_of a.o.now) c.if-beats.false
+    a.t c.kept_loglik-loglik.result a.ln_total c.score_at-score.result c.beats.result c.add-counts.result c.kept_loglik-loglik.ensures
+    c.requires.at_most.1 c.score_at-score.ensures beats c.add-counts.ensures (outputs_of a.o.now) c.if-beats.false

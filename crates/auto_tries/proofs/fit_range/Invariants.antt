@@ -12,5 +12,6 @@ abbrev pub invariant-loop-k : goal.invariant-loop-k
 invariant-loop-k l =
     let o₀ = outputs_of l.fn.o in
     let w = l.leaves.weights.now in
-    Fitted w l.leaves.coords.now l.d l.s o₀ l.lo (l.k - l.lo) l.t (outputs_of l.o) × Tails (length w) l.k l.d (outputs_of l.o) o₀
+    Fitted w l.leaves.coords.now l.leaves.d l.s o₀ l.lo (l.k - l.lo) l.t (outputs_of l.o)
+    × Tails (length w) l.k l.leaves.d (outputs_of l.o) o₀
     × AtMost (of_runs (4 * (l.k - l.lo))) l.t.counts × SameArrays l.fn.o l.o

@@ -14,7 +14,7 @@ loop-c-init c = refl
 
 pub loop-c-preserved : goal.loop-c-preserved
 loop-c-preserved c =
-    slowest_turn c.args.drift.now c.loop-c.c c.loop-c.s c.slower-s.result (omega arith) c.slower-s.ensures ∙ c.loop-c.invariant
+    slowest_turn c.args.drift.now c.loop-c.c c.loop-c.b c.slower-b.result (omega arith) c.slower-b.ensures ∙ c.loop-c.invariant
 
 pub returns : goal.returns
 unfolding slowest_from

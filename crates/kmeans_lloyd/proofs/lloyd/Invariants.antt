@@ -9,6 +9,7 @@ use Rattle.kmeans_lloyd.proofs.lloyd.Given as goal
 abbrev pub invariant-loop-it : goal.invariant-loop-it
 invariant-loop-it l =
     let a = l.fn.area in
+    let n = l.fn.rounds.most in
     Same a l.area × Few l.it l.c
-    × GoesOn a.leaves.weights.now a.leaves.coords.now a.shape.m a.shape.k a.shape.d (rounds_in a l.rounds) (l.rounds - l.it) l.it
+    × GoesOn a.leaves.weights.now a.leaves.coords.now a.shape.m a.shape.k a.shape.d (rounds_in a n) (n - l.it) l.it
     (state_of l.area) l.c

@@ -1,5 +1,5 @@
--- `kmeans_nearest::row_dots` meets its contract: the part that is lent is the rows from c on, and their dots are what `dots` ensures. Assumes
--- nothing.
+-- `kmeans_nearest::row_dots` meets its contract: the part that is lent is the rows from c on, and their dots are what `dots` ensures.
+-- Assumes nothing.
 use mathlib.Core.Path.{◌≡◌, ap, ◌∙◌}
 use Prim.Native.Nat.{ℕ, ◌+◌, ◌*◌, ◌-◌}
 use native.Mathlib.Omega.{arith}

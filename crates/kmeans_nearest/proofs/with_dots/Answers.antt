@@ -13,4 +13,4 @@ loop-i-preserved c =
     let l = c.loop-i in
     let f = c.args.f.now in
     let e : length (take l.i f) ≡ l.i = length-take-le l.i f (omega arith) in
-    rw (add-one, take-suc f l.i nan c.loop-i-test.true, with_more, e, c.better-b.ensures, l.invariant)
+    rw (add-one, take-suc f l.i nan (omega arith), with_more, e, c.better-b.ensures, l.invariant)

@@ -24,4 +24,4 @@ pub loop-preserved : goal.loop-preserved
 loop-preserved c =
     let l = c.loop in
     let a = c.args in
-    (omega arith, restart_turn a.halves.now.held a.rounds a.seed l.counter _ _ _ _ (omega arith) l.invariant.1 c.restart-h.ensures)
+    (omega arith, restart_turn a.halves.now.held a.rounds.most a.seed l.counter _ _ _ _ (omega arith) l.invariant.1 c.restart-h.ensures)

@@ -8,4 +8,4 @@ use Rattle.kmeans_restarts.proofs.run_all.Given as goal
 abbrev pub invariant-loop : goal.invariant-loop
 invariant-loop l =
     (l.counter ≤ max l.restarts 1)
-    × Holds (held_after l.fn.halves.held l.rounds l.seed (l.counter - 1)) l.fn.halves.held l.halves.held l.counter l.h
+    × Holds (held_after l.fn.halves.held l.fn.rounds.most l.seed (l.counter - 1)) l.fn.halves.held l.halves.held l.counter l.h

@@ -30,6 +30,3 @@ gain-requires c =
 
 pub loop-i-preserved : goal.loop-i-preserved
 loop-i-preserved c = gather_turn _ _ _ _ c.loop-i.invariant c.gain.ensures
-
-pub returns : goal.returns
-returns c = let i = c.loop-i.invariant in record { same = i.same; state = i.state; sums = search rules; counts = search rules }

@@ -4,4 +4,4 @@ use Rattle.mixture_kappa.proofs.log_norm_from.Goals as goal
 
 pub returns : goal.returns
 unfolding of_bits
-returns c = rw (← c.max.ensures) c.log_vmf_norm_from.ensures
+returns c = rw (← c.max.ensures) c.log_norm.ensures

@@ -10,4 +10,5 @@ use Rattle.mixture_softmax.proofs.log_softmax_rows.Given as goal
 
 abbrev pub invariant-loop-i : goal.invariant-loop-i
 invariant-loop-i l =
-    (l.i ≤ l.m) × (l.l ≡ logs_up_to l.k l.initial.rows l.weights plus_zero l.i) × (l.rows ≡ shares_up_to l.k l.initial.rows l.i ++ drop (l.i * l.k) l.initial.rows)
+    (l.i ≤ l.m) × (l.l ≡ logs_up_to l.k l.initial.rows l.weights plus_zero l.i)
+    × (l.rows ≡ shares_up_to l.k l.initial.rows l.i ++ drop (l.i * l.k) l.initial.rows)

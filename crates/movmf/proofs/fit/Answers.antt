@@ -20,7 +20,7 @@ use Rattle.movmf.proofs.fit.Goals as goal
 
 -- nothing is refused
 none : (c : In_ok-check) → let a = c.args in
-    refusal_of a.leaves.weights.now a.leaves.coords.now a.d a.k a.s
+    refusal_of a.leaves.weights.now a.leaves.coords.now a.leaves.d a.k a.s
     (lengths_of (outputs_of a.o.now) (length a.work.now) (length a.work_u32.now))
     ≡ Ok tt
 none c =
@@ -30,29 +30,26 @@ none c =
 
 -- past the refusals all is in range
 ready_at : (c : In_ok-check) → let a = c.args in
-    Ready (groups_ok a.k (length a.leaves.weights.now)) a.leaves.weights.now a.leaves.coords.now a.d a.k a.s.rounds
+    Ready (groups_ok a.k (length a.leaves.weights.now)) a.leaves.weights.now a.leaves.coords.now a.leaves.d a.k a.s.rounds
     (lengths_of (outputs_of a.o.now) (length a.work.now) (length a.work_u32.now))
-ready_at c = let a = c.args in admitted a.leaves.weights.now a.leaves.coords.now a.d a.k a.s _ (none c)
+ready_at c = let a = c.args in admitted a.leaves.weights.now a.leaves.coords.now a.leaves.d a.k a.s _ (none c)
 
 pub check-requires : goal.check-requires
 check-requires c =
     let a = c.args in
     λ (e : c.groups_ok.result ≡ true). (few a.k (length a.leaves.weights.now) (sym c.groups_ok.ensures ∙ e)).1
 
+pub invariant_of-shape : goal.invariant_of-shape
+invariant_of-shape c = record { sizes = (ready_at (goal.at.invariant_of-shape c).In_ok-check).sizes }
+
 pub invariant_of-of : goal.invariant_of-of
-invariant_of-of c = record { sizes = (ready_at (goal.at.invariant_of-of c).In_ok-check).sizes }
+invariant_of-of c =
+    record { fit = record { weights_long = refl; coords_long = (ready_at (goal.at.invariant_of-of c).In_ok-check).coords_long } }
 
-pub of-halves-requires-clause-fit : goal.of-halves-requires-clause-fit
-of-halves-requires-clause-fit c =
-    record { weights_long = refl; coords_long = (ready_at (goal.at.of-halves-requires-clause-fit c).In_ok-check).coords_long }
-
-pub of-halves-requires-clause-room : goal.of-halves-requires-clause-room
-of-halves-requires-clause-room c =
-    let r = ready_at (goal.at.of-halves-requires-clause-room c).In_ok-check in
+pub of-halves-requires : goal.of-halves-requires
+of-halves-requires c =
+    let r = ready_at (goal.at.of-halves-requires c).In_ok-check in
     (omega (arith, r.long.work_long), omega (arith, r.long.work_u32_long))
-
-pub four_runs-r-requires : goal.four_runs-r-requires
-four_runs-r-requires c = (ready_at (goal.at.four_runs-r-requires c).In_ok-check).rounds_small
 
 pub fill_outputs-requires : goal.fill_outputs-requires
 fill_outputs-requires c =
@@ -60,8 +57,8 @@ fill_outputs-requires c =
     let h = c.four_runs-r in
     let shape = (kept_same c.of-halves.result.held h.new.halves.held h.new.halves.free a.s h.result h.ensures).0 ∙ c.of-halves.ensures.0 in
     let r = ready_at (goal.at.fill_outputs-requires c).In_ok-check in
-    rw (c.kept.ensures, shape) (fits (outputs_of a.o.now) (length a.work.now) (length a.work_u32.now) (length a.leaves.weights.now) a.k a.d
-    r.long)
+    rw (c.kept.ensures, shape) (fits (outputs_of a.o.now) (length a.work.now) (length a.work_u32.now) (length a.leaves.weights.now) a.k
+    a.leaves.d r.long)
 
 pub returns : goal.returns
 returns c =
@@ -76,11 +73,11 @@ returns c =
     let filled = rw (c.kept.ensures, shape, em) at (c.fill_outputs.ensures.filled loglik) in
     let fit : answered (Ok (record { k = a.k; loglik = c.kept_loglik-loglik.result; counts = h.result.counts }))
     (outputs_of c.fill_outputs.new.o)
-    ≡ outcome (outputs_of a.o.now) a.leaves.weights.now a.leaves.coords.now a.d a.k a.s (length a.work.now) (length a.work_u32.now) =
+    ≡ outcome (outputs_of a.o.now) a.leaves.weights.now a.leaves.coords.now a.leaves.d a.k a.s (length a.work.now) (length a.work_u32.now) =
     rw (none (goal.at.returns c).In_ok-check, filled, counts, c.kept_loglik-loglik.ensures ∙ ap (λ (e : Em). e.loglik) em) refl in
     record {
       same = c.fill_outputs.ensures.same;
       fitted = fit;
-      labels_first = first_is (outputs_of a.o.now) a.leaves.weights.now a.leaves.coords.now a.d a.k a.s (length a.work.now)
+      labels_first = first_is (outputs_of a.o.now) a.leaves.weights.now a.leaves.coords.now a.leaves.d a.k a.s (length a.work.now)
           (length a.work_u32.now) _ _ fit;
     }

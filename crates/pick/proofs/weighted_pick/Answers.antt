@@ -4,6 +4,7 @@ use mathlib.Core.Path.{◌≡◌}
 use mathlib.Core.List.{List}
 use mathlib.Core.Bool.{true, false}
 use Prim.Native.Nat.{ℕ, ◌%◌, max}
+use native.Mathlib.Omega.{arith}
 use lib.ListN.{length}
 use lib.Ieee.{Float, binary64, mul, le, of_bits}
 use Rattle.float.specs.Arithmetic.{minus_zero, plus_zero, sum_from}
@@ -28,9 +29,8 @@ pub returns-then-total : goal.returns-then-total
 unfolding of_bits
 returns-then-total c =
     let x = c.args in
-    low x.w.now x.generator c.sum-total.result c.draw-drawn.result c.sum-total.ensures c.draw-drawn.ensures c.at_least_one.result
-    c.at_least_one.ensures
-    c.if-total.true
+    low x.w.now x.generator c.sum-total.result c.draw-drawn.result c.sum-total.ensures c.draw-drawn.ensures c.max.result
+    (omega arith) c.if-total.true
 
 pub returns : goal.returns
 unfolding of_bits

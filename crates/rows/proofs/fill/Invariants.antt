@@ -3,5 +3,5 @@ use mathlib.Core.Path.{◌≡◌}
 use lib.ListN.{length, take, replicate}
 use Rattle.rows.proofs.fill.Given as goal
 
-abbrev pub invariant-loop-j : goal.invariant-loop-j
-invariant-loop-j g l = (length l.v ≡ length l.initial.v) × (take l.j l.v ≡ replicate l.j l.x)
+abbrev pub invariant-loop-e : goal.invariant-loop-e
+invariant-loop-e g l = (length l.v ≡ length l.initial.v) × (take l.e-index l.v ≡ replicate l.e-index l.x)

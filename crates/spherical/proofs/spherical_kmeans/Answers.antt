@@ -17,22 +17,23 @@ ready_at c =
     ready a.weights.now a.coords.now a.d a.k a.rounds a.restarts (length a.labels.now) (length a.directions.now)
     (length a.work.now) (length a.work_u32.now) (sym c.check.ensures ∙ c.in_ok-check.was)
 
+pub invariant_of-shape : goal.invariant_of-shape
+invariant_of-shape c = record { sizes = (ready_at (goal.at.invariant_of-shape c).In_ok-check).sizes }
+
 pub invariant_of-of : goal.invariant_of-of
-invariant_of-of c = record { sizes = (ready_at (goal.at.invariant_of-of c).In_ok-check).sizes }
+invariant_of-of c =
+    record { fit = record { weights_long = refl; coords_long = (ready_at (goal.at.invariant_of-of c).In_ok-check).coords_long } }
 
-pub of-halves-requires-clause-fit : goal.of-halves-requires-clause-fit
-of-halves-requires-clause-fit c =
-    record { weights_long = refl; coords_long = (ready_at (goal.at.of-halves-requires-clause-fit c).In_ok-check).coords_long }
-
-pub of-halves-requires-clause-room : goal.of-halves-requires-clause-room
-of-halves-requires-clause-room c =
-    let r = ready_at (goal.at.of-halves-requires-clause-room c).In_ok-check in
+pub of-halves-requires : goal.of-halves-requires
+of-halves-requires c =
+    let r = ready_at (goal.at.of-halves-requires c).In_ok-check in
     (omega (arith, r.work_long), omega (arith, r.work_u32_long))
 
+pub invariant_of-run_all : goal.invariant_of-run_all
+invariant_of-run_all c = record { small = (ready_at (goal.at.invariant_of-run_all c).In_ok-check).rounds_small }
+
 pub run_all-h-requires : goal.run_all-h-requires
-run_all-h-requires c =
-    let r = ready_at (goal.at.run_all-h-requires c).In_ok-check in
-    (r.rounds_small, r.restarts_small)
+run_all-h-requires c = (ready_at (goal.at.run_all-h-requires c).In_ok-check).restarts_small
 
 pub fill_outputs-requires : goal.fill_outputs-requires
 fill_outputs-requires c =

@@ -6,5 +6,5 @@ use lib.ListN.{length, take, drop}
 use Rattle.vector.specs.Vectors.{divided_by}
 use Rattle.vector.proofs.divide_by.Given as goal
 
-abbrev pub invariant-loop-j : goal.invariant-loop-j
-invariant-loop-j l = (length l.row ≡ length l.initial.row) × (take l.j l.row ++ divided_by l.n (drop l.j l.row) ≡ divided_by l.n l.initial.row)
+abbrev pub invariant-loop-e : goal.invariant-loop-e
+invariant-loop-e l = (length l.row ≡ length l.initial.row) × (take l.e-index l.row ++ divided_by l.n (drop l.e-index l.row) ≡ divided_by l.n l.initial.row)

@@ -7,4 +7,4 @@ abbrev pub invariant-loop-j : goal.invariant-loop-j
 invariant-loop-j g l = Going l.x l.rows l.d g.row.N l.s l.j
 
 abbrev pub invariant-loop-c : goal.invariant-loop-c
-invariant-loop-c g l = Turning l.x l.rows l.d g.row.N l.s l.j l.c
+invariant-loop-c g l = Turning l.x l.rows l.d g.row.N l.t-items l.j l.c

@@ -15,4 +15,4 @@ returns-then-bits_of c =
     let one = sym c.bits_of-2.ensures ∙ sym c.if-bits_of.true ∙ c.bits_of.ensures in
     let last_Fits = subst T (sym c.well_formed.1.0.1) tt in
     let kappa-fits = subst T (sym c.well_formed.0.1) tt in
-    c.requires.1 ∙ ap (log_norm_of a.d) (equal a.last a.kappa last_Fits kappa-fits one)
+    c.requires ∙ ap (log_norm_of a.order.d) (equal a.last a.kappa last_Fits kappa-fits one)

@@ -17,7 +17,7 @@ loop-c-preserved c =
     let p = parts_of a in
     let l = c.loop-c in
     let i = l.invariant in
-    let d = a.warm.shape.d in
+    let d = c.of-order.result.d in
     let v = c.log_coefficient.result in
     let is =
     c.log_coefficient.ensures ∙ ap (add binary64 (ln_of (max_of _ weight_floor))) c.norm_for-norm.ensures
@@ -34,5 +34,6 @@ returns-clause-parts c =
     let a = c.args.area.now in
     let p = parts_of a in
     let l = c.loop-c in
-    written_end with_log_coefficients (log_coefficient_at a.warm.shape.d (model_of p)) a.log_coefficients.now p _ l.c a.warm.shape.k
-    (omega (arith, l.auto.c-end, c.loop-c-test.false)) a.sized.log_coefficients_long l.invariant.1
+    rw (← c.of-order.ensures)
+    (written_end with_log_coefficients (log_coefficient_at c.of-order.result.d (model_of p)) a.log_coefficients.now p _ l.c a.warm.shape.k
+    (omega (arith, l.auto.c-end, c.loop-c-test.false)) a.sized.log_coefficients_long l.invariant.1)

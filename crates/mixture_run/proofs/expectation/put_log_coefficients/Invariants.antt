@@ -12,5 +12,5 @@ invariant-loop-c l =
     let a = l.initial.area in
     let p = parts_of a in
     (Same a l.area)
-    × (parts_of l.area ≡ written with_log_coefficients (log_coefficient_at l.d (model_of p)) a.log_coefficients.now p l.c)
-    × (l.norm ≡ log_norm_of l.d l.last)
+    × (parts_of l.area ≡ written with_log_coefficients (log_coefficient_at l.order.d (model_of p)) a.log_coefficients.now p l.c)
+    × (l.norm ≡ log_norm_of l.order.d l.last)

@@ -1,3 +1,0 @@
--- Laws that other proofs cite, each file named after what it is about.
-pub mod Turns
-pub mod Parts
