@@ -1,12 +1,12 @@
--- Lists of any elements that are filled: one law for a turn of the loop, one for its end. What is done is a front of what is wanted, or
--- stands before what is still held. Assumes nothing.
+-- Lists of any elements that are filled or copied: one law for a turn of the loop, one for its end. What is done is a front of
+-- what is wanted, or stands before what is still held. Assumes nothing.
 use mathlib.Core.Path.{◌≡◌, ap, sym, ◌∙◌}
 use mathlib.Core.List.{List, [], ◌∷◌, ◌++◌, append_assoc, append-nil}
 use Prim.Native.Nat.{ℕ, suc, ◌+◌, ◌≤◌, ◌<◌}
 use native.Mathlib.Numerals.{add-one}
 use native.Mathlib.Omega.{arith}
 use lib.ListN.{length, get_or, take, drop, set, replicate, replicate-append-replicate, drop_of_length-le}
-use lib.Seq.{take-suc-set, take_all, drop-cons, set_at, get_or_at}
+use lib.Seq.{take-suc, take-suc-set, take_all, length-take-le, drop-cons, set_at, get_or_at}
 
 module _ {A : Type 0} where
   pub fill_turn : (s : List A) (j : ℕ) (x : A) → j < length s → take j s ≡ replicate j x → take (j + 1) (set s j x) ≡ replicate (j + 1) x
@@ -24,6 +24,12 @@ module _ {A : Type 0} (z : A) (p l : List A) (i : ℕ) (e : length p ≡ i) wher
 
   pub front_next : i < length l → get_or (p ++ drop i l) i z ≡ get_or l i z
   front_next h = rw (drop-cons l i z) (get_or_at p (get_or l i z) (drop (suc i) l) z i e)
+
+-- the first i elements of s, before what was held: one element more
+pub copied_turn : {A : Type 0} (t s l : List A) (i k : ℕ) (v z : A) → t ≡ take i s ++ drop i l → k ≡ i → v ≡ get_or s i z
+    → i < length s → i < length l → set t k v ≡ take (i + 1) s ++ drop (i + 1) l
+copied_turn t s l i k v z e n x hs hl =
+    rw (e, n, x) (front_turn z (take i s) l i (length-take-le i s (omega arith)) (get_or s i z) hl ∙ rw (add-one, take-suc s i z))
 
 pub front_end : {A : Type 0} (p l : List A) (n : ℕ) → length l ≡ n → p ++ drop n l ≡ p
 front_end p l n e = let h : length l ≤ n = omega arith in rw (drop_of_length-le l h, append-nil)

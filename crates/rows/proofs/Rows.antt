@@ -7,6 +7,7 @@ use native.Mathlib.Numerals.{add-one}
 use native.Mathlib.Omega.{arith}
 use lib.ListN.{length, get_or, take, drop, set, length-append, length-drop, take-append-drop}
 use lib.Seq.{drop-drop, take-take, length-take-le, take_at, drop_at, get_or-take, get_or-drop, drop-cons, set_at}
+use lib.Seq.{paste, paste-suc, drop-paste}
 use Rattle.rows.specs.Rows.{part, put_part, row_of}
 
 -- row c of k rows of d elements lies within k * d
@@ -57,6 +58,24 @@ module _ {A : Type 0} where
   row_part l d c n e h =
       let f : (c + e) * d ≡ c * d + e * d = add-mul c e d in
       part_take (drop (c * d) l) (n * d) (e * d) d (row_within e n d h) ∙ rw (drop-drop (e * d) (c * d) l, f)
+
+  -- a copy from another list: one element more
+  pub paste_turn : (w d s : List A) (to from j : ℕ) (v z : A) → w ≡ paste d to (drop from s) j → v ≡ get_or s (from + j) z → to + j < length d
+      → from + j < length s → set w (to + j) v ≡ paste d to (drop from s) (j + 1)
+  paste_turn w d s to from j v z e x h g =
+      let long : length (drop from s) ≡ length s - from = length-drop from s in
+      rw (e, x, add-one, ← get_or-drop from s j z) (paste-suc d to (drop from s) j z h (omega arith))
+
+  -- a copy from a later place of the same list, which is read as it was: one element more
+  pub copy_turn : (w w₀ : List A) (to from n j : ℕ) (v z : A) → w ≡ paste w₀ to (drop from w₀) j → v ≡ get_or w (from + j) z → to + n ≤ from
+      → from + n ≤ length w₀ → j < n → set w (to + j) v ≡ paste w₀ to (drop from w₀) (j + 1)
+  copy_turn w w₀ to from n j v z e x h g k =
+      let f : from + j ≡ to + j + (from - to) = omega arith in
+      let long : length (drop from w₀) ≡ length w₀ - from = length-drop from w₀ in
+      let at : get_or w (from + j) z ≡ get_or w₀ (from + j) z =
+      rw (e, f, ← get_or-drop (to + j) (paste w₀ to (drop from w₀) j) (from - to) z)
+      (rw (drop-paste w₀ to (drop from w₀) j (omega arith) (omega arith)) (get_or-drop (to + j) w₀ (from - to) z)) in
+      paste_turn w w₀ w₀ to from j v z e (x ∙ at) (omega arith) (omega arith)
 
   -- one place more of a part that is replaced place by place
   pub put_more : (w s : List A) (to c : ℕ) (v z : A) → length s ≡ c → to + c < length w → set (put_part w to c s) (to + c) v ≡ put_part w to (c + 1) (s ++ (v ∷ []))

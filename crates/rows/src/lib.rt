@@ -6,7 +6,7 @@
 #![tactic(auto)]
 
 ghost use Rattle.std.specs.Prelude.{◌≡◌, ℕ, ◌+◌, ◌*◌, ◌<◌, ◌≤◌, ◌++◌, length, replicate, drop};
-ghost use Rattle.rows.specs.Rows.{Alike, part, put_part, row_of};
+ghost use Rattle.rows.specs.Rows.{Alike, Apart, part, put_part, row_of};
 ghost use Rattle.rows.specs.Tabulate.{tabulate, Gives};
 
 // Every element becomes x. The library's `fill` asks for a clone that can't fail, which a Copy type doesn't promise.
@@ -28,29 +28,48 @@ pub fn put<T: Copy, F: Fn(usize) -> T>(v: &mut [T], value: F)
     }
 }
 
-// to becomes from.
+// to becomes from. This copy and the next two are loops, since the library's `copy_from_slice` calls C's memmove.
 pub fn copy<T: Copy>(to: &mut [T], from: &[T])
     requires { Alike to.old from.now }
     ensures { to.new ≡ from.now }
 {
-    to.copy_from_slice(from);
+    for j in 0..from.len() {
+        to[j] = from[j];
+    }
 }
 
 // The elements of `from` become the first of `to`.
+#[tactic(auto, using(crate::proofs::Fills::copied_turn))]
 pub fn copy_front<T: Copy>(to: &mut [T], from: &[T])
     requires { length from.now ≤ length to.old }
     ensures { to.new ≡ from.now ++ drop (length from.now) to.old }
 {
-    to[..from.len()].copy_from_slice(from);
+    for i in 0..from.len() {
+        to[i] = from[i];
+    }
 }
 
 // The n elements from place `at` on, copied to their place in another array. `from` is only read: it is lent as `&mut`,
 // so that what holds it knows that it stays.
+#[tactic(auto, using(crate::proofs::Rows::paste_turn))]
 pub fn copy_part<T: Copy>(to: &mut [T], from: &mut [T], at: usize, n: usize)
     requires { (at + n ≤ length to.old) × (length from.old ≡ length to.old) }
     ensures { (to.new ≡ put_part to.old at n (part from.old at n)) × (from.new ≡ from.old) }
 {
-    to[at..at + n].copy_from_slice(&from[at..at + n]);
+    for j in 0..n {
+        to[at + j] = from[at + j];
+    }
+}
+
+// A part of an array copied over an earlier one of the same array.
+#[tactic(auto, using(crate::proofs::Rows::copy_turn))]
+pub fn copy_within<T: Copy>(w: &mut [T], from: usize, to: usize, n: usize)
+    requires { Apart (length w.old) from to n }
+    ensures { w.new ≡ put_part w.old to n (part w.old from n) }
+{
+    for j in 0..n {
+        w[to + j] = w[from + j];
+    }
 }
 
 // Row i of rows of d elements.
