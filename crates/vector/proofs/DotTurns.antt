@@ -50,15 +50,17 @@ module _ (x rows : List Float) (d n : ℕ) where
       (λ c h. let r : length (row_of rows d c) ≡ d = length_part rows (c * d) d (omega (arith, long, row_within c n d h)) in
       sym (dot_end (get_or s c nan) x (row_of rows d c) j (omega arith)) ∙ g.all c h)
 
-  module _ (s : List Float) (j c : ℕ) (long : length rows ≡ n * d) (hx : j < length x) (hd : j < d) (hc : c < n) (g : Turning s j c) where
+  -- k is the place of the row's element
+  module _ (s : List Float) (j c k : ℕ) (place : k ≡ c * d + j) (long : length rows ≡ n * d) (hx : j < length x) (hd : j < d) (hc : c < n)
+      (g : Turning s j c) where
     abbrev more : Float
-    more = add binary64 (get_or s c nan) (mul binary64 (get_or x j nan) (get_or rows (c * d + j) nan))
+    more = add binary64 (get_or s c nan) (mul binary64 (get_or x j nan) (get_or rows k nan))
 
     -- accumulator c with its product added
     this_gone : Gone (set s c more) (j + 1) c
     this_gone =
         let r : length (row_of rows d c) ≡ d = length_part rows (c * d) d (omega (arith, long, row_within c n d hc)) in
-        rw (get_or-set_same s c more nan (omega (arith, g.long)), ← row_get rows d c j nan hd)
+        rw (get_or-set_same s c more nan (omega (arith, g.long)), place, ← row_get rows d c j nan hd)
         (dot_turn (get_or s c nan) x (row_of rows d c) j hx (omega arith) ∙ g.after c (omega arith) hc)
 
     -- another as it was

@@ -2,3 +2,4 @@
 pub mod Vectors
 pub mod DotTurns
 pub mod Within
+pub mod Fours

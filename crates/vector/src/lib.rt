@@ -8,7 +8,7 @@ ghost use Rattle.std.specs.Float.{binary64};
 ghost use Rattle.std.specs.Float.Ieee.{add};
 ghost use Rattle.float.specs.Arithmetic.{minus_zero, plus_zero, sum_from};
 ghost use Rattle.rows.specs.Rows.{Alike};
-ghost use Rattle.vector.specs.Dots.{dots_of};
+ghost use Rattle.vector.specs.Dots.{dots_of, FourRows, dot4_of};
 ghost use Rattle.vector.specs.Vectors.{dot_of, norm_of, divided_by, unit_vector, add_scaled};
 
 // The dots of x with N rows of d numbers that lie one after the other, side by side in N accumulators. Each is summed
@@ -32,6 +32,25 @@ pub fn dot(a: &[f64], b: &[f64]) -> f64
     ensures { result ≡ dot_of a.now b.now }
 {
     dots::<1>(a, b, b.len())[0]
+}
+
+// The dots of x with four vectors of one length, wherever they lie, side by side in four accumulators.
+pub fn dot4(x: &[f64], p: &[f64], q: &[f64], r: &[f64], s: &[f64]) -> [f64; 4]
+    requires { FourRows p.now q.now r.now s.now }
+    ensures { result ≡ dot4_of x.now p.now q.now r.now s.now }
+{
+    let mut a = -0.0;
+    let mut b = -0.0;
+    let mut c = -0.0;
+    let mut e = -0.0;
+    for j in 0..x.len().min(p.len()) {
+        let v = x[j];
+        a = a + v * p[j];
+        b = b + v * q[j];
+        c = c + v * r[j];
+        e = e + v * s[j];
+    }
+    [a, b, c, e]
 }
 
 // The root of the sum of the squares.

@@ -15,7 +15,8 @@ loop-c-init g c =
 pub loop-c-preserved : goal.loop-c-preserved
 loop-c-preserved g c =
     let a = c.args in
-    turned a.x.now a.rows.now a.d g.row.N c.loop-c.t-items c.loop-j.j c.loop-c.c c.requires (omega arith) (omega arith) c.loop-c-test.true c.loop-c.invariant
+    turned a.x.now a.rows.now a.d g.row.N c.loop-c.t-items c.loop-j.j c.loop-c.c _ (grind arith) c.requires (omega arith) (omega arith)
+    c.loop-c-test.true c.loop-c.invariant
 
 pub loop-j-preserved : goal.loop-j-preserved
 loop-j-preserved g c =
