@@ -1,6 +1,6 @@
 -- What crosses the border to C: a Kappa, and the numbers of an answer as they are lent. The numbers of each case of an
 -- answer are those of the entries' own maps. Definitions only.
-use Rattle.std.specs.Prelude.{List, cond, ℕ, eqb, get_or, Float, Result, Ok, Err}
+use Rattle.std.specs.Prelude.{List, Bool, true, false, cond, ℕ, eqb, leb, get_or, Float, Result, Ok, Err}
 use Rattle.counts.specs.declared.Counts.{Counts}
 use Rattle.limits.specs.declared.Refusal.{Refusal}
 use Rattle.limits.specs.declared.Refusal.TheVariants.{Kappa as NoKappa}
@@ -14,9 +14,20 @@ use Rattle.auto.specs.Outcome.{Outcome as ChosenOutcome}
 use Rattle.auto.specs.Answers.{Numbers as ChosenNumbers}
 use Rattle.auto.specs.declared.NotChosen.TheVariants.{Refused}
 
--- a Kappa crosses the border as its kind: 0 is Free, 1 is Shared; any other kind is refused with 13
-abbrev pub kappa_of : ℕ → Result Kappa Refusal
-kappa_of kind = cond (eqb kind 0) (Ok Free) (cond (eqb kind 1) (Ok Shared) (Err NoKappa))
+-- a Kappa crosses the border as its kind: 0 is Free, 1 is Shared
+abbrev pub kappa_by : Bool → Kappa
+kappa_by true = Shared
+kappa_by false = Free
+
+abbrev pub kappa_of : ℕ → Kappa
+kappa_of kind = kappa_by (eqb kind 1)
+
+abbrev pub kind_ok : ℕ → Bool
+kind_ok kind = leb kind 1
+
+-- any other kind is refused with 13
+abbrev pub checked_kappa : ℕ → Result Kappa Refusal
+checked_kappa kind = cond (eqb kind 0) (Ok Free) (cond (eqb kind 1) (Ok Shared) (Err NoKappa))
 
 -- the call with this Kappa; a refused one is answered before anything else is looked at, and changes no output array
 abbrev pub fitted_with : Result Kappa Refusal → Outputs → (Kappa → FittedOutcome) → FittedOutcome
@@ -27,12 +38,12 @@ abbrev pub chosen_with : Result Kappa Refusal → Outputs → (Kappa → ChosenO
 chosen_with (Ok kappa) o call = call kappa
 chosen_with (Err e) o call = record { answer = Err (Refused e); outputs = o }
 
--- the call with the Kappa of this kind
+-- the call with the Kappa of this kind, refused where there is none
 abbrev pub fitted_by : (kind : ℕ) → Outputs → (Kappa → FittedOutcome) → FittedOutcome
-fitted_by kind o call = fitted_with (kappa_of kind) o call
+fitted_by kind o call = fitted_with (checked_kappa kind) o call
 
 abbrev pub chosen_by : (kind : ℕ) → Outputs → (Kappa → ChosenOutcome) → ChosenOutcome
-chosen_by kind o call = chosen_with (kappa_of kind) o call
+chosen_by kind o call = chosen_with (checked_kappa kind) o call
 
 -- the two counts as they are lent: made, then saved
 abbrev pub counts_in : List ℕ → Counts

@@ -7,7 +7,7 @@ ghost use Rattle.std.specs.Prelude.{◌≡◌};
 ghost use Rattle.spherical.specs.Answers.{numbers_of as clusteredNumbersOf};
 ghost use Rattle.movmf.specs.Answers.{numbers_of as fittedNumbersOf};
 ghost use Rattle.auto.specs.Answers.{numbers_of as chosenNumbersOf};
-ghost use Rattle.border.specs.Answers.{kappa_of, clustered, fitted, chosen};
+ghost use Rattle.border.specs.Answers.{kappa_of, kind_ok, checked_kappa, clustered, fitted, chosen};
 
 use auto::{Chosen, NotChosen};
 use limits::Refusal;
@@ -15,10 +15,28 @@ use mixture_kappa::Kappa;
 use movmf::Fitted;
 use spherical::Clustered;
 
-// The Kappa of a kind: 0 is Free, 1 is Shared. A function and no TryFrom: it is how C names a Kappa, and nothing else
-// asks for it.
-pub fn kappa_of(kind: u32) -> Result<Kappa, Refusal>
+// The kinds of Kappa that the border knows: 0 Free, 1 Shared.
+pub fn kind_ok(kind: u32) -> bool
+    ensures { result ≡ kind_ok kind }
+{
+    kind <= 1
+}
+
+// Shared or Free: a kind that the border does not know is Free too.
+pub fn kappa_of(kind: u32) -> Kappa
     ensures { result ≡ kappa_of kind }
+{
+    if kind == 1 {
+        Kappa::Shared
+    } else {
+        Kappa::Free
+    }
+}
+
+// The Kappa of a kind that the border knows, and 13 for any other. A function and no TryFrom: it is how C names a
+// Kappa, and nothing else asks for it.
+pub fn checked_kappa(kind: u32) -> Result<Kappa, Refusal>
+    ensures { result ≡ checked_kappa kind }
 {
     match kind {
         0 => Ok(Kappa::Free),

@@ -14,7 +14,7 @@ ghost use Rattle.auto.specs.Outcome.{outcome as chosenOutcome};
 ghost use Rattle.auto.specs.Answers.{numbers_of as chosenNumbersOf};
 ghost use Rattle.auto.specs.Best.{KeepsBest};
 ghost use Rattle.mixture_kappa.specs.declared.Kappa.{Kappa};
-ghost use Rattle.border.specs.Answers.{kappa_of, fitted_by, chosen_by, clustered, fitted, chosen};
+ghost use Rattle.border.specs.Answers.{checked_kappa, fitted_by, chosen_by, clustered, fitted, chosen};
 
 // `spherical::spherical_kmeans`.
 #[unsafe(no_mangle)]
@@ -82,7 +82,7 @@ pub extern "C" fn mosterklomp_movmf_with(
         (arrays labels.new responsibilities.new group_weights.new
         directions.new concentrations.new logw.new) }
 {
-    let kappa = match border::kappa_of(kappa) {
+    let kappa = match border::checked_kappa(kappa) {
         Ok(z) => z,
         Err(e) => return u32::from(e),
     };
@@ -144,8 +144,8 @@ pub extern "C" fn mosterklomp_movmf_auto_with(
         counts.old) o.answer) × (arrays labels.new responsibilities.new
         group_weights.new directions.new concentrations.new logw.new
         ≡ o.outputs) }
-    ensures keeps_best { (z : Kappa) → kappa_of kappa ≡ Ok z → KeepsBest (arrays labels.old responsibilities.old
-        group_weights.old directions.old concentrations.old logw.old)
+    ensures keeps_best { (z : Kappa) → checked_kappa kappa ≡ Ok z → KeepsBest (arrays labels.old
+        responsibilities.old group_weights.old directions.old concentrations.old logw.old)
         weights.now coords.now d (record { rounds = rounds; seed = seed; kappa = z })
         k_min k_max (length work.old) (length work_u32.old)
         (chosen result groups.new loglik.new score.new counts.new)
@@ -155,7 +155,7 @@ pub extern "C" fn mosterklomp_movmf_auto_with(
         (arrays labels.new responsibilities.new group_weights.new
         directions.new concentrations.new logw.new) }
 {
-    let kappa = match border::kappa_of(kappa) {
+    let kappa = match border::checked_kappa(kappa) {
         Ok(z) => z,
         Err(e) => return u32::from(e),
     };
