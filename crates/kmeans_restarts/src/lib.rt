@@ -39,6 +39,16 @@ impl<'a> Halves<'a> {
             free: Area::of(problem, second, second_u32),
         }
     }
+
+    // The labels and centres of the held run, copied out.
+    pub fn copy_out(&self, labels: &mut [u32], directions: &mut [f64])
+        requires { let z = self.now.held.shape in (z.m ≤ length labels.old) × (z.k * z.d ≤ length directions.old) }
+        ensures labels_after { labels.new ≡ self.now.held.labels.now ++ drop self.now.held.shape.m labels.old }
+        ensures directions_after { let z = self.now.held.shape in
+            directions.new ≡ self.now.held.centers.now ++ drop (z.k * z.d) directions.old }
+    {
+        fill_outputs(labels, directions, self.held.labels, self.held.centers);
+    }
 }
 
 // After some runs: what is held of them, and the generator.
@@ -83,14 +93,19 @@ pub fn run_all(halves: &mut Halves, seed: u64, rounds: Rounds, restarts: usize) 
     h
 }
 
-// The labels and centres of an area, copied out.
-pub fn fill_outputs(labels: &mut [u32], directions: &mut [f64], area: &Area)
-    requires { (area.now.shape.m ≤ length labels.old)
-        × (area.now.shape.k * area.now.shape.d ≤ length directions.old) }
-    ensures labels_after { labels.new ≡ area.now.labels.now ++ drop area.now.shape.m labels.old }
+// The labels and centres of a run, copied out. They come as slices: nothing is asked of what they hold.
+pub fn fill_outputs(
+    labels: &mut [u32],
+    directions: &mut [f64],
+    found_labels: &[u32],
+    found_centers: &[f64],
+)
+    requires { (length found_labels.now ≤ length labels.old)
+        × (length found_centers.now ≤ length directions.old) }
+    ensures labels_after { labels.new ≡ found_labels.now ++ drop (length found_labels.now) labels.old }
     ensures directions_after { directions.new
-        ≡ area.now.centers.now ++ drop (area.now.shape.k * area.now.shape.d) directions.old }
+        ≡ found_centers.now ++ drop (length found_centers.now) directions.old }
 {
-    rows::copy_front(labels, area.labels);
-    rows::copy_front(directions, area.centers);
+    rows::copy_front(labels, found_labels);
+    rows::copy_front(directions, found_centers);
 }

@@ -103,7 +103,7 @@ pub fn spherical_kmeans(
     let shape = Shape { m, k, d };
     let mut halves = Halves::of(Problem { shape, leaves }, work, work_u32);
     let h = kmeans_restarts::run_all(&mut halves, seed, Rounds { most: rounds }, restarts);
-    kmeans_restarts::fill_outputs(labels, directions, &halves.held);
+    halves.copy_out(labels, directions);
     Ok(Clustered {
         cohesion: h.held.value,
         counts: h.held.counts,

@@ -35,9 +35,9 @@ invariant_of-run_all c = record { small = (ready_at (goal.at.invariant_of-run_al
 pub run_all-h-requires : goal.run_all-h-requires
 run_all-h-requires c = (ready_at (goal.at.run_all-h-requires c).In_ok-check).restarts_small
 
-pub fill_outputs-requires : goal.fill_outputs-requires
-fill_outputs-requires c =
-    let r = ready_at (goal.at.fill_outputs-requires c).In_ok-check in
+pub copy_out-requires : goal.copy_out-requires
+copy_out-requires c =
+    let r = ready_at (goal.at.copy_out-requires c).In_ok-check in
     let same = c.run_all-h.ensures.same in
     rw (same.0, c.of-halves.ensures.0) (r.labels_long, r.directions_long)
 
