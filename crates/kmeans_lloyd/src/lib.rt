@@ -9,7 +9,7 @@ ghost use Rattle.kmeans_lloyd.specs.Lloyd.{started_from};
 ghost use Rattle.kmeans_lloyd.specs.Runs.{RoundDone, RunSoFar, put_scale, own_dots, norms_from, rounds_in, result_in};
 ghost use Rattle.kmeans_lloyd.specs.Runs.{RunDone, RunLeft};
 
-use kmeans_layout::Area;
+use kmeans_layout::{Area, Problem};
 use limits::Rounds;
 use std::ops::ControlFlow;
 
@@ -113,14 +113,18 @@ pub struct RunEnd {
     pub generator: u64,
 }
 
-// One run of spherical k-means: seeding, rounds and cohesion. Labels, centres and the sums of the groups stay in the
-// area.
+// One run of spherical k-means: seeding, rounds and cohesion. The seeding's distances stand in the place of the lower
+// bounds, its chances in that of the upper ones. Labels, centres and the sums of the groups stay in the area.
 pub fn run(area: &mut Area, generator: u64, rounds: Rounds) -> RunEnd
     ensures same { Same area.old area.new }
     ensures run_done { RunDone (result_in area.old rounds.most generator) (state_of area.new) result }
     ensures run_left { RunLeft area.new }
 {
-    let next = kmeans_seeding::seed(area, generator);
+    let problem = Problem {
+        shape: area.shape,
+        leaves: area.leaves,
+    };
+    let next = kmeans_seeding::seed(problem, area.centers, area.low, area.high, generator);
     start(area);
     let c = lloyd(area, rounds);
     let cohesion = kmeans_sums::cohesion_of(area);

@@ -1,5 +1,5 @@
 -- Laws of the seeds: an array written place by place holds what is done before what it held, and each definition of specs/Seeding.antt
--- grows by one place or one centre a turn. First over plain lists, then over areas. Assumes nothing.
+-- grows by one place or one centre a turn. Over plain lists; the leaves come as a `Problem`. Assumes nothing.
 use mathlib.Core.Path.{◌≡◌, refl, ap, sym, subst, ◌∙◌}
 use mathlib.Core.List.{List, [], ◌∷◌, ◌++◌, map, map-append, append_assoc, append-nil}
 use mathlib.Core.Bool.{Bool, true, false, cond}
@@ -24,12 +24,9 @@ use Rattle.pick.specs.declared.Picked.{Picked}
 use Rattle.vector.proofs.Vectors.{dot_comm, unit_length}
 use Rattle.pick.proofs.Places.{pick_below}
 use Rattle.kmeans_nearest.specs.Blocks.{row_dots}
-use Rattle.kmeans_layout.specs.State.{State}
-use Rattle.kmeans_layout.specs.Areas.{state_of, Same}
-use Rattle.kmeans_layout.specs.declared.Area.{Area}
+use Rattle.kmeans_layout.specs.declared.Problem.{Problem}
 use Rattle.kmeans_seeding.specs.Seeding.{cosine_distance, cosine_distances_up_to, lowered, chances, seed_row, Seeds, seeds_up_to, seeds_of}
-use Rattle.kmeans_seeding.specs.Distances.{put_low, put_high, put_center, cosine_distances, lower_at, lower_from}
-use Rattle.kmeans_seeding.specs.Distances.{first_distances, lowered_by, chanced, SeededNext, next_pick}
+use Rattle.kmeans_seeding.specs.Distances.{cosine_distances, lower_at, lower_from, held_by, next_pick, SeededNext}
 
 -- ---- the distances
 
@@ -89,7 +86,7 @@ module _ (coords : List Float) (d : ℕ) (row : List Float) where
   lowered_at (x ∷ xs) j (suc i) n e h = lowered_at xs (suc j) i n (omega arith) (omega arith)
 
   -- of which the first i are lowered
-  abbrev lowering : ℕ → List Float → List Float
+  abbrev pub lowering : ℕ → List Float → List Float
   lowering i xs = take i (lowered coords d row 0 xs) ++ drop i xs
 
   lowering_next : (xs w : List Float) (i : ℕ) → i < length xs → w ≡ lowering i xs
@@ -108,7 +105,7 @@ module _ (coords : List Float) (d : ℕ) (row : List Float) where
       ap (λ (r : List Float). set r i x) g ∙ front_turn nan (take i new) xs i lp x h ∙ ap (λ (r : List Float). r ++ drop (i + 1) xs) more
 
   -- n leaves more
-  lowering_more : (xs w : List Float) (i n : ℕ) → i + n ≤ length xs → w ≡ lowering i xs
+  pub lowering_more : (xs w : List Float) (i n : ℕ) → i + n ≤ length xs → w ≡ lowering i xs
       → lower_from w i (cosine_distances coords d row i n) ≡ lowering (i + n) xs
   unfolding tabulate
   lowering_more xs w i zero h g = let e : i + 0 ≡ i = omega arith in rw e g
@@ -120,50 +117,11 @@ module _ (coords : List Float) (d : ℕ) (row : List Float) where
       let next = lowering_next xs (lower_from w i vs) (i + n) (omega arith) (lowering_more xs w i n (omega arith) g) in
       rw (lower_more w i vs v, l) (next ∙ ap (λ (j : ℕ). lowering j xs) e)
 
-  lowering_all : (xs : List Float) (i : ℕ) → i ≡ length xs → lowering i xs ≡ lowered coords d row 0 xs
+  pub lowering_all : (xs : List Float) (i : ℕ) → i ≡ length xs → lowering i xs ≡ lowered coords d row 0 xs
   lowering_all xs i e =
       let new = lowered coords d row 0 xs in
       let ln : length new ≤ i = omega (arith, lowered_length 0 xs) in
       front_end (take i new) xs i (sym e) ∙ take_all i new ln
-
--- the area whose first i distances are lowered where centre c is nearer
-pub record Lowered (a₀ a : Area) (c i : ℕ) : Type 0 where
-  pub same : Same a₀ a
-  pub state : let s = state_of a₀ in
-      state_of a ≡ put_low (lowering a₀.leaves.coords.now a₀.shape.d (row_of s.centers a₀.shape.d c) i s.low) s
-
-pub lowered_none : (a : Area) (c : ℕ) → Lowered a a c 0
-unfolding put_low
-lowered_none a c = record { same = (refl, refl); state = refl }
-
--- n distances more, w being what they make of the distances
-pub lowered_more : (a₀ a a' : Area) (c i n j : ℕ) (f w : List Float) → i + n ≤ a₀.shape.m → j ≡ i + n → Lowered a₀ a c i
-    → f ≡ cosine_distances a.leaves.coords.now a.shape.d (row_of a.centers.now a.shape.d c) i n → w ≡ lower_from a.low.now i f
-    → Same a a' → state_of a' ≡ put_low w (state_of a) → Lowered a₀ a' c j
-unfolding put_low
-lowered_more a₀ a a' c i n j f w h e g is ew same st =
-    let d = a₀.shape.d in
-    let coords = a₀.leaves.coords.now in
-    let s = state_of a₀ in
-    let row = row_of s.centers d c in
-    let is₁ : f ≡ cosine_distances coords d (row_of a.centers.now d c) i n = rw (← g.same.0, ← g.same.1) is in
-    let is₂ : f ≡ cosine_distances coords d row i n =
-    is₁ ∙ ap (λ (t : State). cosine_distances coords d (row_of t.centers d c) i n) g.state in
-    let now : w ≡ lower_from (lowering coords d row i s.low) i f = ew ∙ ap (λ (t : State). lower_from t.low i f) g.state in
-    let more = lowering_more coords d row s.low (lowering coords d row i s.low) i n (omega (arith, a₀.sized.low_long)) refl in
-    record {
-      same = (same.0 ∙ g.same.0, same.1 ∙ g.same.1);
-      state = st ∙ ap (put_low w) g.state
-          ∙ ap (λ (x : List Float). put_low x s) (now ∙ ap (lower_from (lowering coords d row i s.low) i) is₂ ∙ more
-          ∙ ap (λ (z : ℕ). lowering coords d row z s.low) (sym e));
-    }
-
-pub lowered_end : (a₀ a : Area) (c i : ℕ) → i ≡ a₀.shape.m → Lowered a₀ a c i
-    → state_of a ≡ lowered_by a₀.leaves.coords.now a₀.shape.d c (state_of a₀)
-lowered_end a₀ a c i e g =
-    let s = state_of a₀ in
-    g.state ∙ ap (λ (x : List Float). put_low x s)
-    (lowering_all a₀.leaves.coords.now a₀.shape.d (row_of s.centers a₀.shape.d c) s.low i (omega (arith, a₀.sized.low_long)))
 
 -- infinite distances lowered are the distances: a cosine distance is at most an infinite one, and no NaN
 below_inf : (t : Bool) (s : Bool) (m : ℕ) (e : ℤ) → let v = cond t plus_zero (fin s m e) in cond (lt v (inf false)) v (inf false) ≡ v
@@ -225,68 +183,62 @@ chances_by ws xs n lw lx =
 seed_row_length : (coords : List Float) (m d i : ℕ) → length coords ≡ m * d → i < m → length (unit_vector (row_of coords d i)) ≡ d
 seed_row_length coords m d i e h = unit_length (row_of coords d i) ∙ length_part coords (i * d) d (omega (arith, row_within i m d h))
 
-pub first_below : (a : Area) (generator : ℕ) → (pick_of a.leaves.weights.now generator).index < a.shape.m
-first_below a generator =
-    let lw = a.fit.weights_long in
-    let some = a.shape.sizes.m_some in
-    omega (arith, pick_below a.leaves.weights.now generator (omega arith))
+module _ (p : Problem) where
+  pub first_below : (generator : ℕ) → (pick_of p.leaves.weights.now generator).index < p.shape.m
+  first_below generator =
+      let lw = p.fit.weights_long in
+      let some = p.shape.sizes.m_some in
+      omega (arith, pick_below p.leaves.weights.now generator (omega arith))
 
-index_below : (a : Area) (generator : ℕ) → (next_pick a.leaves.weights.now generator (state_of a)).index < a.shape.m
-index_below a generator =
-    let lw = a.fit.weights_long in
-    let ll = a.sized.low_long in
-    let some = a.shape.sizes.m_some in
-    let l = chances_length a.leaves.weights.now a.low.now (omega arith) in
-    omega (arith, pick_below (chances a.leaves.weights.now a.low.now) generator (omega arith))
+  index_below : (s : Seeds) → length s.distances ≡ p.shape.m → (next_pick p.leaves.weights.now s).index < p.shape.m
+  index_below s ld =
+      let lw = p.fit.weights_long in
+      let some = p.shape.sizes.m_some in
+      let l = chances_length p.leaves.weights.now s.distances (omega arith) in
+      omega (arith, pick_below (chances p.leaves.weights.now s.distances) s.generator (omega arith))
 
--- a₁ has the chances, from which p is picked
-next_is : (a a₁ : Area) (generator : ℕ) (p : Picked) → state_of a₁ ≡ chanced a.leaves.weights.now (state_of a)
-    → p ≡ pick_of a₁.high.now generator → p ≡ next_pick a.leaves.weights.now generator (state_of a)
-unfolding put_high
-next_is a a₁ generator p e ep = ep ∙ ap (λ (x : State). pick_of x.high generator) e
+  -- the chances are written, and q is picked from them
+  next_is : (s : Seeds) (chanced : List Float) (q : Picked) → chanced ≡ chances p.leaves.weights.now s.distances
+      → q ≡ pick_of chanced s.generator → q ≡ next_pick p.leaves.weights.now s
+  next_is s chanced q ew eq = eq ∙ ap (λ (w : List Float). pick_of w s.generator) ew
 
-pub next_below : (a a₁ : Area) (generator : ℕ) (p : Picked) → Same a a₁ → state_of a₁ ≡ chanced a.leaves.weights.now (state_of a)
-    → p ≡ pick_of a₁.high.now generator → p.index < a₁.shape.m
-next_below a a₁ generator p same e ep = rw (same.0, next_is a a₁ generator p e ep) (index_below a generator)
+  pub next_below : (s : Seeds) (chanced : List Float) (q : Picked) → length s.distances ≡ p.shape.m
+      → chanced ≡ chances p.leaves.weights.now s.distances → q ≡ pick_of chanced s.generator → q.index < p.shape.m
+  next_below s chanced q ld ew eq = rw (next_is s chanced q ew eq) (index_below s ld)
 
--- a₂ has the centre too, a₃ the distances
-pub next_done : (a a₁ a₂ a₃ : Area) (c generator : ℕ) (p : Picked) → c < a.shape.k
-    → Same a a₁ → state_of a₁ ≡ chanced a.leaves.weights.now (state_of a) → p ≡ pick_of a₁.high.now generator
-    → Same a₁ a₂ → state_of a₂ ≡ put_center a₁.shape.d c (seed_row a₁.leaves.coords.now a₁.shape.d p) (state_of a₁)
-    → state_of a₃ ≡ lowered_by a₂.leaves.coords.now a₂.shape.d c (state_of a₂)
-    → SeededNext a.leaves.weights.now a.leaves.coords.now a.shape.d c generator (state_of a) (state_of a₃) p.generator
-unfolding put_low put_high put_center
-next_done a a₁ a₂ a₃ c generator p h same₁ e₁ ep same₂ e₂ e₃ =
-    let ws = a.leaves.weights.now in
-    let coords = a.leaves.coords.now in
-    let d = a.shape.d in
-    let s = state_of a in
-    let q = next_pick ws generator s in
-    let row = seed_row coords d q in
-    let same = next_is a a₁ generator p e₁ ep in
-    let lr : length row ≡ d = seed_row_length coords a.shape.m d q.index a.fit.coords_long (index_below a generator) in
-    let within : c * d ≤ length s.centers = omega (arith, a.sized.centers_long, row_within c a.shape.k d h) in
-    let put : row_of (put_part s.centers (c * d) d row) d c ≡ row = part_put s.centers (c * d) d row lr within in
-    let s₂ : state_of a₂ ≡ put_center d c (seed_row coords d p) (state_of a₁) = rw (← same₁.0, ← same₁.1) e₂ in
-    let s₃ : state_of a₃ ≡ lowered_by coords d c (state_of a₂) = rw (← same₁.0, ← same₁.1, ← same₂.0, ← same₂.1) e₃ in
-    let is : state_of a₃ ≡ lowered_by coords d c (put_center d c row (chanced ws s)) =
-    s₃ ∙ ap (lowered_by coords d c)
-    (s₂ ∙ ap (λ (x : Picked). put_center d c (seed_row coords d x) (state_of a₁)) same ∙ ap (put_center d c row) e₁) in
-    record {
-      centers = ap (λ (x : State). x.centers) is;
-      distances = ap (λ (x : State). x.low) is ∙ ap (λ (r : List Float). lowered coords d r 0 s.low) put;
-      generator_is = ap (λ (x : Picked). x.generator) same;
-    }
+  -- the leaf picked becomes centre c, which lowers the distances
+  pub next_done : (s : Seeds) (c : ℕ) (chanced cs ds : List Float) (q : Picked) → c < p.shape.k
+      → length s.centers ≡ p.shape.k * p.shape.d → length s.distances ≡ p.shape.m
+      → chanced ≡ chances p.leaves.weights.now s.distances → q ≡ pick_of chanced s.generator
+      → cs ≡ put_part s.centers (c * p.shape.d) p.shape.d (seed_row p.leaves.coords.now p.shape.d q)
+      → ds ≡ lowered p.leaves.coords.now p.shape.d (row_of cs p.shape.d c) 0 s.distances
+      → SeededNext p.leaves.weights.now p.leaves.coords.now p.shape.d c s (held_by cs ds q.generator)
+  next_done s c chanced cs ds q h lc ld ew eq ec ed =
+      let coords = p.leaves.coords.now in
+      let d = p.shape.d in
+      let next = next_pick p.leaves.weights.now s in
+      let row = seed_row coords d next in
+      let is = next_is s chanced q ew eq in
+      let lr : length row ≡ d = seed_row_length coords p.shape.m d next.index p.fit.coords_long (index_below s ld) in
+      let within : c * d ≤ length s.centers = omega (arith, lc, row_within c p.shape.k d h) in
+      let put : row_of (put_part s.centers (c * d) d row) d c ≡ row = part_put s.centers (c * d) d row lr within in
+      let more : cs ≡ put_part s.centers (c * d) d row =
+      ec ∙ ap (λ (x : Picked). put_part s.centers (c * d) d (seed_row coords d x)) is in
+      let by : row_of cs d c ≡ row = ap (λ (x : List Float). row_of x d c) more ∙ put in
+      record {
+        centers = more;
+        distances = ed ∙ ap (λ (r : List Float). lowered coords d r 0 s.distances) by;
+        generator_is = ap (λ (x : Picked). x.generator) is;
+      }
 
--- ---- the area with c seeds, nothing being said of the centres past them
-abbrev chosen : (a : Area) (generator c : ℕ) → Seeds
-chosen a generator c = seeds_up_to a.leaves.weights.now a.leaves.coords.now a.shape.m a.shape.d generator (c - 1)
+-- ---- the parts with c seeds, nothing being said of the centres past them
+abbrev chosen : (p : Problem) (generator c : ℕ) → Seeds
+chosen p generator c = seeds_up_to p.leaves.weights.now p.leaves.coords.now p.shape.m p.shape.d generator (c - 1)
 
-pub record Held (a₀ a : Area) (generator c r : ℕ) : Type 0 where
-  pub same : Same a₀ a
-  pub centers : take (c * a₀.shape.d) a.centers.now ≡ (chosen a₀ generator c).centers
-  pub distances : a.low.now ≡ (chosen a₀ generator c).distances
-  pub generator_is : r ≡ (chosen a₀ generator c).generator
+pub record Held (p : Problem) (generator c : ℕ) (s : Seeds) : Type 0 where
+  pub centers : take (c * p.shape.d) s.centers ≡ (chosen p generator c).centers
+  pub distances : s.distances ≡ (chosen p generator c).distances
+  pub generator_is : s.generator ≡ (chosen p generator c).generator
 
 -- one row more of the rows at the front
 take_row : (l row : List Float) (c d : ℕ) → length row ≡ d → c * d ≤ length l
@@ -296,68 +248,62 @@ take_row l row c d e h =
     rw (add-one, suc-mul, ← append_assoc (take (c * d) l) row (drop d (drop (c * d) l)))
     (take_at (take (c * d) l ++ row) (drop d (drop (c * d) l)) (c * d + d) f)
 
-pub held_first : (a a₁ a₂ : Area) (generator : ℕ) (p : Picked) → p ≡ pick_of a.leaves.weights.now generator
-    → Same a a₁ → state_of a₁ ≡ put_center a.shape.d 0 (seed_row a.leaves.coords.now a.shape.d p) (state_of a)
-    → Same a₁ a₂ → state_of a₂ ≡ first_distances a₁.leaves.coords.now a₁.shape.m a₁.shape.d (state_of a₁)
-    → Held a a₂ generator 1 p.generator
-unfolding put_center put_low seeds_up_to
-held_first a a₁ a₂ generator p e same₁ e₁ same₂ e₂ =
-    let coords = a.leaves.coords.now in
-    let m = a.shape.m in
-    let d = a.shape.d in
-    let s = state_of a in
-    let q = pick_of a.leaves.weights.now generator in
-    let row = seed_row coords d q in
-    let lr : length row ≡ d = seed_row_length coords m d q.index a.fit.coords_long (first_below a generator) in
-    let zeros : 0 * d ≤ length s.centers = rw zero-mul (omega arith) in
-    let put : row_of (put_part s.centers (0 * d) d row) d 0 ≡ row = part_put s.centers (0 * d) d row lr zeros in
-    let front : take (1 * d) (put_part s.centers (0 * d) d row) ≡ row = take_row s.centers row 0 d lr zeros ∙ rw zero-mul in
-    let s₂ : state_of a₂ ≡ first_distances coords m d (state_of a₁) = rw (← same₁.0, ← same₁.1) e₂ in
-    let is : state_of a₂ ≡ first_distances coords m d (put_center d 0 row s) =
-    s₂ ∙ ap (first_distances coords m d) (e₁ ∙ ap (λ (x : Picked). put_center d 0 (seed_row coords d x) s) e) in
-    record {
-      same = (same₂.0 ∙ same₁.0, same₂.1 ∙ same₁.1);
-      centers = ap (λ (x : State). take (1 * d) x.centers) is ∙ front;
-      distances = ap (λ (x : State). x.low) is ∙ ap (λ (r : List Float). cosine_distances_up_to coords d r m) put;
-      generator_is = ap (λ (x : Picked). x.generator) e;
-    }
+module _ (p : Problem) (generator : ℕ) where
+  pub held_first : (centers cs ds : List Float) (q : Picked) → length centers ≡ p.shape.k * p.shape.d
+      → q ≡ pick_of p.leaves.weights.now generator
+      → cs ≡ put_part centers (0 * p.shape.d) p.shape.d (seed_row p.leaves.coords.now p.shape.d q)
+      → ds ≡ cosine_distances_up_to p.leaves.coords.now p.shape.d (row_of cs p.shape.d 0) p.shape.m
+      → Held p generator 1 (held_by cs ds q.generator)
+  unfolding seeds_up_to
+  held_first centers cs ds q lc eq ec ed =
+      let coords = p.leaves.coords.now in
+      let m = p.shape.m in
+      let d = p.shape.d in
+      let first = pick_of p.leaves.weights.now generator in
+      let row = seed_row coords d first in
+      let lr : length row ≡ d = seed_row_length coords m d first.index p.fit.coords_long (first_below p generator) in
+      let zeros : 0 * d ≤ length centers = rw zero-mul (omega arith) in
+      let put : row_of (put_part centers (0 * d) d row) d 0 ≡ row = part_put centers (0 * d) d row lr zeros in
+      let front : take (1 * d) (put_part centers (0 * d) d row) ≡ row = take_row centers row 0 d lr zeros ∙ rw zero-mul in
+      let more : cs ≡ put_part centers (0 * d) d row = ec ∙ ap (λ (x : Picked). put_part centers (0 * d) d (seed_row coords d x)) eq in
+      let by : row_of cs d 0 ≡ row = ap (λ (x : List Float). row_of x d 0) more ∙ put in
+      record {
+        centers = ap (λ (x : List Float). take (1 * d) x) more ∙ front;
+        distances = ed ∙ ap (λ (r : List Float). cosine_distances_up_to coords d r m) by;
+        generator_is = ap (λ (x : Picked). x.generator) eq;
+      }
 
-pub held_turn : (a₀ a a' : Area) (generator c r r' : ℕ) → 0 < c → c < a₀.shape.k → Held a₀ a generator c r → Same a a'
-    → SeededNext a.leaves.weights.now a.leaves.coords.now a.shape.d c r (state_of a) (state_of a') r' → Held a₀ a' generator (c + 1) r'
-unfolding seeds_up_to
-held_turn a₀ a a' generator c r r' hc h g same n =
-    let coords = a₀.leaves.coords.now in
-    let d = a₀.shape.d in
-    let s = state_of a in
-    let before = chosen a₀ generator c in
-    let f : c + 1 - 1 ≡ suc (c - 1) = omega arith in
-    let n₁ : SeededNext a₀.leaves.weights.now coords d c r s (state_of a') r' = rw (← g.same.0, ← g.same.1) n in
-    let p = next_pick a₀.leaves.weights.now r s in
-    let q = pick_of (chances a₀.leaves.weights.now before.distances) before.generator in
-    let row = seed_row coords d p in
-    let below : p.index < a₀.shape.m = rw (← g.same.0, ← g.same.1) (index_below a r) in
-    let lr : length row ≡ d = seed_row_length coords a₀.shape.m d p.index a₀.fit.coords_long below in
-    let long : length s.centers ≡ a₀.shape.k * d = rw (← g.same.0) a.sized.centers_long in
-    let within : c * d ≤ length s.centers = omega (arith, row_within c a₀.shape.k d h) in
-    let pq : p ≡ q = rw (g.distances, g.generator_is) in
-    let same_row : row ≡ seed_row coords d q = ap (seed_row coords d) pq in
-    let grown : take ((c + 1) * d) a'.centers.now ≡ before.centers ++ row =
-    ap (λ (x : List Float). take ((c + 1) * d) x) n₁.centers ∙ take_row s.centers row c d lr within
-    ∙ ap (λ (x : List Float). x ++ row) g.centers in
-    let lower : a'.low.now ≡ lowered coords d row 0 before.distances =
-    n₁.distances ∙ ap (λ (x : List Float). lowered coords d row 0 x) g.distances in
-    record {
-      same = (same.0 ∙ g.same.0, same.1 ∙ g.same.1);
-      centers = rw f (grown ∙ ap (λ (x : List Float). before.centers ++ x) same_row);
-      distances = rw f (lower ∙ ap (λ (x : List Float). lowered coords d x 0 before.distances) same_row);
-      generator_is = rw f (n₁.generator_is ∙ ap (λ (x : Picked). x.generator) pq);
-    }
+  pub held_turn : (s s' : Seeds) (c : ℕ) → 0 < c → c < p.shape.k → length s.centers ≡ p.shape.k * p.shape.d
+      → length s.distances ≡ p.shape.m → Held p generator c s
+      → SeededNext p.leaves.weights.now p.leaves.coords.now p.shape.d c s s' → Held p generator (c + 1) s'
+  unfolding seeds_up_to
+  held_turn s s' c hc h lc ld g n =
+      let ws = p.leaves.weights.now in
+      let coords = p.leaves.coords.now in
+      let d = p.shape.d in
+      let before = chosen p generator c in
+      let f : c + 1 - 1 ≡ suc (c - 1) = omega arith in
+      let next = next_pick ws s in
+      let row = seed_row coords d next in
+      let lr : length row ≡ d = seed_row_length coords p.shape.m d next.index p.fit.coords_long (index_below p s ld) in
+      let within : c * d ≤ length s.centers = omega (arith, lc, row_within c p.shape.k d h) in
+      let same : next ≡ pick_of (chances ws before.distances) before.generator = rw (g.distances, g.generator_is) in
+      let same_row : row ≡ seed_row coords d (pick_of (chances ws before.distances) before.generator) = ap (seed_row coords d) same in
+      let grown : take ((c + 1) * d) s'.centers ≡ before.centers ++ row =
+      ap (λ (x : List Float). take ((c + 1) * d) x) n.centers ∙ take_row s.centers row c d lr within
+      ∙ ap (λ (x : List Float). x ++ row) g.centers in
+      let lower : s'.distances ≡ lowered coords d row 0 before.distances =
+      n.distances ∙ ap (λ (x : List Float). lowered coords d row 0 x) g.distances in
+      record {
+        centers = rw f (grown ∙ ap (λ (x : List Float). before.centers ++ x) same_row);
+        distances = rw f (lower ∙ ap (λ (x : List Float). lowered coords d x 0 before.distances) same_row);
+        generator_is = rw f (n.generator_is ∙ ap (λ (x : Picked). x.generator) same);
+      }
 
-pub held_end : (a₀ a : Area) (generator c r : ℕ) → c ≡ a₀.shape.k → Held a₀ a generator c r
-    → let s = seeds_of a₀.leaves.weights.now a₀.leaves.coords.now a₀.shape.m a₀.shape.k a₀.shape.d generator in
-    (a.centers.now ≡ s.centers) × (r ≡ s.generator)
-held_end a₀ a generator c r e g =
-    let k = a₀.shape.k in
-    let h : Held a₀ a generator k r = subst (λ (n : ℕ). Held a₀ a generator n r) e g in
-    let long : length a.centers.now ≡ k * a₀.shape.d = rw (← h.same.0) a.sized.centers_long in
-    (sym (take_all (k * a₀.shape.d) a.centers.now (omega arith)) ∙ h.centers, h.generator_is)
+  pub held_end : (s : Seeds) (c : ℕ) → c ≡ p.shape.k → length s.centers ≡ p.shape.k * p.shape.d → Held p generator c s
+      → let all = seeds_of p.leaves.weights.now p.leaves.coords.now p.shape.m p.shape.k p.shape.d generator in
+      (s.centers ≡ all.centers) × (s.generator ≡ all.generator)
+  held_end s c e lc g =
+      let k = p.shape.k in
+      let h : Held p generator k s = subst (λ (n : ℕ). Held p generator n s) e g in
+      (sym (take_all (k * p.shape.d) s.centers (omega (arith, lc))) ∙ h.centers, h.generator_is)

@@ -1,27 +1,22 @@
-// The seeding of a run of spherical k-means (vmf.rs, spherical_pp; document 01, 'Spherical k-means'), in its work area:
-// the distances stand in the place of the lower bounds, the chances in that of the upper ones.
+// The seeding of a run of spherical k-means (vmf.rs, spherical_pp; document 01, 'Spherical k-means'), in the parts of a
+// work area that it writes: the centres, and a distance and a chance for each leaf. It is lent these parts alone.
 #![tactic(auto)]
 
 ghost use Rattle.std.specs.Prelude.{◌≡◌, cond, ◌+◌, ◌*◌, ◌<◌, ◌≤◌, length};
 ghost use Rattle.std.specs.Float.Ieee.{lt};
-ghost use Rattle.rows.specs.Rows.{row_of};
+ghost use Rattle.rows.specs.Rows.{put_part, row_of};
 ghost use Rattle.vector.specs.Vectors.{unit_vector};
-ghost use Rattle.pick.specs.Pick.{pick_of};
-ghost use Rattle.kmeans_layout.specs.Areas.{state_of, Same};
-ghost use Rattle.kmeans_seeding.specs.Seeding.{seeds_of};
-ghost use Rattle.kmeans_seeding.specs.Distances.{put_center, cosine_distances, lower_from};
-ghost use Rattle.kmeans_seeding.specs.Distances.{first_distances, lowered_by, chanced, SeededNext};
+ghost use Rattle.kmeans_seeding.specs.Seeding.{cosine_distances_up_to, lowered, chances, seeds_of};
+ghost use Rattle.kmeans_seeding.specs.Distances.{cosine_distances, lower_from, Lent, held_by, SeededNext};
 
-use kmeans_layout::Area;
-use pick::Picked;
+use kmeans_layout::Problem;
 
-// The cosine distances of leaves i to i + N - 1 from centre c.
-fn cosine_distances<const N: usize>(area: &Area, c: usize, i: usize) -> [f64; N]
-    requires { (c < area.now.shape.k) × (i + N ≤ area.now.shape.m) }
-    ensures { result ≡ cosine_distances area.now.leaves.coords.now area.now.shape.d
-        (row_of area.now.centers.now area.now.shape.d c) i N }
+// The cosine distances of leaves i to i + N - 1 from a centre.
+fn cosine_distances<const N: usize>(problem: Problem, center: &[f64], i: usize) -> [f64; N]
+    requires { i + N ≤ problem.shape.m }
+    ensures { result ≡ cosine_distances problem.entry.leaves.coords.now problem.entry.shape.d center.now i N }
 {
-    let f = kmeans_nearest::row_dots::<N>(area.center(c), area.leaves.coords, i, area.shape.d);
+    let f = kmeans_nearest::row_dots::<N>(center, problem.leaves.coords, i, problem.shape.d);
     f.map(|v| float::max(1.0 - v, 0.0))
 }
 
@@ -43,95 +38,98 @@ fn lower_from<const N: usize>(distances: &mut [f64], at: usize, f: [f64; N])
     }
 }
 
-// The distance of each leaf lowered where centre c is nearer: by fours, then singly. The loops of this shape share only
-// their borders: one function of them would take two closures that write an area.
-fn lower_distances(area: &mut Area, c: usize)
-    requires { c < area.old.shape.k }
-    ensures same { Same area.old area.new }
-    ensures state { state_of area.new ≡ lowered_by area.old.leaves.coords.now area.old.shape.d c (state_of area.old) }
+// The distance of each leaf lowered where a centre is nearer: by fours, then singly. The loops of this shape share only
+// their borders: one function of them would take two closures that write an array.
+fn lower_distances(problem: Problem, center: &[f64], distances: &mut [f64])
+    requires { length distances.old ≡ problem.shape.m }
+    ensures { distances.new ≡ lowered problem.entry.leaves.coords.now problem.entry.shape.d center.now 0 distances.old }
 {
-    let m = area.shape.m;
+    let m = problem.shape.m;
     for b in 0..m / 4 {
-        let f = cosine_distances::<4>(area, c, 4 * b);
-        lower_from(area.low, 4 * b, f);
+        let f = cosine_distances::<4>(problem, center, 4 * b);
+        lower_from(distances, 4 * b, f);
     }
     for i in m - m % 4..m {
-        let f = cosine_distances::<1>(area, c, i);
-        lower_from(area.low, i, f);
+        let f = cosine_distances::<1>(problem, center, i);
+        lower_from(distances, i, f);
     }
 }
 
 // The distance of each leaf from the first centre, lowered from an infinite one.
-fn first_distances(area: &mut Area)
-    ensures same { Same area.old area.new }
-    ensures state { state_of area.new ≡ first_distances area.old.leaves.coords.now area.old.shape.m area.old.shape.d
-        (state_of area.old) }
+fn first_distances(problem: Problem, center: &[f64], distances: &mut [f64])
+    requires { length distances.old ≡ problem.shape.m }
+    ensures { distances.new ≡ cosine_distances_up_to problem.entry.leaves.coords.now problem.entry.shape.d center.now
+        problem.entry.shape.m }
 {
-    rows::fill(area.low, 1.0 / 0.0);
-    lower_distances(area, 0);
+    rows::fill(distances, 1.0 / 0.0);
+    lower_distances(problem, center, distances);
 }
 
-// Weight times distance, leaf by leaf. The distances are lent as `&mut`, so that it is known that they stay.
-fn put_chances(area: &mut Area)
-    ensures same { Same area.old area.new }
-    ensures state { state_of area.new ≡ chanced area.old.leaves.weights.now (state_of area.old) }
+// Weight times distance, leaf by leaf.
+fn put_chances(to: &mut [f64], weights: &[f64], distances: &[f64])
+    requires { (length weights.now ≡ length to.old) × (length distances.now ≡ length to.old) }
+    ensures { to.new ≡ chances weights.now distances.now }
 {
-    let weights = area.leaves.weights;
-    let distances = &mut *area.low;
-    rows::put(area.high, |i| weights[i] * distances[i]);
-}
-
-// A leaf by its chance, by one draw from the generator.
-fn pick_leaf(area: &Area, generator: u64) -> Picked
-    ensures { result ≡ pick_of area.now.high.now generator }
-{
-    pick::weighted_pick(area.high, generator)
+    rows::put(to, |i| weights[i] * distances[i]);
 }
 
 // Centre c becomes leaf i as a unit vector.
-#[tactic(auto, using(rows::proofs::Rows::row_cut), unfolding(crate::specs::Distances::put_center))]
-fn seed_center(area: &mut Area, c: usize, i: usize)
-    requires { (c < area.old.shape.k) × (i < area.old.shape.m) }
-    ensures same { Same area.old area.new }
-    ensures state { state_of area.new ≡ put_center area.old.shape.d c
-        (unit_vector (row_of area.old.leaves.coords.now area.old.shape.d i)) (state_of area.old) }
+#[tactic(auto, using(rows::proofs::Rows::row_cut, rows::proofs::Rows::row_within))]
+fn seed_center(problem: Problem, centers: &mut [f64], c: usize, i: usize)
+    requires long { length centers.old ≡ problem.shape.k * problem.shape.d }
+    requires below { (c < problem.shape.k) × (i < problem.shape.m) }
+    ensures { centers.new ≡ put_part centers.old (c * problem.entry.shape.d) problem.entry.shape.d
+        (unit_vector (row_of problem.entry.leaves.coords.now problem.entry.shape.d i)) }
 {
-    let d = area.shape.d;
+    let d = problem.shape.d;
     let to = c * d;
-    let leaf = area.leaf(i);
+    let leaf = rows::row(problem.leaves.coords, d, i);
     // Written, so cut here; rows says why.
-    vector::unit(&mut area.centers[to..to + d], leaf);
+    vector::unit(&mut centers[to..to + d], leaf);
 }
 
 // One centre more, by the weights times the distances; answers the generator after it.
-#[tactic(auto, using(crate::proofs::Seeds::next_below))]
-fn seed_next(area: &mut Area, generator: u64, c: usize) -> u64
-    requires { c < area.old.shape.k }
-    ensures same { Same area.old area.new }
-    ensures seeded { SeededNext area.old.leaves.weights.now area.old.leaves.coords.now area.old.shape.d c generator
-        (state_of area.old) (state_of area.new) result }
+#[tactic(auto, using(rows::proofs::Rows::row_within))]
+fn seed_next(
+    problem: Problem,
+    centers: &mut [f64],
+    distances: &mut [f64],
+    chances: &mut [f64],
+    generator: u64,
+    c: usize,
+) -> u64
+    requires lent { Lent problem.shape centers.old distances.old chances.old }
+    requires below { c < problem.shape.k }
+    ensures { SeededNext problem.entry.leaves.weights.now problem.entry.leaves.coords.now problem.entry.shape.d c
+        (held_by centers.old distances.old generator) (held_by centers.new distances.new result) }
 {
-    put_chances(area);
-    let p = pick_leaf(area, generator);
-    seed_center(area, c, p.index);
-    lower_distances(area, c);
+    put_chances(chances, problem.leaves.weights, distances);
+    let p = pick::weighted_pick(chances, generator);
+    seed_center(problem, centers, c, p.index);
+    lower_distances(problem, rows::row(centers, problem.shape.d, c), distances);
     p.generator
 }
 
 // The seeds of a run (spherical_pp); answers the generator after them.
-#[tactic(auto, using(crate::proofs::Seeds::first_below, crate::proofs::Seeds::held_end))]
-pub fn seed(area: &mut Area, generator: u64) -> u64
-    ensures same { Same area.old area.new }
-    ensures seeds { let s = seeds_of area.old.leaves.weights.now area.old.leaves.coords.now area.old.shape.m
-        area.old.shape.k area.old.shape.d generator in
-        (area.new.centers.now ≡ s.centers) × (result ≡ s.generator) }
+#[tactic(auto, using(rows::proofs::Rows::row_within))]
+pub fn seed(
+    problem: Problem,
+    centers: &mut [f64],
+    distances: &mut [f64],
+    chances: &mut [f64],
+    generator: u64,
+) -> u64
+    requires { Lent problem.shape centers.old distances.old chances.old }
+    ensures { let s = seeds_of problem.entry.leaves.weights.now problem.entry.leaves.coords.now problem.entry.shape.m
+        problem.entry.shape.k problem.entry.shape.d generator in
+        (centers.new ≡ s.centers) × (result ≡ s.generator) }
 {
-    let p = pick::weighted_pick(area.leaves.weights, generator);
-    seed_center(area, 0, p.index);
-    first_distances(area);
+    let p = pick::weighted_pick(problem.leaves.weights, generator);
+    seed_center(problem, centers, 0, p.index);
+    first_distances(problem, rows::row(centers, problem.shape.d, 0), distances);
     let mut g = p.generator;
-    for c in 1..area.shape.k {
-        g = seed_next(area, g, c);
+    for c in 1..problem.shape.k {
+        g = seed_next(problem, centers, distances, chances, g, c);
     }
     g
 }

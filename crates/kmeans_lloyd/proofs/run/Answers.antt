@@ -9,8 +9,7 @@ returns-clause-run_done c =
     let started = c.start.ensures in
     let rounds = c.lloyd-c.ensures in
     let end = c.cohesion_of-cohesion.ensures in
-    let e = rw (started.same.0, started.same.1, seeded.same.0, seeded.same.1) at rounds.done in
-    let s = rw (seeded.same.0, seeded.same.1) at started.state in
-    let v = rw (rounds.same.0, rounds.same.1, started.same.0, started.same.1, seeded.same.0, seeded.same.1) at end.cohesion in
+    let e = rw (started.same.0, started.same.1) at rounds.done in
+    let v = rw (rounds.same.0, rounds.same.1, started.same.0, started.same.1) at end.cohesion in
     run_done a.leaves.weights.now a.leaves.coords.now a.shape.m a.shape.k a.shape.d c.args.rounds.most c.args.generator _ _ _ _
-    c.seed-next.result c.lloyd-c.result c.cohesion_of-cohesion.result seeded.seeds.0 seeded.seeds.1 s e v end.same.1
+    c.seed-next.result c.lloyd-c.result c.cohesion_of-cohesion.result seeded.0 seeded.1 started.state e v end.same.1

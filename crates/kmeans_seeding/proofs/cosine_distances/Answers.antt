@@ -2,7 +2,6 @@
 use mathlib.Core.Path.{refl, ◌∙◌}
 use lib.Ieee.{of_bits, of_int}
 use borrow.Author.Rules.{rules}
-use Rattle.rows.specs.Rows.{row_of}
 use Rattle.float.proofs.Arrays.{map_is}
 use Rattle.kmeans_seeding.proofs.Seeds.{distance_by, distances_done}
 use Rattle.kmeans_seeding.proofs.cosine_distances.Goals as goal
@@ -10,7 +9,6 @@ use Rattle.kmeans_seeding.proofs.cosine_distances.Goals as goal
 pub returns : goal.returns
 unfolding of_bits of_int
 returns g c =
-    let a = c.args.area.now in
-    let d = a.shape.d in
+    let a = c.args in
     map_is _ _ (λ q x y v k. refl) _ _ distance_by (search rules) c.map.ensures.items (λ x y q k. search rules)
-    ∙ rw (c.row_dots-f.ensures, c.center.ensures) (distances_done a.leaves.coords.now d (row_of a.centers.now d c.args.c) c.args.i g.row.N)
+    ∙ rw c.row_dots-f.ensures (distances_done a.problem.leaves.coords.now a.problem.shape.d a.center.now a.i g.row.N)
