@@ -15,11 +15,11 @@ use Rattle.counts.specs.Counts.{AtMost, of_round}
 use Rattle.kmeans_bounds.specs.Shifts.{skips, slowest_of}
 use Rattle.pick.specs.declared.Best.{Best}
 use Rattle.kmeans_layout.specs.State.{State}
-use Rattle.kmeans_layout.specs.declared.Area.{Area}
 use Rattle.kmeans_assign.specs.Pass.{Pass, bounds_at, put_bounds, put_label, shift_up_to, shifted_for, best_of}
 use Rattle.kmeans_assign.specs.Pass.{put_best, more_made, more_saved, pass_up_to, pass_of}
 use Rattle.kmeans_assign.specs.Turns.{LeafPassed, tallied, passed}
 use Rattle.kmeans_assign.specs.declared.Passed.{Passed}
+use Rattle.limits.specs.declared.Shape.{Shape}
 use Rattle.kmeans_assign.proofs.Cases.{either}
 use Rattle.kmeans_assign.proofs.Tallies.{counts_of_pass}
 
@@ -41,16 +41,16 @@ module _ (coords : List Float) (k d it : ℕ) (s : State) where
       l.answer l.state in
       ap (passed x') f ∙ g ∙ rw (add-one, ← e)
 
--- ---- a pass over an area's leaves, of the state s
-module _ (a : Area) (s : State) (it n : ℕ) (x : State) (p : Passed)
-    (e : passed x p ≡ pass_up_to a.leaves.coords.now a.shape.k a.shape.d it s n) where
-  pub pass_small : n ≤ a.shape.m → AtMost of_round p.counts
+-- ---- a pass over the leaves, of the state s
+module _ (coords : List Float) (shape : Shape) (s : State) (it n : ℕ) (x : State) (p : Passed)
+    (e : passed x p ≡ pass_up_to coords shape.k shape.d it s n) where
+  pub pass_small : n ≤ shape.m → AtMost of_round p.counts
   pass_small h =
-      let k = a.shape.k in
+      let k = shape.k in
       let sum : p.counts.made + p.counts.saved ≡ k * n =
-      ap (λ (q : Pass). q.counts.made + q.counts.saved) e ∙ counts_of_pass a.leaves.coords.now k a.shape.d it s n in
-      let most : k * n ≤ 64 * n = mul-le-mul_right n a.shape.sizes.k_small in
-      let few = a.shape.sizes.m_small in
+      ap (λ (q : Pass). q.counts.made + q.counts.saved) e ∙ counts_of_pass coords k shape.d it s n in
+      let most : k * n ≤ 64 * n = mul-le-mul_right n shape.sizes.k_small in
+      let few = shape.sizes.m_small in
       record { made = omega (arith, sum, most, few, h); saved = omega (arith, sum, most, few, h) }
 
 -- ---- neither the shift nor the pass moves a centre

@@ -1,2 +1,4 @@
 pub mod Pass
+pub mod Parts
+pub mod Lent
 pub mod Turns

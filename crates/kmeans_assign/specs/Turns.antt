@@ -10,8 +10,6 @@ use Rattle.pick.specs.declared.Best.{Best}
 use Rattle.kmeans_bounds.specs.Shifts.{skips, slowest_of, other_than}
 use Rattle.kmeans_bounds.specs.Products.{NeverSkipped}
 use Rattle.kmeans_layout.specs.State.{State}
-use Rattle.kmeans_layout.specs.declared.Area.{Area}
-use Rattle.kmeans_layout.specs.Areas.{state_of}
 use Rattle.counts.specs.Counts.{AtMost, of_round}
 use Rattle.kmeans_assign.specs.Pass.{Pass, bounds_at, best_of, put_best, more_made, more_saved, shift_leaf, shift_up_to}
 use Rattle.kmeans_assign.specs.declared.Passed.{Passed}
@@ -47,9 +45,9 @@ tallied p (Some changed) k = record { changed = p.changed || changed; counts = m
 abbrev pub passed : State → Passed → Pass
 passed s p = record { state = s; changed = p.changed; counts = p.counts }
 
--- the pass of the definition is the area's after it, and its counts are small
-pub record PassDone (p : Pass) (a : Area) (answer : Passed) : Type 0 where
-  pub answer_is : passed (state_of a) answer ≡ p
+-- the pass of the definition is the state and the answer after it, and its counts are small
+pub record PassDone (p : Pass) (s : State) (answer : Passed) : Type 0 where
+  pub answer_is : passed s answer ≡ p
   pub small : AtMost of_round answer.counts
 
 -- the two smallest drifts, by which a round shifts the bounds; none in the first, before which no centre turned

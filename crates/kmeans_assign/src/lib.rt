@@ -1,44 +1,49 @@
 // The assignment pass of a round of spherical k-means with its bounds, their shift and the skip (vmf.rs; document 01,
-// 'Spherical k-means'), in the work area of a run.
+// 'Spherical k-means'), in the parts of a work area that it reads and writes.
 #![tactic(auto)]
 
 ghost use Rattle.std.specs.Prelude.{◌≡◌, true, not, ◌<◌, ◌≤◌, eqb, get_or};
 ghost use Rattle.counts.specs.Counts.{AtMost, of_round};
 ghost use Rattle.kmeans_bounds.specs.Shifts.{other_than};
-ghost use Rattle.kmeans_layout.specs.Areas.{state_of, Same};
+ghost use Rattle.kmeans_layout.specs.Sized.{Labelled};
+ghost use Rattle.kmeans_assign.specs.Parts.{Sized, state_by};
+ghost use Rattle.kmeans_assign.specs.Lent.{state_in, SameParts};
 ghost use Rattle.kmeans_assign.specs.Pass.{bounds_at, put_bounds, put_label, shift_leaf, bounds_by, best_of, pass_of};
 ghost use Rattle.kmeans_assign.specs.Turns.{Spent, LeafPlaced, LeafPassed, tallied, PassDone};
 ghost use Rattle.kmeans_assign.specs.Turns.{turns_of, drifts_of, shift_one};
 
+mod layout;
+
 use counts::Counts;
 use kmeans_bounds::{Bounds, Turned};
-use kmeans_layout::Area;
 use kmeans_nearest::Centers;
+use layout::Assignment;
+use limits::Shape;
 use pick::Best;
 
 // ---- the bounds of a leaf
 
 // The bounds of leaf i.
-fn bounds_at(area: &Area, i: usize) -> Bounds
-    requires { i < area.now.shape.m }
-    ensures { result ≡ bounds_at (state_of area.now) i }
+fn bounds_at(a: &Assignment, i: usize) -> Bounds
+    requires { i < a.now.shape.m }
+    ensures { result ≡ bounds_at (state_in a.now) i }
 {
     Bounds {
-        scale: area.scale[i],
-        low: area.low[i],
-        high: area.high[i],
+        scale: a.scale[i],
+        low: a.low[i],
+        high: a.high[i],
     }
 }
 
 // New bounds of leaf i.
 #[tactic(auto, unfolding(crate::specs::Pass::put_bounds))]
-fn put_bounds(area: &mut Area, i: usize, b: Bounds)
-    requires { i < area.old.shape.m }
-    ensures same { Same area.old area.new }
-    ensures state { state_of area.new ≡ put_bounds i b (state_of area.old) }
+fn put_bounds(a: &mut Assignment, i: usize, b: Bounds)
+    requires { i < a.old.shape.m }
+    ensures same { SameParts a.old a.new }
+    ensures state { state_in a.new ≡ put_bounds i b (state_in a.old) }
 {
-    area.low[i] = b.low;
-    area.high[i] = b.high;
+    a.low[i] = b.low;
+    a.high[i] = b.high;
 }
 
 // The smallest drift of the centres other than the leaf's own.
@@ -49,14 +54,14 @@ fn other_drift(t: Best, label: usize) -> f64
 }
 
 // How far leaf i's centre turned, and the others at most, by the two smallest drifts.
-fn turns(area: &Area, t: Best, i: usize) -> Turned
-    requires { i < area.now.shape.m }
-    ensures { result ≡ turns_of area.now.shape.k t i (state_of area.now) }
+fn turns(a: &Assignment, t: Best, i: usize) -> Turned
+    requires { i < a.now.shape.m }
+    ensures { result ≡ turns_of a.now.shape.k t i (state_in a.now) }
 {
-    let label = area.labels[i] as usize;
+    let label = a.labels[i] as usize;
     Turned {
-        own: area.drift[label],
-        other: (area.shape.k > 1).then(|| other_drift(t, label)),
+        own: a.drift[label],
+        other: (a.shape.k > 1).then(|| other_drift(t, label)),
     }
 }
 
@@ -85,77 +90,77 @@ fn bounds_by(b: Best, o: Bounds, k: usize) -> Bounds
 
 // Leaf i is served so well, by centre c; whether its label changes.
 #[tactic(auto, using(crate::proofs::Labels::set_below), unfolding(crate::specs::Pass::put_label))]
-fn put_label(area: &mut Area, i: usize, v: f64, c: usize) -> bool
-    requires { (i < area.old.shape.m) × (c < area.old.shape.k) }
-    ensures same { Same area.old area.new }
-    ensures state { state_of area.new ≡ put_label i v c (state_of area.old) }
-    ensures change { result ≡ not (eqb (get_or area.old.labels.now i 0) c) }
+fn put_label(a: &mut Assignment, i: usize, v: f64, c: usize) -> bool
+    requires { (i < a.old.shape.m) × (c < a.old.shape.k) }
+    ensures same { SameParts a.old a.new }
+    ensures state { state_in a.new ≡ put_label i v c (state_in a.old) }
+    ensures change { result ≡ not (eqb (get_or a.old.labels.now i 0) c) }
 {
     let label = c as u32;
-    let changed = area.labels[i] != label;
-    area.served[i] = v;
-    area.labels[i] = label;
+    let changed = a.labels[i] != label;
+    a.served[i] = v;
+    a.labels[i] = label;
     changed
 }
 
 // The best centre of leaf i, which is one of the k.
-#[tactic(auto, using(kmeans_nearest::proofs::Nearest::best_below))]
-fn best_of(area: &Area, i: usize) -> Best
-    requires { i < area.now.shape.m }
-    ensures best { result ≡ best_of area.now.leaves.coords.now area.now.shape.k area.now.shape.d (state_of area.now) i }
-    ensures below { result.index < area.now.shape.k }
+#[tactic(auto, using(kmeans_nearest::proofs::Nearest::best_below, rows::proofs::Rows::row_within))]
+fn best_of(a: &Assignment, i: usize) -> Best
+    requires { i < a.now.shape.m }
+    ensures best { result ≡ best_of a.now.coords.now a.now.shape.k a.now.shape.d (state_in a.now) i }
+    ensures below { result.index < a.now.shape.k }
 {
     let centers = Centers {
-        rows: area.centers,
-        k: area.shape.k,
-        d: area.shape.d,
+        rows: a.centers,
+        k: a.shape.k,
+        d: a.shape.d,
     };
-    centers.best_of(area.leaf(i))
+    centers.best_of(rows::row(a.coords, a.shape.d, i))
 }
 
 // Leaf i is given its best centre; whether its label changes.
-fn place_leaf(area: &mut Area, i: usize) -> bool
-    requires { i < area.old.shape.m }
-    ensures same { Same area.old area.new }
-    ensures placed { LeafPlaced area.old.leaves.coords.now area.old.shape.k area.old.shape.d i (state_of area.old)
-        (state_of area.new) result }
+fn place_leaf(a: &mut Assignment, i: usize) -> bool
+    requires { i < a.old.shape.m }
+    ensures same { SameParts a.old a.new }
+    ensures placed { LeafPlaced a.old.coords.now a.old.shape.k a.old.shape.d i (state_in a.old)
+        (state_in a.new) result }
 {
-    let b = best_of(area, i);
-    let n = bounds_by(b, bounds_at(area, i), area.shape.k);
-    let changed = put_label(area, i, b.value, b.index);
-    put_bounds(area, i, n);
+    let b = best_of(a, i);
+    let n = bounds_by(b, bounds_at(a, i), a.shape.k);
+    let changed = put_label(a, i, b.value, b.index);
+    put_bounds(a, i, n);
     changed
 }
 
 // Leaf i in a pass of round `it`: skipped (`None`), or given its best centre (whether its label changes).
-fn assign_leaf(area: &mut Area, it: usize, i: usize) -> Option<bool>
-    requires { i < area.old.shape.m }
-    ensures same { Same area.old area.new }
-    ensures passed { LeafPassed area.old.leaves.coords.now area.old.shape.k area.old.shape.d it i (state_of area.old)
-        (state_of area.new) result }
+fn assign_leaf(a: &mut Assignment, it: usize, i: usize) -> Option<bool>
+    requires { i < a.old.shape.m }
+    ensures same { SameParts a.old a.new }
+    ensures passed { LeafPassed a.old.coords.now a.old.shape.k a.old.shape.d it i (state_in a.old)
+        (state_in a.new) result }
 {
-    let b = bounds_at(area, i);
+    let b = bounds_at(a, i);
     if b.is_skipped(it) {
         return None;
     }
-    Some(place_leaf(area, i))
+    Some(place_leaf(a, i))
 }
 
 // Leaf i in a pass after the first round: its bounds are shifted by how far the centres turned, unless it gets new ones
 // anyway.
-fn turn_leaf(area: &mut Area, t: Best, it: usize, i: usize) -> Option<bool>
-    requires { i < area.old.shape.m }
-    ensures same { Same area.old area.new }
-    ensures passed { LeafPassed area.old.leaves.coords.now area.old.shape.k area.old.shape.d it i
-        (shift_leaf area.old.shape.k t i (state_of area.old)) (state_of area.new) result }
+fn turn_leaf(a: &mut Assignment, t: Best, it: usize, i: usize) -> Option<bool>
+    requires { i < a.old.shape.m }
+    ensures same { SameParts a.old a.new }
+    ensures passed { LeafPassed a.old.coords.now a.old.shape.k a.old.shape.d it i
+        (shift_leaf a.old.shape.k t i (state_in a.old)) (state_in a.new) result }
 {
-    let turns = turns(area, t, i);
-    let b = bounds_at(area, i);
+    let turns = turns(a, t, i);
+    let b = bounds_at(a, i);
     if is_spent(b, turns) {
-        return Some(place_leaf(area, i));
+        return Some(place_leaf(a, i));
     }
-    put_bounds(area, i, b.shifted(turns));
-    assign_leaf(area, it, i)
+    put_bounds(a, i, b.shifted(turns));
+    assign_leaf(a, it, i)
 }
 
 // What a pass answers: whether a label changed, and the products made and saved. The counts are there whether a label
@@ -192,40 +197,75 @@ fn tally(p: Passed, turn: Option<bool>, k: usize) -> Passed
 }
 
 // The two smallest drifts; none in the first round, before which no centre turned.
-fn drifts(area: &Area, it: usize) -> Option<Best>
-    ensures { result ≡ drifts_of it area.now.drift.now }
+fn drifts(a: &Assignment, it: usize) -> Option<Best>
+    ensures { result ≡ drifts_of it a.now.drift.now }
 {
-    (it > 0).then(|| kmeans_bounds::two_smallest(area.drift))
+    (it > 0).then(|| kmeans_bounds::two_smallest(a.drift))
 }
 
 // Leaf i in the pass of round `it`; where there are drifts, with the shift of its bounds.
-fn leaf_turn(area: &mut Area, drifts: Option<Best>, it: usize, i: usize) -> Option<bool>
-    requires { i < area.old.shape.m }
-    ensures same { Same area.old area.new }
-    ensures passed { LeafPassed area.old.leaves.coords.now area.old.shape.k area.old.shape.d it i
-        (shift_one area.old.shape.k drifts i (state_of area.old)) (state_of area.new) result }
+fn leaf_turn(a: &mut Assignment, drifts: Option<Best>, it: usize, i: usize) -> Option<bool>
+    requires { i < a.old.shape.m }
+    ensures same { SameParts a.old a.new }
+    ensures passed { LeafPassed a.old.coords.now a.old.shape.k a.old.shape.d it i
+        (shift_one a.old.shape.k drifts i (state_in a.old)) (state_in a.new) result }
 {
     match drifts {
-        Some(t) => turn_leaf(area, t, it, i),
-        None => assign_leaf(area, it, i),
+        Some(t) => turn_leaf(a, t, it, i),
+        None => assign_leaf(a, it, i),
     }
 }
 
 // The pass of round `it`, after the first with the shift of the bounds, leaf by leaf.
 #[tactic(auto, using(crate::proofs::Fused::none_shifted), unfolding(crate::specs::Pass::pass_up_to))]
-pub fn pass(area: &mut Area, it: usize) -> Passed
-    ensures same { Same area.old area.new }
-    ensures done { PassDone (pass_of area.old.leaves.coords.now area.old.shape.m area.old.shape.k area.old.shape.d it
-        (state_of area.old)) area.new result }
+fn pass_over(a: &mut Assignment, it: usize) -> Passed
+    ensures same { SameParts a.old a.new }
+    ensures done { PassDone (pass_of a.old.coords.now a.old.shape.m a.old.shape.k a.old.shape.d it
+        (state_in a.old)) (state_in a.new) result }
 {
-    let drifts = drifts(area, it);
+    let drifts = drifts(a, it);
     let mut p = Passed {
         changed: false,
         counts: Counts::default(),
     };
-    for i in 0..area.shape.m {
-        let turn = leaf_turn(area, drifts, it, i);
-        p = tally(p, turn, area.shape.k);
+    for i in 0..a.shape.m {
+        let turn = leaf_turn(a, drifts, it, i);
+        p = tally(p, turn, a.shape.k);
     }
     p
+}
+
+// The pass of round `it`, over these leaves and parts of a work area. The parts come singly: of those that an area
+// lends out in a struct it would not be known what they hold afterwards.
+pub fn pass(
+    shape: Shape,
+    coords: &[f64],
+    centers: &mut [f64],
+    scale: &mut [f64],
+    low: &mut [f64],
+    high: &mut [f64],
+    served: &mut [f64],
+    drift: &mut [f64],
+    labels: &mut [u32],
+    it: usize,
+) -> Passed
+    requires sized { Sized shape coords.now centers.old scale.old low.old high.old served.old drift.old labels.old }
+    requires labelled { Labelled shape.m shape.k labels.old }
+    ensures labelled { Labelled shape.m shape.k labels.new }
+    ensures done { PassDone (pass_of coords.now shape.m shape.k shape.d it
+        (state_by centers.old scale.old low.old high.old served.old drift.old labels.old))
+        (state_by centers.new scale.new low.new high.new served.new drift.new labels.new) result }
+{
+    let mut a = Assignment {
+        shape,
+        coords,
+        centers,
+        scale,
+        low,
+        high,
+        served,
+        drift,
+        labels,
+    };
+    pass_over(&mut a, it)
 }

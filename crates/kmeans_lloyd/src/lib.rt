@@ -22,7 +22,18 @@ fn one_round(area: &mut Area, it: usize) -> ControlFlow<counts::Counts, counts::
         let l = area.old.leaves in
         RoundDone l.weights.now l.coords.now z.m z.k z.d it (state_of area.old) (state_of area.new) result }
 {
-    let p = kmeans_assign::pass(area, it);
+    let p = kmeans_assign::pass(
+        area.shape,
+        area.leaves.coords,
+        area.centers,
+        area.scale,
+        area.low,
+        area.high,
+        area.served,
+        area.drift,
+        area.labels,
+        it,
+    );
     if !p.changed & (it > 0) {
         return ControlFlow::Break(p.counts);
     }

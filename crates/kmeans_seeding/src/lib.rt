@@ -1,5 +1,6 @@
 // The seeding of a run of spherical k-means (vmf.rs, spherical_pp; document 01, 'Spherical k-means'), in the parts of a
-// work area that it writes: the centres, and a distance and a chance for each leaf. It is lent these parts alone.
+// work area that it writes: the centres, and a distance and a chance for each leaf. It is lent these parts alone, and
+// singly: of those that an area lends out in a struct it would not be known what they hold afterwards.
 #![tactic(auto)]
 
 ghost use Rattle.std.specs.Prelude.{◌≡◌, cond, ◌+◌, ◌*◌, ◌<◌, ◌≤◌, length};
