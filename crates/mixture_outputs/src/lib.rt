@@ -1,5 +1,5 @@
 // What the mixture fits share (vmf.rs, the fields of a fit; mixture.rs, ln_weight; document 01, 'Leaves, settings,
-// fit', 'Mixture' and 'Refusals by call'): what they refuse, and the outputs filled from the area of the kept run.
+// fit', 'Mixture' and 'Refusals by call'): what they refuse, and the outputs filled from what the kept run found.
 #![tactic(auto)]
 
 ghost use Rattle.std.specs.Prelude.{◌≡◌, ◌++◌, true, ◌<◌, ◌≤◌, length, drop, Float};
@@ -7,7 +7,7 @@ ghost use Rattle.rows.specs.Rows.{row_of};
 ghost use Rattle.pick.specs.Places.{argmax_of};
 ghost use Rattle.limits.specs.Limits.{most_groups};
 ghost use Rattle.mixture_run.specs.Fits.{labels_of, ln_weight, logw_of};
-ghost use Rattle.mixture_run.specs.Areas.{parts_of, model_of, em_of};
+ghost use Rattle.mixture_run.specs.Areas.{found_model, found_em};
 ghost use Rattle.mixture_outputs.specs.Outputs.{lengths_of, written};
 ghost use Rattle.mixture_outputs.specs.Refusals.{outputs_ok, arrays_ok, fit_refusal};
 ghost use Rattle.mixture_outputs.specs.Lent.{outputs_of, SameArrays, Fits};
@@ -15,7 +15,7 @@ ghost use Rattle.mixture_outputs.specs.Lent.{outputs_of, SameArrays, Fits};
 use bessel::Order;
 use limits::{Leaves, Refusal, need};
 use mixture_kappa::Settings;
-use mixture_run::layout::Area;
+use mixture_run::layout::Found;
 
 // ---- what is refused
 
@@ -107,19 +107,20 @@ impl Arrays<'_> {
 // ---- filled
 
 // The label of leaf i: the first group of its greatest responsibility.
-fn label_of(area: &Area, i: usize) -> u32
-    requires { i < area.now.warm.shape.m }
-    ensures { result ≡ argmax_of (row_of area.now.responsibilities.now area.now.warm.shape.k i) }
+#[tactic(auto, using(rows::proofs::Rows::row_within))]
+fn label_of(found: Found, i: usize) -> u32
+    requires { i < found.shape.m }
+    ensures { result ≡ argmax_of (row_of found.entry.responsibilities.now found.entry.shape.k i) }
 {
-    pick::argmax(area.leaf_responsibilities(i)) as u32
+    pick::argmax(rows::row(found.responsibilities, found.shape.k, i)) as u32
 }
 
 // The label of each leaf.
-fn put_labels(labels: &mut [u32], area: &Area)
-    requires { length labels.old ≡ area.now.warm.shape.m }
-    ensures { labels.new ≡ labels_of area.now.responsibilities.now area.now.warm.shape.m area.now.warm.shape.k }
+fn put_labels(labels: &mut [u32], found: Found)
+    requires { length labels.old ≡ found.shape.m }
+    ensures { labels.new ≡ labels_of found.entry.responsibilities.now found.entry.shape.m found.entry.shape.k }
 {
-    rows::put(labels, |i| label_of(area, i));
+    rows::put(labels, |i| label_of(found, i));
 }
 
 // The logarithm of a weight, with mixture.rs's floor.
@@ -130,46 +131,46 @@ fn ln_weight(w: f64) -> f64
 }
 
 // ln weight + log normalizer of each group. The table is read once for all.
-fn put_logw(logw: &mut [f64], area: &Area)
-    requires { length logw.old ≡ area.now.warm.shape.k }
-    ensures { logw.new ≡ logw_of area.now.warm.shape.k area.now.warm.shape.d (model_of (parts_of area.now)) }
+fn put_logw(logw: &mut [f64], found: Found)
+    requires { length logw.old ≡ found.shape.k }
+    ensures { logw.new ≡ logw_of found.entry.shape.k found.entry.shape.d (found_model found.entry) }
 {
-    let order = Order::of(area.warm.shape.d);
+    let order = Order::of(found.shape.d);
     rows::put(logw, |c| {
-        ln_weight(area.weights[c]) + mixture_kappa::log_norm_from(area.kappas[c], order)
+        ln_weight(found.weights[c]) + mixture_kappa::log_norm_from(found.concentrations[c], order)
     });
 }
 
 // The labels at the start of an array that may be longer.
-fn fill_labels(labels: &mut [u32], area: &Area)
-    requires { area.now.warm.shape.m ≤ length labels.old }
-    ensures { labels.new ≡ labels_of area.now.responsibilities.now area.now.warm.shape.m area.now.warm.shape.k
-        ++ drop area.now.warm.shape.m labels.old }
+fn fill_labels(labels: &mut [u32], found: Found)
+    requires { found.shape.m ≤ length labels.old }
+    ensures { labels.new ≡ labels_of found.entry.responsibilities.now found.entry.shape.m found.entry.shape.k
+        ++ drop found.entry.shape.m labels.old }
 {
-    put_labels(&mut labels[..area.warm.shape.m], area);
+    put_labels(&mut labels[..found.shape.m], found);
 }
 
 // The logw at the start of an array that may be longer.
-fn fill_logw(logw: &mut [f64], area: &Area)
-    requires { area.now.warm.shape.k ≤ length logw.old }
-    ensures { logw.new ≡ logw_of area.now.warm.shape.k area.now.warm.shape.d (model_of (parts_of area.now))
-        ++ drop area.now.warm.shape.k logw.old }
+fn fill_logw(logw: &mut [f64], found: Found)
+    requires { found.shape.k ≤ length logw.old }
+    ensures { logw.new ≡ logw_of found.entry.shape.k found.entry.shape.d (found_model found.entry)
+        ++ drop found.entry.shape.k logw.old }
 {
-    put_logw(&mut logw[..area.warm.shape.k], area);
+    put_logw(&mut logw[..found.shape.k], found);
 }
 
-// What the run in this area found, written into the outputs.
+// What a run found, written into the outputs.
 #[tactic(auto, unfolding(crate::specs::Outputs::written))]
-pub fn fill_outputs(o: &mut Arrays, area: &Area)
-    requires { Fits (outputs_of o.old) area.now.warm.shape.m area.now.warm.shape.k area.now.warm.shape.d }
+pub fn fill_outputs(o: &mut Arrays, found: Found)
+    requires { Fits (outputs_of o.old) found.shape.m found.shape.k found.shape.d }
     ensures same { SameArrays o.old o.new }
-    ensures filled { (loglik : Float) → outputs_of o.new ≡ written area.now.warm.shape.m area.now.warm.shape.k
-        area.now.warm.shape.d (em_of (parts_of area.now) loglik) (outputs_of o.old) }
+    ensures filled { (loglik : Float) → outputs_of o.new ≡ written found.entry.shape.m found.entry.shape.k
+        found.entry.shape.d (found_em found.entry loglik) (outputs_of o.old) }
 {
-    fill_labels(o.labels, area);
-    rows::copy_front(o.responsibilities, area.responsibilities);
-    rows::copy_front(o.weights, area.weights);
-    rows::copy_front(o.directions, area.warm.centers);
-    rows::copy_front(o.concentrations, area.kappas);
-    fill_logw(o.logw, area);
+    fill_labels(o.labels, found);
+    rows::copy_front(o.responsibilities, found.responsibilities);
+    rows::copy_front(o.weights, found.weights);
+    rows::copy_front(o.directions, found.directions);
+    rows::copy_front(o.concentrations, found.concentrations);
+    fill_logw(o.logw, found);
 }

@@ -109,7 +109,7 @@ pub fn four_runs(halves: &mut Halves, s: Settings) -> Runs
 
 // Of what is the held run's and what is the last one's, that of the kept run: the last one's, unless its log-likelihood
 // is at most the held one's. Of two lent areas it hands back one.
-fn keeper<T: Copy>(r: Runs, held: T, last: T) -> T
+pub fn keeper<T: Copy>(r: Runs, held: T, last: T) -> T
     ensures { result ≡ kept_of r.held r.last held last }
 {
     if r.last <= r.held { held } else { last }

@@ -9,6 +9,7 @@ use Rattle.mixture_run.specs.Mixture.{Model, Statistics, Em, log_density_at}
 use Rattle.mixture_run.specs.Fits.{Once, once_of}
 use Rattle.mixture_run.specs.declared.RunEnd.{RunEnd}
 use Rattle.mixture_run.specs.declared.layout.Area.{Area}
+use Rattle.mixture_run.specs.declared.layout.Found.{Found}
 
 -- the directions and resultants; of each group its weight, concentration, log coefficient, whole weight and length of
 -- resultant; the responsibilities
@@ -89,6 +90,13 @@ with_statistics g p = with_totals g.totals (with_sums g.sums p)
 
 abbrev pub em_of : Parts → Float → Em
 em_of p loglik = record { resp = p.resp; model = model_of p; loglik = loglik }
+
+-- what is found, lent to be read
+abbrev pub found_model : Found → Model
+found_model f = record { weights = f.weights.now; directions = f.directions.now; kappas = f.concentrations.now }
+
+abbrev pub found_em : Found → Float → Em
+found_em f loglik = record { resp = f.responsibilities.now; model = found_model f; loglik = loglik }
 
 -- the log densities of a leaf in n groups, from c on
 abbrev pub log_densities_from : (d : ℕ) (coefficients : List Float) → Model → (x : List Float) (c n : ℕ) → List Float

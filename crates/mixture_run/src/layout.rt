@@ -4,9 +4,10 @@
 ghost use Rattle.std.specs.Prelude.{◌≡◌, ◌<◌, ◌≤◌, length};
 ghost use Rattle.rows.specs.Rows.{row_of};
 ghost use Rattle.kmeans_layout.specs.Sized.{work_u32_total};
-ghost use Rattle.mixture_run.specs.Sized.{Sized, total};
+ghost use Rattle.mixture_run.specs.Sized.{Sized, SizedFound, total};
 
 use kmeans_layout::Problem;
+use limits::Shape;
 
 #[derive(Drop)]
 pub struct Area<'a> {
@@ -48,6 +49,21 @@ impl<'a> Area<'a> {
         }
     }
 
+    // What the run in this area found.
+    pub fn found(&self) -> Found<'_>
+        ensures { (result.shape ≡ self.now.warm.shape) × (result.responsibilities.now ≡ self.now.responsibilities.now)
+            × (result.weights.now ≡ self.now.weights.now) × (result.directions.now ≡ self.now.warm.centers.now)
+            × (result.concentrations.now ≡ self.now.kappas.now) }
+    {
+        Found {
+            shape: self.warm.shape,
+            responsibilities: self.responsibilities,
+            weights: self.weights,
+            directions: self.warm.centers,
+            concentrations: self.kappas,
+        }
+    }
+
     // Leaf i's responsibilities.
     #[tactic(auto, using(rows::proofs::Rows::row_within))]
     pub fn leaf_responsibilities(&self, i: usize) -> &[f64]
@@ -56,4 +72,17 @@ impl<'a> Area<'a> {
     {
         rows::row(self.responsibilities, self.warm.shape.k, i)
     }
+}
+
+// What a run found, lent to be read: its sizes; the responsibilities, leaf by leaf; of each group its weight, its
+// direction and its concentration.
+#[derive(Clone, Copy)]
+pub struct Found<'a> {
+    pub shape: Shape,
+    pub responsibilities: &'a [f64],
+    pub weights: &'a [f64],
+    pub directions: &'a [f64],
+    pub concentrations: &'a [f64],
+    ghost sized: { SizedFound shape.m shape.k shape.d responsibilities.now weights.now directions.now
+        concentrations.now },
 }

@@ -48,7 +48,8 @@ returns-then-beats-clause-fit c =
     let sh = shape_at p ∙ c.of-halves.ensures.0 in
     let beats = rw c.choice_of.ensures at c.beats.ensures in
     let loglik = kept_loglik r.result.held r.result.last in
-    let filled = rw (c.kept.ensures, sh, em_at p) at (c.fill_outputs.ensures.filled loglik) in
+    let f = c.found.ensures in
+    let filled = rw (f.0, f.1, f.2, f.3, f.4, c.kept.ensures, sh, em_at p) at (c.fill_outputs.ensures.filled loglik) in
     fitted_kept a.leaves.weights.now a.leaves.coords.now a.leaves.d a.k a.s (kept_at p) r.result (em_at p) (counts_at p) r.ensures.small
     (ap (λ (z : Shape). z.m) sh) (ap (λ (z : Shape). z.k) sh) (ap (λ (z : Shape). z.d) sh)
     a.t c.kept_loglik-loglik.result a.ln_total c.score_at-score.result c.beats.result c.add-counts.result c.kept_loglik-loglik.ensures

@@ -57,7 +57,7 @@ fill_outputs-requires c =
     let h = c.four_runs-r in
     let shape = (kept_same c.of-halves.result.held h.new.halves.held h.new.halves.free a.s h.result h.ensures).0 ∙ c.of-halves.ensures.0 in
     let r = ready_at (goal.at.fill_outputs-requires c).In_ok-check in
-    rw (c.kept.ensures, shape) (fits (outputs_of a.o.now) (length a.work.now) (length a.work_u32.now) (length a.leaves.weights.now) a.k
+    rw (c.found.ensures.0, c.kept.ensures, shape) (fits (outputs_of a.o.now) (length a.work.now) (length a.work_u32.now) (length a.leaves.weights.now) a.k
     a.leaves.d r.long)
 
 pub returns : goal.returns
@@ -70,7 +70,8 @@ returns c =
     let em = rw (z.0, z.1) at (kept_em held h.new.halves.held h.new.halves.free a.s h.result h.ensures) in
     let counts = rw (z.0, z.1) at (kept_counts held h.new.halves.held h.new.halves.free a.s h.result h.ensures) in
     let loglik = kept_loglik h.result.held h.result.last in
-    let filled = rw (c.kept.ensures, shape, em) at (c.fill_outputs.ensures.filled loglik) in
+    let f = c.found.ensures in
+    let filled = rw (f.0, f.1, f.2, f.3, f.4, c.kept.ensures, shape, em) at (c.fill_outputs.ensures.filled loglik) in
     let fit : answered (Ok (record { k = a.k; loglik = c.kept_loglik-loglik.result; counts = h.result.counts }))
     (outputs_of c.fill_outputs.new.o)
     ≡ outcome (outputs_of a.o.now) a.leaves.weights.now a.leaves.coords.now a.leaves.d a.k a.s (length a.work.now) (length a.work_u32.now) =
