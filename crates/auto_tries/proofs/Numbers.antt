@@ -2,7 +2,7 @@
 -- counts and the arrays go on as the definition does. By cases on whether the score beats the one held. Assumes nothing.
 use mathlib.Core.Path.{◌≡◌, refl, ap, ap₂, sym, subst, ◌∙◌}
 use mathlib.Core.List.{List}
-use mathlib.Core.Bool.{Bool, true, false, true≢false}
+use mathlib.Core.Bool.{Bool, true, false, cond, true≢false}
 use Prim.Native.Nat.{ℕ, suc, ◌+◌, ◌*◌, ◌-◌, ◌≤◌}
 use native.Mathlib.Omega.{arith}
 use lib.ListN.{length}
@@ -15,8 +15,10 @@ use Rattle.mixture_kappa.specs.declared.Settings.{Settings}
 use Rattle.mixture_run.specs.Mixture.{Em}
 use Rattle.mixture_run.specs.Areas.{parts_of, em_of}
 use Rattle.mixture_run.specs.declared.layout.Area.{Area}
-use Rattle.mixture_restarts.specs.Kept.{kept_loglik}
+use Rattle.pick.proofs.Places.{either}
+use Rattle.mixture_restarts.specs.Kept.{held_em, kept_loglik}
 use Rattle.mixture_restarts.specs.declared.Runs.{Runs}
+use Rattle.mixture_restarts.specs.declared.layout.Store.{Store}
 use Rattle.mixture_outputs.specs.Outputs.{Outputs, written}
 use Rattle.std.specs.Prelude.{Option, None, Some}
 use Rattle.auto_choice.specs.Choice.{Choice, number_with, total_of, score_by, held_score, choose_by, choose, chosen}
@@ -29,34 +31,48 @@ use Rattle.auto_tries.proofs.Tails.{tails_more, tails_written, written_same}
 abbrev pub kept_of : (k : ℕ) (score loglik : Float) → Option Kept
 kept_of k score loglik = Some (record { number = record { k = k; score = score }; loglik = loglik })
 
--- ---- one number fitted, of which an area has what is found
-module _ (weights coords : List Float) (d k : ℕ) (s : Settings) (a : Area) (r : Runs)
-    (em : em_of (parts_of a) (kept_loglik r.held r.last) ≡ (lone weights coords d s k).em)
+-- ---- what a run found is as long as its sizes make it, whichever of two it is
+module _ (m k d : ℕ) (q : Store) (a : Area) (same : q.shape ≡ a.warm.shape) (l : Float) where
+  store_full : Full q.shape.m q.shape.k q.shape.d (held_em q l)
+  store_full =
+      record {
+        resp = q.sized.responsibilities_long;
+        weights = q.sized.weights_long;
+        directions = q.sized.directions_long;
+        kappas = q.sized.concentrations_long;
+      }
+
+  area_full : Full a.warm.shape.m a.warm.shape.k a.warm.shape.d (em_of (parts_of a) l)
+  area_full =
+      record {
+        resp = a.sized.responsibilities_long;
+        weights = a.sized.weights_long;
+        directions = a.warm.sized.centers_long;
+        kappas = a.sized.kappas_long;
+      }
+
+  pub kept_full : (t : Bool) → a.warm.shape.m ≡ m → a.warm.shape.k ≡ k → a.warm.shape.d ≡ d
+      → Full m k d (cond t (held_em q l) (em_of (parts_of a) l))
+  kept_full t em ek ed =
+      either (λ (e : Em). Full m k d e) t (held_em q l) (em_of (parts_of a) l) (rw (same, em, ek, ed) at store_full)
+      (rw (em, ek, ed) at area_full)
+
+-- ---- one number fitted, of which this was found
+module _ (weights coords : List Float) (d k : ℕ) (s : Settings) (r : Runs)
+    (kept : kept_loglik r.held r.last ≡ (lone weights coords d s k).em.loglik)
     (fit : r.counts ≡ (lone weights coords d s k).counts) (few : AtMost (of_runs 4) r.counts)
-    (leaves : a.warm.shape.m ≡ length weights) (groups : a.warm.shape.k ≡ k) (row : a.warm.shape.d ≡ d) where
+    (full : Full (length weights) k d (lone weights coords d s k).em) where
   abbrev m : ℕ
   m = length weights
 
   abbrev found : Em
   found = (lone weights coords d s k).em
 
-  -- its lists are as long as those of the area
-  full : Full m k d found
-  full =
-      let e : Full a.warm.shape.m a.warm.shape.k a.warm.shape.d (em_of (parts_of a) (kept_loglik r.held r.last)) =
-      record {
-        resp = a.sized.responsibilities_long;
-        weights = a.sized.weights_long;
-        directions = a.warm.sized.centers_long;
-        kappas = a.sized.kappas_long;
-      } in
-      rw (leaves, groups, row, em) at e
-
   module _ (t : Tally) (loglik lnTotal x : Float) (beats : Bool) (counts : Counts) (el : loglik ≡ kept_loglik r.held r.last)
       (en : lnTotal ≡ ln_of (total_of weights)) (ex : x ≡ score_by s.kappa k d loglik lnTotal)
       (eb : beats ≡ lt x (held_score (choice_of t.kept))) (ec : counts ≡ plus_of t.counts r.counts) where
     loglik_is : loglik ≡ found.loglik
-    loglik_is = el ∙ ap (λ (y : Em). y.loglik) em
+    loglik_is = el ∙ kept
 
     score_is : x ≡ score weights coords d s k
     score_is = ex ∙ ap₂ (score_by s.kappa k d) loglik_is en

@@ -21,7 +21,7 @@ pub record Fittable (weights coords : List Float) (k d : ℕ) (o : Outputs) (wor
   pub coords_long : length coords ≡ length weights * d
   pub outputs_long : Fits o (length weights) k d
   pub work_long : half (length weights) k d + half (length weights) k d ≤ work
-  pub work_u32_long : (length weights + k) + (length weights + k) ≤ workU32
+  pub work_u32_long : length weights + k ≤ workU32
 
 -- what is found is as long as k groups make it
 pub record Full (m k d : ℕ) (em : Em) : Type 0 where

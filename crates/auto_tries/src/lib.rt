@@ -67,7 +67,7 @@ fn fit_of_k(
     let score = auto_choice::score_at(s.kappa, k, d, loglik, ln_total);
     let counts = t.counts + r.counts;
     if auto_choice::beats(score, choice_of(t.kept)) {
-        mixture_outputs::fill_outputs(o, mixture_restarts::kept(&halves, r).found());
+        mixture_outputs::fill_outputs(o, mixture_restarts::kept(&halves, r));
         let number = Scored { k, score };
         return Tally {
             kept: Some(Kept { number, loglik }),

@@ -1,43 +1,46 @@
-// The four runs of a mixture fit (vmf.rs, movmf_with; document 01, 'Mixture'): they stand in turn in two areas, so that
-// the held one and the last one are there at the end; the keeper hands back the area of the kept one and makes no copy.
+// The four runs of a mixture fit (vmf.rs, movmf_with; document 01, 'Mixture'): they are played in turn in one area, and
+// what the held one found stands beside it, so that the held one's and the last one's are there at the end; the keeper
+// hands back the kept one's and makes no copy.
 #![tactic(auto)]
 
-ghost use Rattle.std.specs.Prelude.{◌≡◌, ◌+◌, ◌<◌, ◌≤◌, length};
+ghost use Rattle.std.specs.Prelude.{◌≡◌, ◌+◌, ◌<◌, ◌≤◌, length, Float};
 ghost use Rattle.counts.specs.Counts.{AtMost, of_runs};
 ghost use Rattle.kmeans_layout.specs.Sized.{half, work_u32_total};
 ghost use Rattle.kmeans_layout.specs.Kept.{kept_of};
-ghost use Rattle.mixture_run.specs.Areas.{parts_of, Same, RunDone};
-ghost use Rattle.mixture_restarts.specs.Kept.{run_in, runs_in, Holds, OneMore, Both, kept_loglik};
+ghost use Rattle.mixture_run.specs.Areas.{parts_of, em_of, found_em, Same, RunDone};
+ghost use Rattle.mixture_restarts.specs.Kept.{held_em, run_in, runs_in, Holds, OneMore, Both, kept_loglik};
+
+pub mod layout;
 
 use kmeans_layout::{Held, Problem};
+use layout::Store;
 use mixture_kappa::Settings;
 use mixture_run::RunEnd;
-use mixture_run::layout::Area;
+use mixture_run::layout::{Area, Found};
 
-// Two areas of the same sizes and leaves, in the halves of the lent work arrays: the held run stands in one, the other
-// is free for the next. It and that of kmeans_restarts are no one struct of any area: the borrow checker takes no type
-// argument that holds a `&mut` beside a ghost field.
+// The halves of the lent f64 array: what the held run found stands in one, the other is the area of the next run. The
+// u32 array serves the warm starts alone, one after the other, so they share it.
 #[derive(Drop)]
 pub struct Halves<'a> {
-    pub held: Area<'a>,
+    pub held: Store<'a>,
     pub free: Area<'a>,
-    ghost alike: { Same held free },
+    ghost alike: { held.shape ≡ free.warm.shape },
 }
 
 impl<'a> Halves<'a> {
-    // The areas in the two lent arrays.
+    // The halves in the two lent arrays.
     pub fn of(problem: Problem<'a>, work: &'a mut [f64], work_u32: &'a mut [u32]) -> Halves<'a>
         requires { let z = problem.shape in
             (half z.m z.k z.d + half z.m z.k z.d ≤ length work.old)
-            × (work_u32_total z.m z.k + work_u32_total z.m z.k ≤ length work_u32.old) }
-        ensures { (result.held.warm.shape ≡ problem.entry.shape) × (result.held.warm.leaves ≡ problem.entry.leaves) }
+            × (work_u32_total z.m z.k ≤ length work_u32.old) }
+        ensures { (result.free.warm.shape ≡ problem.entry.shape) × (result.free.warm.leaves ≡ problem.entry.leaves) }
     {
         let shape = problem.shape;
         let (first, second) = work.split_at_mut(kmeans_layout::half(shape));
-        let (first_u32, second_u32) = work_u32.split_at_mut(shape.m + shape.k);
+        let (first_u32, _) = work_u32.split_at_mut(shape.m + shape.k);
         Halves {
-            held: Area::of(problem, first, first_u32),
-            free: Area::of(problem, second, second_u32),
+            held: Store::of(shape, first),
+            free: Area::of(problem, second, first_u32),
         }
     }
 }
@@ -54,23 +57,33 @@ fn run(area: &mut Area, s: Settings, t: u64) -> RunEnd
     mixture_run::movmf_once(area, own)
 }
 
-// Run t in the free area; where it is kept, the areas change places.
+// What the run in the free area found is held, and its arrays are free.
+fn hold(halves: &mut Halves)
+    ensures same { (halves.new.held.shape ≡ halves.old.held.shape) × (Same halves.old.free halves.new.free) }
+    ensures held { (loglik : Float) → held_em halves.new.held loglik ≡ em_of (parts_of halves.old.free) loglik }
+{
+    layout::exchange(&mut halves.held, &mut halves.free);
+}
+
+// Run t in the free area; where it is kept, what it found is held.
 fn one_more(halves: &mut Halves, h: Held, s: Settings, t: u64) -> Held
     requires { (t < 4) × (AtMost (of_runs t) h.counts) }
-    ensures { OneMore (run_in halves.old.held s t) halves.old.held halves.new.held h result }
+    ensures { OneMore (run_in halves.old.free s t) halves.old.free halves.new.free halves.old.held halves.new.held h
+        result }
 {
     let r = run(&mut halves.free, s, t);
     if h.gives_way(r.loglik) {
-        std::mem::swap(&mut halves.held, &mut halves.free);
+        hold(halves);
     }
     h.after(r.loglik, r.counts)
 }
 
 // The first three runs; what is held of them.
 fn first_runs(halves: &mut Halves, s: Settings) -> Held
-    ensures { Holds (runs_in halves.old.held s 2) halves.old.held halves.new.held 3 result }
+    ensures { Holds (runs_in halves.old.free s 2) halves.old.free halves.new.free halves.new.held 3 result }
 {
-    let first = run(&mut halves.held, s, 0);
+    let first = run(&mut halves.free, s, 0);
+    hold(halves);
     let mut h = Held {
         value: first.loglik,
         counts: first.counts,
@@ -92,8 +105,8 @@ pub struct Runs {
 
 // All four runs.
 pub fn four_runs(halves: &mut Halves, s: Settings) -> Runs
-    ensures { Both (runs_in halves.old.held s 2) (run_in halves.old.held s 3) halves.old.held halves.new.held
-        halves.new.free result }
+    ensures { Both (runs_in halves.old.free s 2) (run_in halves.old.free s 3) halves.old.free halves.new.free
+        halves.new.held result }
 {
     let h = first_runs(halves, s);
     let r = run(&mut halves.free, s, 3);
@@ -122,9 +135,11 @@ pub fn kept_loglik(r: Runs) -> f64
     keeper(r, r.held, r.last)
 }
 
-// The kept one's area.
-pub fn kept<'a, 'b>(halves: &'a Halves<'b>, r: Runs) -> &'a Area<'b>
-    ensures { result.now ≡ kept_of r.held r.last halves.now.held halves.now.free }
+// What the kept one found.
+pub fn kept<'a>(halves: &'a Halves<'_>, r: Runs) -> Found<'a>
+    ensures same { result.shape ≡ halves.now.free.warm.shape }
+    ensures kept { (loglik : Float) → found_em result loglik ≡ kept_of r.held r.last (held_em halves.now.held loglik)
+        (em_of (parts_of halves.now.free) loglik) }
 {
-    keeper(r, &halves.held, &halves.free)
+    keeper(r, halves.held.found(), halves.free.found())
 }

@@ -48,7 +48,7 @@ fn fit(
     let shape = Shape { m, k, d };
     let mut halves = Halves::of(Problem { shape, leaves }, work, work_u32);
     let r = mixture_restarts::four_runs(&mut halves, s);
-    mixture_outputs::fill_outputs(o, mixture_restarts::kept(&halves, r).found());
+    mixture_outputs::fill_outputs(o, mixture_restarts::kept(&halves, r));
     let loglik = mixture_restarts::kept_loglik(r);
     let counts = r.counts;
     Ok(Fitted { k, loglik, counts })

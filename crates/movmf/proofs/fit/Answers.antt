@@ -1,14 +1,13 @@
 -- `movmf::fit` meets its contract: what is not refused is within the limits, so both halves have room and the outputs can be filled; what
 -- is found is the definition's fit. Assumes nothing.
-use mathlib.Core.Path.{◌≡◌, refl, ap, sym, ◌∙◌}
+use mathlib.Core.Path.{◌≡◌, refl, sym, ◌∙◌}
 use mathlib.Core.Bool.{true}
 use native.Mathlib.Omega.{arith}
 use lib.ListN.{length}
 use Rattle.std.specs.Prelude.{Ok}
 use Rattle.limits.specs.Limits.{groups_ok}
-use Rattle.mixture_run.specs.Mixture.{Em}
 use Rattle.mixture_restarts.specs.Kept.{kept_loglik}
-use Rattle.mixture_restarts.proofs.Turns.{kept_same, kept_em, kept_counts}
+use Rattle.mixture_restarts.proofs.Turns.{kept_em, kept_loglik_is, kept_counts}
 use Rattle.mixture_outputs.specs.Outputs.{lengths_of}
 use Rattle.mixture_outputs.specs.Lent.{outputs_of}
 use Rattle.mixture_outputs.proofs.Refusals.{Ready, fits}
@@ -54,10 +53,9 @@ of-halves-requires c =
 pub fill_outputs-requires : goal.fill_outputs-requires
 fill_outputs-requires c =
     let a = c.args in
-    let h = c.four_runs-r in
-    let shape = (kept_same c.of-halves.result.held h.new.halves.held h.new.halves.free a.s h.result h.ensures).0 ∙ c.of-halves.ensures.0 in
+    let shape = c.four_runs-r.ensures.same.0 ∙ c.of-halves.ensures.0 in
     let r = ready_at (goal.at.fill_outputs-requires c).In_ok-check in
-    rw (c.found.ensures.0, c.kept.ensures, shape) (fits (outputs_of a.o.now) (length a.work.now) (length a.work_u32.now) (length a.leaves.weights.now) a.k
+    rw (c.kept.ensures.same, shape) (fits (outputs_of a.o.now) (length a.work.now) (length a.work_u32.now) (length a.leaves.weights.now) a.k
     a.leaves.d r.long)
 
 pub returns : goal.returns
@@ -65,17 +63,17 @@ returns c =
     let a = c.args in
     let h = c.four_runs-r in
     let z = c.of-halves.ensures in
-    let held = c.of-halves.result.held in
-    let shape = (kept_same held h.new.halves.held h.new.halves.free a.s h.result h.ensures).0 ∙ z.0 in
-    let em = rw (z.0, z.1) at (kept_em held h.new.halves.held h.new.halves.free a.s h.result h.ensures) in
-    let counts = rw (z.0, z.1) at (kept_counts held h.new.halves.held h.new.halves.free a.s h.result h.ensures) in
+    let free = c.of-halves.result.free in
+    let shape = h.ensures.same.0 ∙ z.0 in
+    let em = rw (z.0, z.1) at (kept_em free h.new.halves.free h.new.halves.held a.s h.result h.ensures) in
+    let counts = rw (z.0, z.1) at (kept_counts free h.new.halves.free h.new.halves.held a.s h.result h.ensures) in
+    let is = rw (z.0, z.1) at (kept_loglik_is free h.new.halves.free h.new.halves.held a.s h.result h.ensures) in
     let loglik = kept_loglik h.result.held h.result.last in
-    let f = c.found.ensures in
-    let filled = rw (f.0, f.1, f.2, f.3, f.4, c.kept.ensures, shape, em) at (c.fill_outputs.ensures.filled loglik) in
+    let filled = rw (c.kept.ensures.same, shape, c.kept.ensures.kept loglik, em) at (c.fill_outputs.ensures.filled loglik) in
     let fit : answered (Ok (record { k = a.k; loglik = c.kept_loglik-loglik.result; counts = h.result.counts }))
     (outputs_of c.fill_outputs.new.o)
     ≡ outcome (outputs_of a.o.now) a.leaves.weights.now a.leaves.coords.now a.leaves.d a.k a.s (length a.work.now) (length a.work_u32.now) =
-    rw (none (goal.at.returns c).In_ok-check, filled, counts, c.kept_loglik-loglik.ensures ∙ ap (λ (e : Em). e.loglik) em) refl in
+    rw (none (goal.at.returns c).In_ok-check, filled, counts, c.kept_loglik-loglik.ensures ∙ is) refl in
     record {
       same = c.fill_outputs.ensures.same;
       fitted = fit;
