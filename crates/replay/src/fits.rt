@@ -157,6 +157,9 @@ pub(crate) fn mixture_agrees(case: Case, form: Form) -> bool {
     })
 }
 
+// The responsibilities that an automatic fit is lent: one that needs more is refused.
+const AUTO_RESPONSIBILITIES: usize = 1024;
+
 // The number of leaves, or 0 where no number of groups is kept.
 fn labelled(k: usize, m: usize) -> usize {
     if k == 0 { 0 } else { m }
@@ -172,6 +175,8 @@ fn choice_agrees(case: Case, leaves: Leaves) -> Option<Place> {
         d: leaves.d,
     };
     let mut o = Outputs::new();
+    // The lesser of both: of a constant alone it is not seen that the part lies in the array.
+    let lent = AUTO_RESPONSIBILITIES.min(o.responsibilities.len());
     let mut work = [0.0; 8192];
     let mut work_u32 = [0u32; 384];
     let r = auto::movmf_auto_with(
@@ -182,7 +187,7 @@ fn choice_agrees(case: Case, leaves: Leaves) -> Option<Place> {
         case.word(3) as usize,
         settings(case.word(4), case.word(5), case.word(6)),
         &mut o.labels,
-        &mut o.responsibilities,
+        &mut o.responsibilities[..lent],
         &mut o.weights,
         &mut o.directions,
         &mut o.concentrations,
