@@ -18,7 +18,7 @@ pub(crate) fn file_fit_is(file: &[u8], line: &[u64]) -> bool {
 pub(crate) fn holds<F: FnOnce(&[u8], &[u64]) -> bool>(line: &[u64], test: F) -> bool
     requires { F.IsAlwaysCallable test }
 {
-    let mut room = [0u8; 9000];
-    let file = words::load_bytes(&mut room, line, lists::bytes_at(line, 4));
-    test(file, line)
+    let mut file = [0u8; 9000];
+    let n = words::load_bytes(&mut file, line, lists::bytes_at(line, 4));
+    test(&file[..n], line)
 }

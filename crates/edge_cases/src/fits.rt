@@ -208,9 +208,11 @@ pub(crate) fn holds<F: FnOnce(Call) -> bool>(line: &[u64], test: F) -> bool
     let mut weights = [0.0; 4097];
     let mut coords = [0.0; 4097];
     let at = lists::after(line, 9);
+    let m = lists::load(&mut weights, line, 9);
+    let n = lists::load(&mut coords, line, at);
     let leaves = Leaves {
-        weights: lists::load(&mut weights, line, 9),
-        coords: lists::load(&mut coords, line, at),
+        weights: &weights[..m],
+        coords: &coords[..n],
         d: word(line, 4) as usize,
     };
     test(call_of(line, leaves, lists::after(line, at)))

@@ -1,4 +1,6 @@
 // The lists of a line: a length, how many of the elements are written, and these; the last of them stands for the rest.
+ghost use Rattle.words.specs.Words.{Counted};
+
 use words::{plus, word};
 
 // The place of the last element that is written of the list at word `at`, counted from its first.
@@ -11,8 +13,10 @@ pub(crate) fn after(line: &[u64], at: usize) -> usize {
     plus(plus(at, 2), word(line, plus(at, 1)) as usize)
 }
 
-// The list at word `at`, put at the start of v; no more than it holds.
-pub(crate) fn load<'a>(v: &'a mut [f64], line: &[u64], at: usize) -> &'a [f64] {
+// Puts the list at word `at` at the start of v, and answers its length; no more than v holds.
+pub(crate) fn load(v: &mut [f64], line: &[u64], at: usize) -> usize
+    ensures { Counted result v.new }
+{
     words::load(
         v,
         line,

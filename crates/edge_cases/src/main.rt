@@ -57,10 +57,10 @@ fn run_words(rt: &impl Print, line: &[u64]) -> io::Result<()> {
 // A line: its words, and its name.
 fn run_line(rt: &impl Print, text: &[u8]) -> io::Result<()> {
     let bar = words::place_of(text, 0, 124);
-    let mut room = [0u64; 256];
-    let line = words::read(&mut room, &text[..bar]);
+    let mut line = [0u64; 256];
+    let n = words::read(&mut line, &text[..bar]);
     print_name(rt, text, bar)?;
-    run_words(rt, line)
+    run_words(rt, &line[..n])
 }
 
 // The loop goes from line end to line end and counts no index: split would give one more, empty line at the end.

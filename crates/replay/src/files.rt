@@ -15,8 +15,9 @@ fn packed_at(case: Case, at: usize) -> words::Bytes {
 // the text.
 pub(crate) fn listing_agrees(case: Case) -> bool {
     let mut room = [0u8; 16384];
-    let file = words::load_bytes(&mut room, case.words, packed_at(case, 0));
-    file.len() as u64 == case.word(0)
+    let n = words::load_bytes(&mut room, case.words, packed_at(case, 0));
+    let file = &room[..n];
+    n as u64 == case.word(0)
         && words::fills(case.words, packed_at(case, case.ins), |out| {
             leaf_file::list_file(file, out)
         })

@@ -22,9 +22,11 @@ fn holds<F: FnOnce(Leaves) -> bool>(case: Case, from: usize, test: F) -> bool
     let n = times(m, d);
     let mut weights = [0.0; 128];
     let mut coords = [0.0; 1024];
+    let a = words::load(&mut weights, case.words, from, m, m);
+    let b = words::load(&mut coords, case.words, plus(from, m), n, n);
     test(Leaves {
-        weights: words::load(&mut weights, case.words, from, m, m),
-        coords: words::load(&mut coords, case.words, plus(from, m), n, n),
+        weights: &weights[..a],
+        coords: &coords[..b],
         d,
     })
 }

@@ -56,16 +56,35 @@ struct Page {
 }
 
 impl Page {
-    // Reads words until `part` ends.
-    fn read_part(&mut self, mut part: impl Read + Drop) -> io::Result<&[u64]> {
+    ghost use Rattle.std.specs.Prelude.{◌≡◌, ◌≤◌, IfOk, OnErr};
+    ghost use Rattle.std.specs.Borrow.{sem};
+    ghost use Rattle.words.specs.Words.{Counted};
+    ghost use Rattle.replay.specs.Pages.{HandsWords};
+
+    // Reads words until `part` ends, and answers how many. An error leaves the words as they were.
+    fn fill(&mut self, mut part: impl Read + Drop) -> io::Result<usize>
+        ensures within { IfOk result (λ n. n ≤ 4096) }
+        ensures counted { IfOk result (λ n. Counted n self.new.words) }
+        ensures err { OnErr result (self.new.words ≡ self.old.words) }
+    {
         let Page { bytes, words } = self;
         bytes.clear();
         part.read_to_end(bytes)?;
         Ok(words::read(words, bytes))
     }
 
+    // Reads words until `part` ends.
+    fn read_part(&mut self, part: impl Read + Drop) -> io::Result<&[u64]>
+        ensures* { sem 𝓛 (HandsWords self.entry result) }
+    {
+        let n = self.fill(part)?;
+        Ok(&self.words[..n])
+    }
+
     // Reads that many words, or as many as there are; no more than 65,536 bytes hold, and a page.
-    fn read(&mut self, rt: &impl Input, count: usize) -> io::Result<&[u64]> {
+    fn read(&mut self, rt: &impl Input, count: usize) -> io::Result<&[u64]>
+        ensures* { sem 𝓛 (HandsWords self.entry result) }
+    {
         let bytes = (count % 65536 * 17).min(65536);
         self.read_part(rt.reader().take(bytes as u64))
     }

@@ -10,7 +10,8 @@ fn holds<F: FnOnce(&[f64]) -> bool>(case: Case, from: usize, n: usize, test: F) 
     requires { F.IsAlwaysCallable test }
 {
     let mut v = [0.0; 256];
-    test(words::load(&mut v, case.words, from, n, n))
+    let m = words::load(&mut v, case.words, from, n, n);
+    test(&v[..m])
 }
 
 // Two lengths and the two vectors.
@@ -21,7 +22,7 @@ pub(crate) fn dot_agrees(case: Case) -> bool {
     let mut w = [0.0; 256];
     let a = words::load(&mut v, case.words, 2, n, n);
     let b = words::load(&mut w, case.words, plus(2, n), m, m);
-    case.answer_is(vector::dot(a, b))
+    case.answer_is(vector::dot(&v[..a], &w[..b]))
 }
 
 pub(crate) fn norm_agrees(case: Case) -> bool {

@@ -1,13 +1,18 @@
 -- What the programs that run lists of examples read: the words of a text, and the lists among them. Definitions
 -- only.
-use Rattle.std.specs.Prelude.{◌≡◌, cond, List, [], ◌∷◌, length, get_or, Float}
-use Rattle.std.specs.Prelude.{ℕ, suc, ◌+◌, ◌-◌, ◌*◌, ◌/◌, ◌%◌, ◌^◌, ◌<◌, min, eqb, ltb}
+use Rattle.std.specs.Prelude.{◌≡◌, cond, List, [], ◌∷◌, length, take, get_or, Float}
+use Rattle.std.specs.Prelude.{ℕ, suc, ◌+◌, ◌-◌, ◌*◌, ◌/◌, ◌%◌, ◌^◌, ◌<◌, ◌≤◌, min, eqb, ltb}
 use Rattle.std.specs.Float.{binary64}
 use Rattle.std.specs.Float.Ieee.{of_bits}
 use Rattle.rows.specs.Tabulate.{tabulate}
 use Rattle.words.specs.declared.Bytes.{Bytes}
 use Rattle.words.specs.declared.Layout.{Layout}
 use Rattle.words.specs.declared.Layout.TheVariants.{Packed, Spread}
+
+-- n counts elements at the start of an array. The second part follows from the first; both are stated, since lending
+-- that part of the array asks for both
+abbrev pub Counted : {A : Type 0} → ℕ → List A → Type 0
+Counted n xs = (n ≤ length xs) × (n ≡ length (take n xs))
 
 -- the value of a hexadecimal digit; 16 for any other byte
 unfoldable pub digit_of : ℕ → ℕ

@@ -9,7 +9,7 @@ ghost use Rattle.std.specs.Float.{binary64};
 ghost use Rattle.std.specs.Float.Ieee.{of_bits, to_bits};
 ghost use Rattle.std.specs.Fn.{FnOnceReturnsAtMut};
 ghost use Rattle.rows.specs.Tabulate.{tabulate, Gives};
-ghost use Rattle.words.specs.Words.{digit_of, words_of, place_of};
+ghost use Rattle.words.specs.Words.{Counted, digit_of, words_of, place_of};
 ghost use Rattle.words.specs.Words.{plus_of, element_of, values_up_to, byte_of, bytes_up_to};
 ghost use Rattle.words.specs.Words.{due_at, AreBytes};
 ghost use Rattle.words.specs.Arithmetic.{operation_of, arithmetic_of};
@@ -33,15 +33,16 @@ fn digit(b: u8) -> u64
     }
 }
 
-// The words of a text, put at the start of `to`; no more than it holds.
-pub fn read<'a>(to: &'a mut [u64], text: &[u8]) -> &'a [u64]
-    ensures { result.now ≡ take (length to.old) (words_of text.now) }
+// Puts the words of a text at the start of `to`, and answers how many; no more than `to` holds.
+pub fn read(to: &mut [u64], text: &[u8]) -> usize
+    ensures counted { Counted result to.new }
+    ensures to_after { take result to.new ≡ take (length to.old) (words_of text.now) }
 {
     let mut n = 0;
     let mut x: u64 = 0;
     for b in text {
         if n == to.len() {
-            return to;
+            return n;
         }
         let d = digit(*b);
         if d < 16 {
@@ -52,7 +53,7 @@ pub fn read<'a>(to: &'a mut [u64], text: &[u8]) -> &'a [u64]
             x = 0;
         }
     }
-    &to[..n]
+    n
 }
 
 // The place of the first byte b from place `from` on; the text's end and no None where there is none, since callers cut
@@ -92,16 +93,17 @@ pub fn is_number(x: f64, words: &[u64], j: usize) -> bool
     float::bits_of(x) == word(words, j)
 }
 
-// The first n elements of a list, put at the start of v; no more than it holds.
-fn fill_by<'a, T: Copy, F: Fn(usize) -> T>(v: &'a mut [T], n: usize, element: F) -> &'a [T]
+// Puts the first n elements of a list at the start of v, and answers n; no more than v holds.
+fn fill_by<T: Copy, F: Fn(usize) -> T>(v: &mut [T], n: usize, element: F) -> usize
     requires { F.IsAlwaysCallable element }
-    ensures { (f : ℕ → T) → Gives (λ j x. F.post element j x) f (min n (length v.old))
-        → result.now ≡ tabulate f (min n (length v.old)) }
+    ensures counted { Counted result v.new }
+    ensures value { result ≡ min n (length v.old) }
+    ensures v_after { (f : ℕ → T) → Gives (λ j x. F.post element j x) f result → take result v.new ≡ tabulate f result }
 {
     let m = n.min(v.len());
     let part = &mut v[..m];
     rows::put(part, element);
-    part
+    m
 }
 
 // Element j of the list from word `from` on, of which elements 0 to `last` are written; the last of them stands for the
@@ -112,9 +114,11 @@ pub fn element(words: &[u64], from: usize, last: usize, j: usize) -> u64
     word(words, plus(from, j.min(last)))
 }
 
-// The first n elements of that list, put at the start of v; no more than it holds.
-pub fn load<'a>(v: &'a mut [f64], words: &[u64], from: usize, last: usize, n: usize) -> &'a [f64]
-    ensures { result.now ≡ values_up_to words.now from last (min n (length v.old)) }
+// Puts the first n elements of that list at the start of v, and answers n; no more than v holds.
+pub fn load(v: &mut [f64], words: &[u64], from: usize, last: usize, n: usize) -> usize
+    ensures counted { Counted result v.new }
+    ensures value { result ≡ min n (length v.old) }
+    ensures v_after { take result v.new ≡ values_up_to words.now from last result }
 {
     fill_by(v, n, |j| float::of_bits(element(words, from, last, j)))
 }
@@ -146,9 +150,11 @@ fn byte(words: &[u64], list: Bytes, j: usize) -> u8
     (value % 256) as u8
 }
 
-// A list, put at the start of v; no more than it holds.
-pub fn load_bytes<'a>(v: &'a mut [u8], words: &[u64], list: Bytes) -> &'a [u8]
-    ensures { result.now ≡ bytes_up_to words.now list (min list.count (length v.old)) }
+// Puts a list at the start of v, and answers its length; no more than v holds.
+pub fn load_bytes(v: &mut [u8], words: &[u64], list: Bytes) -> usize
+    ensures counted { Counted result v.new }
+    ensures value { result ≡ min list.count (length v.old) }
+    ensures v_after { take result v.new ≡ bytes_up_to words.now list result }
 {
     fill_by(v, list.count, |j| byte(words, list, j))
 }
