@@ -1,18 +1,23 @@
--- What crosses the border to C: a Kappa, and the numbers of an answer as they are lent. The numbers of each case of an
--- answer are those of the entries' own maps. Definitions only.
-use Rattle.std.specs.Prelude.{List, Bool, true, false, cond, ℕ, eqb, leb, get_or, Float, Result, Ok, Err}
+-- What crosses the border to C: a Kappa, and the numbers of an answer as they are lent. Of the entries' own refusals the
+-- numbers of each case of an answer are those of the entries' own maps (proofs/Put.antt). Definitions only.
+use Rattle.std.specs.Prelude.{List, Bool, true, false, cond, ℕ, eqb, leb, get_or, Float}
+use Rattle.std.specs.Prelude.{Result, Ok, Err, Option, None, Some}
 use Rattle.counts.specs.declared.Counts.{Counts}
 use Rattle.limits.specs.declared.Refusal.{Refusal}
 use Rattle.limits.specs.declared.Refusal.TheVariants.{Kappa as NoKappa}
 use Rattle.mixture_kappa.specs.declared.Kappa.{Kappa}
 use Rattle.mixture_kappa.specs.declared.Kappa.TheVariants.{Free, Shared}
+use Rattle.spherical.specs.declared.Clustered.{Clustered}
 use Rattle.spherical.specs.Answers.{Numbers as ClusteredNumbers}
 use Rattle.mixture_outputs.specs.Outputs.{Outputs}
 use Rattle.movmf.specs.Outcome.{Outcome as FittedOutcome}
 use Rattle.movmf.specs.Answers.{Numbers as FittedNumbers}
+use Rattle.movmf.specs.declared.Fitted.{Fitted}
 use Rattle.auto.specs.Outcome.{Outcome as ChosenOutcome}
 use Rattle.auto.specs.Answers.{Numbers as ChosenNumbers}
-use Rattle.auto.specs.declared.NotChosen.TheVariants.{Refused}
+use Rattle.auto.specs.declared.Chosen.{Chosen}
+use Rattle.auto.specs.declared.NotChosen.{NotChosen}
+use Rattle.auto.specs.declared.NotChosen.TheVariants.{Refused, Unscored}
 
 -- a Kappa crosses the border as its kind: 0 is Free, 1 is Shared
 abbrev pub kappa_by : Bool → Kappa
@@ -60,3 +65,34 @@ fitted refusal groups loglik lent =
 abbrev pub chosen : ℕ → ℕ → Float → Float → List ℕ → ChosenNumbers
 chosen refusal groups loglik score lent =
     record { refusal = refusal; groups = groups; loglik = loglik; score = score; counts = counts_in lent }
+
+-- the numbers of an answer over those found, whatever its refusals are: each has a number, and some have counts
+abbrev pub clustered_put : {E : Type 0} → (E → ℕ) → ClusteredNumbers → Result Clustered E → ClusteredNumbers
+clustered_put number found (Err e) =
+    record { refusal = number e; cohesion = found.cohesion; counts = found.counts }
+clustered_put number found (Ok c) = record { refusal = 0; cohesion = c.cohesion; counts = c.counts }
+
+abbrev pub fitted_put : {E : Type 0} → (E → ℕ) → FittedNumbers → Result Fitted E → FittedNumbers
+fitted_put number found (Err e) =
+    record { refusal = number e; groups = found.groups; loglik = found.loglik; counts = found.counts }
+fitted_put number found (Ok f) = record { refusal = 0; groups = f.k; loglik = f.loglik; counts = f.counts }
+
+abbrev pub counts_or : Counts → Option Counts → Counts
+counts_or found None = found
+counts_or found (Some counts) = counts
+
+abbrev pub counts_of : NotChosen → Option Counts
+counts_of (Refused e) = None
+counts_of (Unscored counts) = Some counts
+
+abbrev pub chosen_put : {E : Type 0} → (E → ℕ) → (E → Option Counts) → ChosenNumbers → Result Chosen E → ChosenNumbers
+chosen_put number counts found (Err e) =
+    record {
+      refusal = number e;
+      groups = found.groups;
+      loglik = found.loglik;
+      score = found.score;
+      counts = counts_or found.counts (counts e);
+    }
+chosen_put number counts found (Ok c) =
+    record { refusal = 0; groups = c.k; loglik = c.loglik; score = c.score; counts = c.counts }

@@ -3,13 +3,15 @@
 // kinds are numbers here and in `station`; and each answer has numbers of its own, so that each has a giver of its own.
 #![tactic(auto)]
 
-ghost use Rattle.std.specs.Prelude.{◌≡◌};
-ghost use Rattle.spherical.specs.Answers.{numbers_of as clusteredNumbersOf};
-ghost use Rattle.movmf.specs.Answers.{numbers_of as fittedNumbersOf};
-ghost use Rattle.auto.specs.Answers.{numbers_of as chosenNumbersOf};
-ghost use Rattle.border.specs.Answers.{kappa_of, kind_ok, checked_kappa, clustered, fitted, chosen};
+ghost use Rattle.std.specs.Prelude.{◌≡◌, ℕ, Option, None};
+ghost use Rattle.counts.specs.declared.Counts.{Counts};
+ghost use Rattle.limits.specs.Refusals.{number_of};
+ghost use Rattle.auto.specs.Answers.{number_of_not_chosen};
+ghost use Rattle.border.specs.Answers.{kappa_of, kind_ok, checked_kappa, counts_of, clustered, fitted, chosen};
+ghost use Rattle.border.specs.Answers.{clustered_put, fitted_put, chosen_put};
 
 use auto::{Chosen, NotChosen};
+use counts::Counts;
 use limits::Refusal;
 use mixture_kappa::Kappa;
 use movmf::Fitted;
@@ -45,14 +47,74 @@ pub fn checked_kappa(kind: u32) -> Result<Kappa, Refusal>
     }
 }
 
+// What a call that finds nothing answers to C: a number, and the counts where it has them.
+pub trait Refuses: Copy {
+    ghost number: { Self → ℕ };
+
+    ghost counts: { Self → Option Counts };
+
+    fn number(self) -> u32
+        ensures { result ≡ number self };
+
+    fn counts(self) -> Option<Counts>
+        ensures { result ≡ counts self };
+}
+
+// The number itself.
+impl Refuses for u32 {
+    ghost number = { λ n. n };
+
+    ghost counts = { λ n. None };
+
+    fn number(self) -> u32 {
+        self
+    }
+
+    fn counts(self) -> Option<Counts> {
+        None
+    }
+}
+
+impl Refuses for Refusal {
+    ghost number = { number_of };
+
+    ghost counts = { λ e. None };
+
+    fn number(self) -> u32 {
+        u32::from(self)
+    }
+
+    fn counts(self) -> Option<Counts> {
+        None
+    }
+}
+
+// 7 has the counts.
+impl Refuses for NotChosen {
+    ghost number = { number_of_not_chosen };
+
+    ghost counts = { counts_of };
+
+    fn number(self) -> u32 {
+        u32::from(self)
+    }
+
+    fn counts(self) -> Option<Counts> {
+        match self {
+            NotChosen::Refused(_) => None,
+            NotChosen::Unscored(c) => Some(c),
+        }
+    }
+}
+
 // The number of the refusal; the cohesion and the counts where there is none.
-pub fn give_clustered(
-    a: Result<Clustered, Refusal>,
+pub fn give_clustered<E: Refuses>(
+    a: Result<Clustered, E>,
     cohesion: &mut f64,
     counts: &mut [u64; 2],
 ) -> u32
     ensures { clustered result cohesion.new counts.new
-        ≡ clusteredNumbersOf (clustered 0 cohesion.old counts.old) a }
+        ≡ clustered_put E.number (clustered 0 cohesion.old counts.old) a }
 {
     match a {
         Ok(c) => {
@@ -60,19 +122,19 @@ pub fn give_clustered(
             *counts = [c.counts.made, c.counts.saved];
             0
         }
-        Err(e) => u32::from(e),
+        Err(e) => e.number(),
     }
 }
 
 // The number of the refusal; the number of groups, the log-likelihood and the counts where there is none.
-pub fn give_fitted(
-    a: Result<Fitted, Refusal>,
+pub fn give_fitted<E: Refuses>(
+    a: Result<Fitted, E>,
     groups: &mut usize,
     loglik: &mut f64,
     counts: &mut [u64; 2],
 ) -> u32
     ensures { fitted result groups.new loglik.new counts.new
-        ≡ fittedNumbersOf (fitted 0 groups.old loglik.old counts.old) a }
+        ≡ fitted_put E.number (fitted 0 groups.old loglik.old counts.old) a }
 {
     match a {
         Ok(f) => {
@@ -81,21 +143,21 @@ pub fn give_fitted(
             *counts = [f.counts.made, f.counts.saved];
             0
         }
-        Err(e) => u32::from(e),
+        Err(e) => e.number(),
     }
 }
 
 // The number of the refusal; the number kept, its log-likelihood and score where there is none; the counts there and
-// with 7.
-pub fn give_chosen(
-    a: Result<Chosen, NotChosen>,
+// where a refusal has them.
+pub fn give_chosen<E: Refuses>(
+    a: Result<Chosen, E>,
     groups: &mut usize,
     loglik: &mut f64,
     score: &mut f64,
     counts: &mut [u64; 2],
 ) -> u32
     ensures { chosen result groups.new loglik.new score.new counts.new
-        ≡ chosenNumbersOf (chosen 0 groups.old loglik.old score.old
+        ≡ chosen_put E.number E.counts (chosen 0 groups.old loglik.old score.old
         counts.old) a }
 {
     match a {
@@ -107,10 +169,10 @@ pub fn give_chosen(
             0
         }
         Err(e) => {
-            if let NotChosen::Unscored(c) = e {
+            if let Some(c) = e.counts() {
                 *counts = [c.made, c.saved];
             }
-            u32::from(e)
+            e.number()
         }
     }
 }

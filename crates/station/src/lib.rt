@@ -18,6 +18,7 @@ ghost use Rattle.border.specs.Answers.{checked_kappa, fitted_by, chosen_by, clus
 
 // `spherical::spherical_kmeans`.
 #[unsafe(no_mangle)]
+#[tactic(auto, using(border::proofs::Put::clustered_same))]
 pub extern "C" fn mosterklomp_spherical_kmeans(
     weights: &[f64],
     coords: &[f64],
@@ -48,6 +49,7 @@ pub extern "C" fn mosterklomp_spherical_kmeans(
 
 // `movmf::movmf_with`.
 #[unsafe(no_mangle)]
+#[tactic(auto, using(border::proofs::Put::fitted_same))]
 pub extern "C" fn mosterklomp_movmf_with(
     weights: &[f64],
     coords: &[f64],
@@ -111,6 +113,7 @@ pub extern "C" fn mosterklomp_movmf_with(
 
 // `auto::movmf_auto_with`.
 #[unsafe(no_mangle)]
+#[tactic(auto, using(border::proofs::Put::chosen_same))]
 pub extern "C" fn mosterklomp_movmf_auto_with(
     weights: &[f64],
     coords: &[f64],
