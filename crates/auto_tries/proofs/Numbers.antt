@@ -5,7 +5,8 @@ use mathlib.Core.List.{List}
 use mathlib.Core.Bool.{Bool, true, false, cond, true≢false}
 use Prim.Native.Nat.{ℕ, suc, ◌+◌, ◌*◌, ◌-◌, ◌≤◌}
 use native.Mathlib.Omega.{arith}
-use lib.ListN.{length}
+use lib.ListN.{length, drop, length-drop}
+use lib.Seq.{length-take-le}
 use lib.Ieee.{Float, lt}
 use Rattle.logarithm.specs.Logarithm.{ln_of}
 use Rattle.counts.specs.Counts.{plus_of, no_counts, sum_over, AtMost, of_runs}
@@ -13,7 +14,8 @@ use Rattle.counts.specs.declared.Counts.{Counts}
 use Rattle.counts.proofs.Sums.{at_most_more, at_most_plus}
 use Rattle.mixture_kappa.specs.declared.Settings.{Settings}
 use Rattle.mixture_run.specs.Mixture.{Em}
-use Rattle.mixture_run.specs.Areas.{parts_of, em_of}
+use Rattle.limits.specs.declared.Shape.{Shape}
+use Rattle.mixture_run.specs.Areas.{em_in, area_em}
 use Rattle.mixture_run.specs.declared.layout.Area.{Area}
 use Rattle.pick.proofs.Places.{either}
 use Rattle.mixture_restarts.specs.Kept.{held_em, kept_loglik}
@@ -32,30 +34,33 @@ abbrev pub kept_of : (k : ℕ) (score loglik : Float) → Option Kept
 kept_of k score loglik = Some (record { number = record { k = k; score = score }; loglik = loglik })
 
 -- ---- what a run found is as long as its sizes make it, whichever of two it is
-module _ (m k d : ℕ) (q : Store) (a : Area) (same : q.shape ≡ a.warm.shape) (l : Float) where
+found_full : (m k d : ℕ) (directions rest : List Float) (l : Float) → length directions ≡ k * d → k + k + k + k + k + m * k ≤ length rest
+    → Full m k d (em_in m k directions rest l)
+unfolding em_in
+found_full m k d directions rest l e h =
+    let one = length-drop k rest in
+    let two = length-drop k (drop k rest) in
+    let past = length-drop (3 * k) (drop k (drop k rest)) in
+    record {
+      resp = length-take-le (m * k) (drop (3 * k) (drop k (drop k rest))) (omega (arith, h, one, two, past));
+      weights = length-take-le k rest (omega (arith, h));
+      directions = e;
+      kappas = length-take-le k (drop k rest) (omega (arith, h, one));
+    }
+
+module _ (m k d : ℕ) (q : Store) (a : Area) (same : q.shape ≡ a.shape) (l : Float) where
   store_full : Full q.shape.m q.shape.k q.shape.d (held_em q l)
-  store_full =
-      record {
-        resp = q.sized.responsibilities_long;
-        weights = q.sized.weights_long;
-        directions = q.sized.directions_long;
-        kappas = q.sized.concentrations_long;
-      }
+  store_full = found_full q.shape.m q.shape.k q.shape.d q.directions.now q.rest.now l q.sized.directions_long q.sized.rounds_long
 
-  area_full : Full a.warm.shape.m a.warm.shape.k a.warm.shape.d (em_of (parts_of a) l)
-  area_full =
-      record {
-        resp = a.sized.responsibilities_long;
-        weights = a.sized.weights_long;
-        directions = a.warm.sized.centers_long;
-        kappas = a.sized.kappas_long;
-      }
+  area_full : Full a.shape.m a.shape.k a.shape.d (area_em a l)
+  area_full = found_full a.shape.m a.shape.k a.shape.d a.centers.now a.rest.now l a.sized.centers_long a.sized.rounds_long
 
-  pub kept_full : (t : Bool) → a.warm.shape.m ≡ m → a.warm.shape.k ≡ k → a.warm.shape.d ≡ d
-      → Full m k d (cond t (held_em q l) (em_of (parts_of a) l))
+  pub kept_full : (t : Bool) → a.shape.m ≡ m → a.shape.k ≡ k → a.shape.d ≡ d → Full m k d (cond t (held_em q l) (area_em a l))
   kept_full t em ek ed =
-      either (λ (e : Em). Full m k d e) t (held_em q l) (em_of (parts_of a) l) (rw (same, em, ek, ed) at store_full)
-      (rw (em, ek, ed) at area_full)
+      let one : Full a.shape.m a.shape.k a.shape.d (held_em q l) =
+      subst (λ (z : Shape). Full z.m z.k z.d (held_em q l)) same store_full in
+      let by : (e : Em) → Full a.shape.m a.shape.k a.shape.d e → Full m k d e = λ e f. (rw (em, ek, ed) at f) in
+      either (λ (e : Em). Full m k d e) t (held_em q l) (area_em a l) (by (held_em q l) one) (by (area_em a l) area_full)
 
 -- ---- one number fitted, of which this was found
 module _ (weights coords : List Float) (d k : ℕ) (s : Settings) (r : Runs)

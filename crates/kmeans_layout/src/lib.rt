@@ -25,29 +25,29 @@ pub struct Problem<'a> {
 
 // The leaves of a run and its sizes, which are the leaves' with k; and what it holds: centres and sums row by row; of
 // each leaf its scale, its bounds, how well it is served and its label; of each centre its drift and how many leaves it
-// has.
+// has. What is wanted after the run, centres, sums and labels, may be lent for longer than what it works with.
 #[derive(Drop)]
-pub struct Area<'a> {
+pub struct Area<'a, 'b> {
     pub shape: Shape,
     pub leaves: Leaves<'a>,
     ghost fit: { Fit shape.m shape.d leaves.weights.now leaves.coords.now },
     pub centers: &'a mut [f64],
     pub sums: &'a mut [f64],
-    pub scale: &'a mut [f64],
-    pub low: &'a mut [f64],
-    pub high: &'a mut [f64],
-    pub served: &'a mut [f64],
-    pub drift: &'a mut [f64],
+    pub scale: &'b mut [f64],
+    pub low: &'b mut [f64],
+    pub high: &'b mut [f64],
+    pub served: &'b mut [f64],
+    pub drift: &'b mut [f64],
     pub labels: &'a mut [u32],
-    pub counts: &'a mut [u32],
+    pub counts: &'b mut [u32],
     ghost sized: { Sized shape.m shape.k shape.d centers.now sums.now scale.now low.now high.now served.now drift.now
         labels.now counts.now },
     ghost labelled: { Labelled shape.m shape.k labels.now },
 }
 
-impl<'a> Area<'a> {
+impl<'a> Area<'a, '_> {
     // An area in the two lent arrays; every label is 0.
-    pub fn of(problem: Problem<'a>, work: &'a mut [f64], work_u32: &'a mut [u32]) -> Area<'a>
+    pub fn of(problem: Problem<'a>, work: &'a mut [f64], work_u32: &'a mut [u32]) -> Area<'a, 'a>
         requires { let z = problem.shape in
             (total z.m z.k z.d ≤ length work.old) × (work_u32_total z.m z.k ≤ length work_u32.old) }
         ensures { (result.shape ≡ problem.entry.shape) × (result.leaves ≡ problem.entry.leaves) }

@@ -18,8 +18,8 @@ use limits::Rounds;
 // argument that holds a `&mut` beside a ghost field.
 #[derive(Drop)]
 pub struct Halves<'a> {
-    pub held: Area<'a>,
-    pub free: Area<'a>,
+    pub held: Area<'a, 'a>,
+    pub free: Area<'a, 'a>,
     ghost alike: { Same held free },
 }
 

@@ -107,12 +107,11 @@ impl Arrays<'_> {
 // ---- filled
 
 // The label of leaf i: the first group of its greatest responsibility.
-#[tactic(auto, using(rows::proofs::Rows::row_within))]
 fn label_of(found: Found, i: usize) -> u32
     requires { i < found.shape.m }
     ensures { result ≡ argmax_of (row_of found.entry.responsibilities.now found.entry.shape.k i) }
 {
-    pick::argmax(rows::row(found.responsibilities, found.shape.k, i)) as u32
+    pick::argmax(found.leaf_responsibilities(i)) as u32
 }
 
 // The label of each leaf.

@@ -13,7 +13,7 @@ use Rattle.mixture_kappa.specs.declared.Settings.{Settings}
 use Rattle.mixture_run.specs.Mixture.{Em}
 use Rattle.mixture_run.specs.Fits.{Once}
 use Rattle.kmeans_layout.specs.Kept.{kept_of}
-use Rattle.mixture_run.specs.Areas.{parts_of, em_of, found_em}
+use Rattle.mixture_run.specs.Areas.{em_in, area_em, found_em}
 use Rattle.mixture_run.specs.declared.layout.Area.{Area}
 use Rattle.mixture_run.specs.declared.layout.Found.{Found}
 use Rattle.mixture_restarts.specs.Runs.{keep, runs_up_to}
@@ -22,9 +22,9 @@ use Rattle.mixture_restarts.specs.declared.Runs.{Runs}
 use Rattle.mixture_restarts.specs.declared.layout.Store.{Store}
 
 -- ---- one run more, which found l in the area a: what is held then, by the way that the test went
-module _ (h h' : Held) (q q' : Store) (a : Area) (run : Once) (l : Float) (em : em_of (parts_of a) l ≡ run.em)
+module _ (h h' : Held) (q q' : Store) (a : Area) (run : Once) (l : Float) (em : area_em a l ≡ run.em)
     (value : h'.value ≡ kept_of h.value l h.value l) where
-  taken_by : (t : Bool) (v : Float) → v ≡ cond t h.value l → not t ≡ true → ((x : Float) → held_em q' x ≡ em_of (parts_of a) x)
+  taken_by : (t : Bool) (v : Float) → v ≡ cond t h.value l → not t ≡ true → ((x : Float) → held_em q' x ≡ area_em a x)
       → held_em q' v ≡ cond t (held_em q h.value) run.em
   taken_by true v e n f = absurd (true≢false (sym n))
   taken_by false v e n f = rw e (f l ∙ em)
@@ -34,10 +34,11 @@ module _ (h h' : Held) (q q' : Store) (a : Area) (run : Once) (l : Float) (em : 
   left_by false v e n = absurd (true≢false n)
 
   by_own : ◌≡◌ {A = Em} (kept_of h.value l (held_em q h.value) run.em) (kept_of h.value run.em.loglik (held_em q h.value) run.em)
+  unfolding em_in
   by_own = ap (λ (x : Float). kept_of h.value x (held_em q h.value) run.em) (ap (λ (e : Em). e.loglik) em)
 
   module _ (g : Bool) (is : g ≡ not (le l h.value)) where
-    pub taken : g ≡ true → ((x : Float) → held_em q' x ≡ em_of (parts_of a) x)
+    pub taken : g ≡ true → ((x : Float) → held_em q' x ≡ area_em a x)
         → held_em q' h'.value ≡ kept_of h.value run.em.loglik (held_em q h.value) run.em
     taken b f = taken_by (le l h.value) h'.value value (sym is ∙ b) f ∙ by_own
 
@@ -47,6 +48,7 @@ module _ (h h' : Held) (q q' : Store) (a : Area) (run : Once) (l : Float) (em : 
 -- ---- what is held after it
 kept_turn : (t : ℕ) (a₀ a a' : Area) (q q' : Store) (held run : Once) (h h' : Held) → Holds held a₀ a q t h → OneMore run a a' q q' h h'
     → Holds (keep held run) a₀ a' q' (t + 1) h'
+unfolding em_in
 kept_turn t a₀ a a' q q' held run h h' v x =
     let value : h.value ≡ held.em.loglik = ap (λ (e : Em). e.loglik) v.there in
     record {
@@ -75,14 +77,14 @@ module _ (a₀ a : Area) (q : Store) (s : Settings) (r : Runs) (both : Both (run
   abbrev last : Once
   last = run_in a₀ s 3
 
-  chosen : (t : Bool) → cond t (held_em q (cond t r.held r.last)) (em_of (parts_of a) (cond t r.held r.last)) ≡ cond t held.em last.em
+  chosen : (t : Bool) → cond t (held_em q (cond t r.held r.last)) (area_em a (cond t r.held r.last)) ≡ cond t held.em last.em
   chosen true = both.there
   chosen false = both.beside
 
   -- what the kept one found, with its log-likelihood, is what the fit found
   pub kept_em : let l = kept_loglik r.held r.last in
-      kept_of r.held r.last (held_em q l) (em_of (parts_of a) l) ≡ (fit_in a₀ s).em
-  unfolding runs_up_to
+      kept_of r.held r.last (held_em q l) (area_em a l) ≡ (fit_in a₀ s).em
+  unfolding runs_up_to em_in
   kept_em =
       let el : r.last ≡ last.em.loglik = ap (λ (e : Em). e.loglik) both.beside in
       let eh : r.held ≡ held.em.loglik = ap (λ (e : Em). e.loglik) both.there in
@@ -90,9 +92,10 @@ module _ (a₀ a : Area) (q : Store) (s : Settings) (r : Runs) (both : Both (run
       chosen (le r.last r.held) ∙ ap (λ (x : Bool). cond x held.em last.em) t
 
   pub kept_loglik_is : kept_loglik r.held r.last ≡ (fit_in a₀ s).em.loglik
+  unfolding em_in
   kept_loglik_is =
       let l = kept_loglik r.held r.last in
-      sym (either (λ (e : Em). e.loglik ≡ l) (le r.last r.held) (held_em q l) (em_of (parts_of a) l) refl refl)
+      sym (either (λ (e : Em). e.loglik ≡ l) (le r.last r.held) (held_em q l) (area_em a l) refl refl)
       ∙ ap (λ (e : Em). e.loglik) kept_em
 
   pub kept_counts : r.counts ≡ (fit_in a₀ s).counts

@@ -7,7 +7,7 @@ use Rattle.kmeans_layout.specs.declared.Held.{Held}
 use Rattle.mixture_kappa.specs.declared.Settings.{Settings}
 use Rattle.mixture_run.specs.Mixture.{Em}
 use Rattle.mixture_run.specs.Fits.{Once}
-use Rattle.mixture_run.specs.Areas.{parts_of, em_of, Same}
+use Rattle.mixture_run.specs.Areas.{em_in, area_em, Same}
 use Rattle.mixture_run.specs.declared.layout.Area.{Area}
 use Rattle.mixture_restarts.specs.Runs.{run_of, runs_up_to, fit_of}
 use Rattle.mixture_restarts.specs.declared.Runs.{Runs}
@@ -16,8 +16,8 @@ use Rattle.mixture_restarts.specs.declared.layout.Store.{Store}
 -- with the sizes and leaves of an area: run t; the first run and n more; the fit
 abbrev in_area : {A : Type 0} → Area → ((weights coords : List Float) (m k d : ℕ) → A) → A
 in_area a f =
-    let l = a.warm.leaves in
-    let z = a.warm.shape in
+    let l = a.leaves in
+    let z = a.shape in
     f l.weights.now l.coords.now z.m z.k z.d
 
 abbrev pub run_in : Area → Settings → ℕ → Once
@@ -31,17 +31,12 @@ fit_in a s = in_area a (fit_of s)
 
 -- what is held, with its log-likelihood
 abbrev pub held_em : Store → Float → Em
-held_em s loglik =
-    record {
-      resp = s.responsibilities.now;
-      model = record { weights = s.weights.now; directions = s.directions.now; kappas = s.concentrations.now };
-      loglik = loglik;
-    }
+held_em s loglik = em_in s.shape.m s.shape.k s.directions.now s.rest.now loglik
 
 -- after t runs in the area a, now a', the store has what this run found, with the sizes of the area
 pub record Holds (once : Once) (a a' : Area) (s : Store) (t : ℕ) (h : Held) : Type 0 where
   pub same : Same a a'
-  pub same_held : s.shape ≡ a.warm.shape
+  pub same_held : s.shape ≡ a.shape
   pub there : held_em s h.value ≡ once.em
   pub counts : h.counts ≡ once.counts
   pub small : AtMost (of_runs t) h.counts
@@ -58,9 +53,9 @@ pub record OneMore (run : Once) (a a' : Area) (s s' : Store) (h h' : Held) : Typ
 -- all
 pub record Both (held last : Once) (a a' : Area) (s : Store) (r : Runs) : Type 0 where
   pub same : Same a a'
-  pub same_held : s.shape ≡ a.warm.shape
+  pub same_held : s.shape ≡ a.shape
   pub there : held_em s r.held ≡ held.em
-  pub beside : em_of (parts_of a') r.last ≡ last.em
+  pub beside : area_em a' r.last ≡ last.em
   pub counts : r.counts ≡ plus_of held.counts last.counts
   pub small : AtMost (of_runs 4) r.counts
 

@@ -1,3 +1,4 @@
 pub mod Runs
+pub mod Sized
 pub mod Kept
 pub mod Doubled

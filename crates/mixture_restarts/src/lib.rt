@@ -7,7 +7,7 @@ ghost use Rattle.std.specs.Prelude.{◌≡◌, ◌+◌, ◌<◌, ◌≤◌, leng
 ghost use Rattle.counts.specs.Counts.{AtMost, of_runs};
 ghost use Rattle.kmeans_layout.specs.Sized.{half, work_u32_total};
 ghost use Rattle.kmeans_layout.specs.Kept.{kept_of};
-ghost use Rattle.mixture_run.specs.Areas.{parts_of, em_of, found_em, Same, RunDone};
+ghost use Rattle.mixture_run.specs.Areas.{area_em, found_em, Same, RunDone};
 ghost use Rattle.mixture_restarts.specs.Kept.{held_em, run_in, runs_in, Holds, OneMore, Both, kept_loglik};
 
 pub mod layout;
@@ -24,7 +24,7 @@ use mixture_run::layout::{Area, Found};
 pub struct Halves<'a> {
     pub held: Store<'a>,
     pub free: Area<'a>,
-    ghost alike: { held.shape ≡ free.warm.shape },
+    ghost alike: { held.shape ≡ free.shape },
 }
 
 impl<'a> Halves<'a> {
@@ -33,7 +33,7 @@ impl<'a> Halves<'a> {
         requires { let z = problem.shape in
             (half z.m z.k z.d + half z.m z.k z.d ≤ length work.old)
             × (work_u32_total z.m z.k ≤ length work_u32.old) }
-        ensures { (result.free.warm.shape ≡ problem.entry.shape) × (result.free.warm.leaves ≡ problem.entry.leaves) }
+        ensures { (result.free.shape ≡ problem.entry.shape) × (result.free.leaves ≡ problem.entry.leaves) }
     {
         let shape = problem.shape;
         let (first, second) = work.split_at_mut(kmeans_layout::half(shape));
@@ -48,7 +48,7 @@ impl<'a> Halves<'a> {
 // Run t in an area.
 fn run(area: &mut Area, s: Settings, t: u64) -> RunEnd
     ensures same { Same area.old area.new }
-    ensures done { RunDone (run_in area.old s t) (parts_of area.new) result }
+    ensures done { RunDone (run_in area.old s t) area.new result }
 {
     let own = Settings {
         seed: rng::restart_seed(s.seed, t),
@@ -60,7 +60,7 @@ fn run(area: &mut Area, s: Settings, t: u64) -> RunEnd
 // What the run in the free area found is held, and its arrays are free.
 fn hold(halves: &mut Halves)
     ensures same { (halves.new.held.shape ≡ halves.old.held.shape) × (Same halves.old.free halves.new.free) }
-    ensures held { (loglik : Float) → held_em halves.new.held loglik ≡ em_of (parts_of halves.old.free) loglik }
+    ensures held { (loglik : Float) → held_em halves.new.held loglik ≡ area_em halves.old.free loglik }
 {
     layout::exchange(&mut halves.held, &mut halves.free);
 }
@@ -136,10 +136,11 @@ pub fn kept_loglik(r: Runs) -> f64
 }
 
 // What the kept one found.
+#[tactic(auto, unfolding(mixture_run::specs::Areas::em_in))]
 pub fn kept<'a>(halves: &'a Halves<'_>, r: Runs) -> Found<'a>
-    ensures same { result.shape ≡ halves.now.free.warm.shape }
+    ensures same { result.shape ≡ halves.now.free.shape }
     ensures kept { (loglik : Float) → found_em result loglik ≡ kept_of r.held r.last (held_em halves.now.held loglik)
-        (em_of (parts_of halves.now.free) loglik) }
+        (area_em halves.now.free loglik) }
 {
     keeper(r, halves.held.found(), halves.free.found())
 }

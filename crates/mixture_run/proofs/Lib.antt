@@ -1,4 +1,5 @@
 -- Laws that other proofs cite, each file named after what it is about.
+pub mod Same
 pub mod Written
 pub mod Directions
 pub mod Statistics

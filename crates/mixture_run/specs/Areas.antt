@@ -1,14 +1,20 @@
 -- What a run of the mixture holds in its work area, and what the functions on it promise. No definition of document 01
 -- stands on this file.
-use Rattle.std.specs.Prelude.{◌≡◌, List, ℕ, ◌+◌, Float}
+use Rattle.std.specs.Prelude.{◌≡◌, List, true, ℕ, ◌+◌, ◌*◌, replicate, Float}
+use Rattle.std.specs.Float.{inf}
+use Rattle.float.specs.Arithmetic.{plus_zero}
 use Rattle.counts.specs.Counts.{AtMost, of_runs}
 use Rattle.rows.specs.Tabulate.{tabulate}
-use Rattle.kmeans_layout.specs.Areas as warm
 use Rattle.mixture_kappa.specs.declared.Settings.{Settings}
-use Rattle.mixture_run.specs.Mixture.{Model, Statistics, Em, log_density_at}
-use Rattle.mixture_run.specs.Fits.{Once, once_of}
+use Rattle.mixture_kappa.specs.declared.Kappa.{Kappa}
+use Rattle.kmeans_lloyd.specs.Results.{Result}
+use Rattle.kmeans_lloyd.specs.declared.RunEnd.{RunEnd as WarmEnd}
+use Rattle.mixture_run.specs.Mixture.{Model, Statistics, Em, log_density_at, even_weight}
+use Rattle.mixture_run.specs.Fits.{label_totals_up_to, start_kappas_by, Once, once_of}
 use Rattle.mixture_run.specs.declared.RunEnd.{RunEnd}
+use Rattle.mixture_run.specs.Sized.{weights_in, kappas_in, responsibilities_in}
 use Rattle.mixture_run.specs.declared.layout.Area.{Area}
+use Rattle.mixture_run.specs.declared.layout.Groups.{Groups}
 use Rattle.mixture_run.specs.declared.layout.Found.{Found}
 
 -- the directions and resultants; of each group its weight, concentration, log coefficient, whole weight and length of
@@ -23,11 +29,11 @@ pub record Parts : Type 0 where
   pub norms : List Float
   pub resp : List Float
 
-abbrev pub parts_of : Area → Parts
+abbrev pub parts_of : Groups → Parts
 parts_of a =
     record {
-      directions = a.warm.centers.now;
-      sums = a.warm.sums.now;
+      directions = a.directions.now;
+      sums = a.sums.now;
       weights = a.weights.now;
       kappas = a.kappas.now;
       log_coefficients = a.log_coefficients.now;
@@ -36,9 +42,21 @@ parts_of a =
       resp = a.responsibilities.now;
     }
 
--- nothing of a run changes its sizes and leaves
+-- nothing of a run changes the sizes and leaves of its area
 abbrev pub Same : (a a' : Area) → Type 0
-Same a a' = warm.Same a.warm a'.warm
+Same a a' = (a'.shape ≡ a.shape) × (a'.leaves ≡ a.leaves)
+
+-- and its rounds go on in the same arrays
+abbrev pub SameArrays : (a a' : Groups) → Type 0
+SameArrays a a' =
+    (a'.directions.ghost_name ≡ a.directions.ghost_name) × (a'.sums.ghost_name ≡ a.sums.ghost_name)
+    × (a'.weights.ghost_name ≡ a.weights.ghost_name) × (a'.kappas.ghost_name ≡ a.kappas.ghost_name)
+    × (a'.log_coefficients.ghost_name ≡ a.log_coefficients.ghost_name)
+    × (a'.totals.ghost_name ≡ a.totals.ghost_name) × (a'.norms.ghost_name ≡ a.norms.ghost_name)
+    × (a'.responsibilities.ghost_name ≡ a.responsibilities.ghost_name)
+
+abbrev pub SameGroups : (a a' : Groups) → Type 0
+SameGroups a a' = (a'.shape ≡ a.shape) × (a'.leaves ≡ a.leaves) × (SameArrays a a')
 
 -- with another list in one place
 abbrev parts : (directions sums weights kappas log_coefficients totals norms resp : List Float) → Parts
@@ -98,20 +116,53 @@ found_model f = record { weights = f.weights.now; directions = f.directions.now;
 abbrev pub found_em : Found → Float → Em
 found_em f loglik = record { resp = f.responsibilities.now; model = found_model f; loglik = loglik }
 
+-- what stands in an area, its directions and its rest
+unfoldable pub em_in : (m k : ℕ) (directions rest : List Float) → Float → Em
+em_in m k directions rest loglik =
+    record {
+      resp = responsibilities_in m k rest;
+      model = record { weights = weights_in k rest; directions = directions; kappas = kappas_in k rest };
+      loglik = loglik;
+    }
+
+abbrev pub area_em : Area → Float → Em
+area_em a loglik = em_in a.shape.m a.shape.k a.centers.now a.rest.now loglik
+
 -- the log densities of a leaf in n groups, from c on
 abbrev pub log_densities_from : (d : ℕ) (coefficients : List Float) → Model → (x : List Float) (c n : ℕ) → List Float
 log_densities_from d coefficients p x c n = tabulate (λ e. log_density_at d coefficients p x (c + e)) n
 
 -- ---- a whole run
 
+-- before the first round, with these labels, centres and sums
+abbrev pub started_with : Kappa → (weights : List Float) (labels : List ℕ) (m k d : ℕ) (centers sums : List Float) → Em
+started_with kappa weights labels m k d centers sums =
+    record {
+      resp = replicate (m * k) plus_zero;
+      model =
+          record {
+            weights = replicate k (even_weight k);
+            directions = centers;
+            kappas = start_kappas_by kappa k d sums (label_totals_up_to weights labels k m);
+          };
+      loglik = inf true;
+    }
+
+-- what a warm start leaves: these centres and labels
+pub record WarmDone (w : Result) (c : List Float) (l : List ℕ) (r : WarmEnd) : Type 0 where
+  pub centers : c ≡ w.centers
+  pub labels : l ≡ w.labels
+  pub counts : r.counts ≡ w.counts
+  pub small : AtMost (of_runs 1) r.counts
+
 -- the run of the definition in an area
 abbrev pub once_in : Area → Settings → Once
 once_in a s =
-    let l = a.warm.leaves in
-    let z = a.warm.shape in
+    let l = a.leaves in
+    let z = a.shape in
     once_of s l.weights.now l.coords.now z.m z.k z.d
 
-pub record RunDone (once : Once) (p : Parts) (r : RunEnd) : Type 0 where
-  pub em : em_of p r.loglik ≡ once.em
+pub record RunDone (once : Once) (a : Area) (r : RunEnd) : Type 0 where
+  pub em : area_em a r.loglik ≡ once.em
   pub counts : r.counts ≡ once.counts
   pub small : AtMost (of_runs 1) r.counts

@@ -5,9 +5,9 @@ ghost use Rattle.rows.specs.Rows.{put_part, row_of};
 ghost use Rattle.mixture_kappa.specs.Groups.{log_norm_of};
 ghost use Rattle.mixture_run.specs.Mixture.{log_coefficients, log_densities, expect_up_to};
 ghost use Rattle.mixture_run.specs.Areas.{parts_of, model_of, with_log_coefficients, with_resp};
-ghost use Rattle.mixture_run.specs.Areas.{log_densities_from, Same};
+ghost use Rattle.mixture_run.specs.Areas.{log_densities_from, SameGroups};
 
-use super::layout::Area;
+use super::layout::Groups;
 use bessel::Order;
 
 // The log normalizer of a concentration after the last one, whose own is `norm`; equal ones share it.
@@ -24,16 +24,16 @@ fn norm_for(kappa: f64, last: f64, norm: f64, order: Order) -> f64
 // The log coefficient of each group. The table is read once for all. It goes by index, since it carries the last
 // concentration and its normalizer from group to group, and reads two parts of the area beside the one it writes.
 #[tactic(auto, unfolding(rows::specs::Tabulate::tabulate))]
-pub(crate) fn put_log_coefficients(area: &mut Area)
-    ensures same { Same area.old area.new }
-    ensures parts { let z = area.old.warm.shape in
+pub(crate) fn put_log_coefficients(area: &mut Groups)
+    ensures same { SameGroups area.old area.new }
+    ensures parts { let z = area.old.shape in
         let p = parts_of area.old in
         parts_of area.new ≡ with_log_coefficients (log_coefficients z.k z.d (model_of p)) p }
 {
-    let order = Order::of(area.warm.shape.d);
+    let order = Order::of(area.shape.d);
     let mut last = area.kappas[0];
     let mut norm = mixture_kappa::log_norm_from(last, order);
-    for c in 0..area.warm.shape.k {
+    for c in 0..area.shape.k {
         let kappa = area.kappas[c];
         norm = norm_for(kappa, last, norm, order);
         last = kappa;
@@ -43,15 +43,15 @@ pub(crate) fn put_log_coefficients(area: &mut Area)
 
 // The log densities of leaf i in groups c to c + N - 1.
 #[tactic(auto, using(crate::proofs::Expected::densities_end), unfolding(rows::specs::Tabulate::tabulate))]
-fn log_densities<const N: usize>(area: &Area, i: usize, c: usize) -> [f64; N]
-    requires { (i < area.now.warm.shape.m) × (c + N ≤ area.now.warm.shape.k) }
-    ensures { let z = area.now.warm.shape in
+fn log_densities<const N: usize>(area: &Groups, i: usize, c: usize) -> [f64; N]
+    requires { (i < area.now.shape.m) × (c + N ≤ area.now.shape.k) }
+    ensures { let z = area.now.shape in
         let p = parts_of area.now in
-        let x = row_of area.now.warm.leaves.coords.now z.d i in
+        let x = row_of area.now.leaves.coords.now z.d i in
         result ≡ log_densities_from z.d p.log_coefficients (model_of p) x c N }
 {
-    let d = area.warm.shape.d;
-    let mut f = kmeans_nearest::row_dots::<N>(area.warm.leaf(i), area.warm.centers, c, d);
+    let d = area.shape.d;
+    let mut f = kmeans_nearest::row_dots::<N>(area.leaf(i), area.directions, c, d);
     for (e, v) in f.iter_mut().enumerate() {
         *v = area.log_coefficients[c + e] + area.kappas[c + e] * *v;
     }
@@ -60,17 +60,17 @@ fn log_densities<const N: usize>(area: &Area, i: usize, c: usize) -> [f64; N]
 
 // The log densities of leaf i stand where its responsibilities will: by fours, then singly. The loops of this shape
 // share only their borders; one function of them would take two closures that write an area.
-fn put_log_densities(area: &mut Area, i: usize)
-    requires { i < area.old.warm.shape.m }
-    ensures same { Same area.old area.new }
-    ensures parts { let z = area.old.warm.shape in
-        let l = area.old.warm.leaves in
+fn put_log_densities(area: &mut Groups, i: usize)
+    requires { i < area.old.shape.m }
+    ensures same { SameGroups area.old area.new }
+    ensures parts { let z = area.old.shape in
+        let l = area.old.leaves in
         let p = parts_of area.old in
         let x = row_of l.coords.now z.d i in
         parts_of area.new
         ≡ with_resp (put_part p.resp (i * z.k) z.k (log_densities z.k z.d p.log_coefficients (model_of p) x)) p }
 {
-    let k = area.warm.shape.k;
+    let k = area.shape.k;
     let row = i * k;
     for b in 0..k / 4 {
         let f = log_densities::<4>(area, i, 4 * b);
@@ -83,20 +83,16 @@ fn put_log_densities(area: &mut Area, i: usize)
 }
 
 // All responsibilities, from the log densities that are written in their places first, and the log-likelihood.
-pub(crate) fn expect(area: &mut Area) -> f64
-    ensures same { Same area.old area.new }
-    ensures parts { let z = area.old.warm.shape in
-        let l = area.old.warm.leaves in
+pub(crate) fn expect(area: &mut Groups) -> f64
+    ensures same { SameGroups area.old area.new }
+    ensures parts { let z = area.old.shape in
+        let l = area.old.leaves in
         let p = parts_of area.old in
         let e = expect_up_to l.weights.now l.coords.now z.k z.d p.log_coefficients (model_of p) z.m in
         (result ≡ e.loglik) × (parts_of area.new ≡ with_resp e.resp p) }
 {
-    for i in 0..area.warm.shape.m {
+    for i in 0..area.shape.m {
         put_log_densities(area, i);
     }
-    mixture_softmax::log_softmax_rows(
-        area.responsibilities,
-        area.warm.leaves.weights,
-        area.warm.shape.k,
-    )
+    mixture_softmax::log_softmax_rows(area.responsibilities, area.leaves.weights, area.shape.k)
 }

@@ -5,7 +5,7 @@ use lib.ListN.{length}
 use lib.Ieee.{le}
 use Rattle.limits.specs.declared.Shape.{Shape}
 use Rattle.kmeans_layout.specs.Kept.{kept_of}
-use Rattle.mixture_run.specs.Areas.{parts_of, em_of}
+use Rattle.mixture_run.specs.Areas.{area_em}
 use Rattle.mixture_restarts.specs.Kept.{held_em, kept_loglik}
 use Rattle.mixture_restarts.proofs.Turns.{kept_em, kept_loglik_is, kept_counts}
 use Rattle.mixture_outputs.specs.Lent.{outputs_of}
@@ -20,7 +20,7 @@ em_at : (p : After-four_runs-r) → let a = p.args in
     let r = p.four_runs-r.result in
     let h = p.four_runs-r.new.halves in
     let l = kept_loglik r.held r.last in
-    kept_of r.held r.last (held_em h.held l) (em_of (parts_of h.free) l) ≡ (lone a.leaves.weights.now a.leaves.coords.now a.leaves.d a.s a.k).em
+    kept_of r.held r.last (held_em h.held l) (area_em h.free l) ≡ (lone a.leaves.weights.now a.leaves.coords.now a.leaves.d a.s a.k).em
 em_at p =
     let z = p.of-halves.ensures in
     let h = p.four_runs-r in
@@ -42,7 +42,7 @@ counts_at p =
     rw (z.0, z.1) at (kept_counts p.of-halves.result.free h.new.halves.free h.new.halves.held p.args.s h.result h.ensures)
 
 -- its sizes are those of the fit
-shape_at : (p : After-four_runs-r) → p.four_runs-r.new.halves.free.warm.shape ≡ p.of-halves.result.free.warm.shape
+shape_at : (p : After-four_runs-r) → p.four_runs-r.new.halves.free.shape ≡ p.of-halves.result.free.shape
 shape_at p = p.four_runs-r.ensures.same.0
 
 full_at : (p : After-four_runs-r) → let a = p.args in

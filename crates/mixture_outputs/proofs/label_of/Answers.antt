@@ -15,7 +15,7 @@ overflow_cast-result c =
     let z = a.shape in
     let i = c.args.i in
     let row = row_of a.responsibilities.now z.k i in
-    let is : c.argmax.result ≡ argmax_of row = c.argmax.ensures ∙ rw c.row.ensures in
+    let is : c.argmax.result ≡ argmax_of row = c.argmax.ensures ∙ rw c.leaf_responsibilities.ensures in
     let long : length row ≡ z.k =
     length_part a.responsibilities.now (i * z.k) z.k (omega (arith, row_within i z.m z.k c.requires, a.sized.responsibilities_long)) in
     let below : argmax_of row < length row = argmax_below row (omega (arith, long, z.sizes.k_some)) in

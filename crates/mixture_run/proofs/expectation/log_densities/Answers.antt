@@ -9,6 +9,6 @@ loop-e-preserved g c =
     let a = c.args.area.now in
     let p = parts_of a in
     let l = c.loop-e in
-    let d = a.warm.shape.d in
-    densities_turn d p.log_coefficients (model_of p) (row_of a.warm.leaves.coords.now d c.args.i) c.leaf.result.now c.args.c g.row.N
+    let d = a.shape.d in
+    densities_turn d p.log_coefficients (model_of p) (row_of a.leaves.coords.now d c.args.i) c.leaf.result.now c.args.c g.row.N
     c.row_dots-f.result c.row_dots-f.ensures c.leaf.ensures l.v-items l.e l.invariant c.loop-e-test.true

@@ -35,5 +35,5 @@ returns-clause-parts c =
     let p = parts_of a in
     let l = c.loop-c in
     rw (← c.of-order.ensures)
-    (written_end with_log_coefficients (log_coefficient_at c.of-order.result.d (model_of p)) a.log_coefficients.now p _ l.c a.warm.shape.k
+    (written_end with_log_coefficients (log_coefficient_at c.of-order.result.d (model_of p)) a.log_coefficients.now p _ l.c a.shape.k
     (omega (arith, l.auto.c-end, c.loop-c-test.false)) a.sized.log_coefficients_long l.invariant.1)

@@ -3,7 +3,7 @@
 use Rattle.std.specs.Prelude.{◌≡◌}
 use Rattle.mixture_kappa.specs.Groups.{log_norm_of}
 use Rattle.mixture_run.specs.Mixture.{log_coefficient_at}
-use Rattle.mixture_run.specs.Areas.{parts_of, model_of, with_log_coefficients, Same}
+use Rattle.mixture_run.specs.Areas.{parts_of, model_of, with_log_coefficients, SameGroups}
 use Rattle.mixture_run.proofs.Written.{written}
 use Rattle.mixture_run.proofs.expectation.put_log_coefficients.Given as goal
 
@@ -11,6 +11,6 @@ abbrev pub invariant-loop-c : goal.invariant-loop-c
 invariant-loop-c l =
     let a = l.initial.area in
     let p = parts_of a in
-    (Same a l.area)
+    (SameGroups a l.area)
     × (parts_of l.area ≡ written with_log_coefficients (log_coefficient_at l.order.d (model_of p)) a.log_coefficients.now p l.c)
     × (l.norm ≡ log_norm_of l.order.d l.last)

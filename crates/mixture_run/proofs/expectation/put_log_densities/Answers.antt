@@ -6,20 +6,21 @@ use Rattle.rows.specs.Rows.{row_of}
 use Rattle.rows.specs.Tabulate.{tabulate}
 use Rattle.rows.proofs.Rows.{row_within}
 use Rattle.mixture_run.specs.Areas.{parts_of}
+use Rattle.mixture_run.proofs.Same.{same_here}
 use Rattle.mixture_run.proofs.Expected.{row_start, row_turn, row_block, row_done}
 use Rattle.mixture_run.proofs.expectation.put_log_densities.Goals as goal
 
 pub loop-b-init : goal.loop-b-init
 loop-b-init c =
     let a = c.args.area.now in
-    let z = a.warm.shape in
-    ((refl, refl), row_start z.d z.k c.args.i (row_of a.warm.leaves.coords.now z.d c.args.i) (parts_of a))
+    let z = a.shape in
+    (same_here a, row_start z.d z.k c.args.i (row_of a.leaves.coords.now z.d c.args.i) (parts_of a))
 
 pub loop-b-preserved : goal.loop-b-preserved
 loop-b-preserved c =
     let a = c.args.area.now in
-    let z = a.warm.shape in
-    let x = row_of a.warm.leaves.coords.now z.d c.args.i in
+    let z = a.shape in
+    let x = row_of a.leaves.coords.now z.d c.args.i in
     let l = c.loop-b in
     let i = l.invariant in
     let to = c.args.i * z.k + 4 * l.b in
@@ -37,8 +38,8 @@ pub loop-c-preserved : goal.loop-c-preserved
 unfolding tabulate
 loop-c-preserved c =
     let a = c.args.area.now in
-    let z = a.warm.shape in
-    let x = row_of a.warm.leaves.coords.now z.d c.args.i in
+    let z = a.shape in
+    let x = row_of a.leaves.coords.now z.d c.args.i in
     let l = c.loop-c in
     let i = l.invariant in
     let first : l.c + 0 ≡ l.c = omega arith in

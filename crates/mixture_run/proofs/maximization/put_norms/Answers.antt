@@ -10,6 +10,6 @@ use Rattle.mixture_run.proofs.maximization.put_norms.Goals as goal
 pub returns-clause-parts : goal.returns-clause-parts
 returns-clause-parts c =
     let a = c.args.area.now in
-    let z = a.warm.shape in
+    let z = a.shape in
     ap (λ (l : List Float). with_norms l (parts_of a))
-    (c.put.ensures (norm_at a.warm.sums.now z.d) (λ j x h e. search rules) ∙ rw a.sized.norms_long (norms_are a.warm.sums.now z.d z.k))
+    (c.put.ensures (norm_at a.sums.now z.d) (λ j x h e. search rules) ∙ rw a.sized.norms_long (norms_are a.sums.now z.d z.k))
