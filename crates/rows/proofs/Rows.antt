@@ -1,11 +1,11 @@
 -- Laws of flat lists: parts and rows. By recursion on the list. Assumes nothing.
-use mathlib.Core.Path.{◌≡◌, refl, ◌∙◌}
-use mathlib.Core.List.{List, [], ◌∷◌, ◌++◌, append_assoc}
+use mathlib.Core.Path.{◌≡◌, refl, ap, ◌∙◌}
+use mathlib.Core.List.{List, [], ◌∷◌, ◌++◌, append_assoc, append-nil}
 use Prim.Native.Nat.{ℕ, zero, suc, ◌+◌, ◌*◌, ◌-◌, ◌≤◌, ◌<◌}
 use native.Mathlib.Nat.{suc-mul, add-mul, mul-le-mul_right}
 use native.Mathlib.Numerals.{add-one}
 use native.Mathlib.Omega.{arith}
-use lib.ListN.{length, get_or, take, drop, set, length-append, length-drop, take-append-drop}
+use lib.ListN.{length, get_or, take, drop, set, drop_of_length-le, length-append, length-drop, take-append-drop}
 use lib.Seq.{drop-drop, take-take, length-take-le, take_at, drop_at, get_or-take, get_or-drop, drop-cons, set_at}
 use lib.Seq.{paste, paste-suc, drop-paste}
 use Rattle.rows.specs.Rows.{part, put_part, row_of}
@@ -29,11 +29,26 @@ module _ {A : Type 0} where
   pub row_get : (l : List A) (d i c : ℕ) (z : A) → c < d → get_or (row_of l d i) c z ≡ get_or l (i * d + c) z
   row_get l d i c z h = get_or-take d (drop (i * d) l) c z h ∙ get_or-drop (i * d) l c z
 
+  take_front : (l v : List A) (n : ℕ) → length v ≤ n → n ≤ length l
+      → take n (v ++ drop (length v) l) ≡ v ++ drop (length v) (take n l)
+  take_front l [] n h g = refl
+  take_front l (x ∷ v) zero h g = absurd (omega arith)
+  take_front [] (x ∷ v) (suc n) h g = absurd (omega arith)
+  take_front (y ∷ l) (x ∷ v) (suc n) h g = ap (λ (r : List A). x ∷ r) (take_front l v n (omega arith) (omega arith))
+
   drop_front : (l v : List A) (n : ℕ) → length v ≤ n → n ≤ length l → drop n (v ++ drop (length v) l) ≡ drop n l
   drop_front l [] n h g = refl
   drop_front l (x ∷ v) zero h g = absurd (omega arith)
   drop_front [] (x ∷ v) (suc n) h g = absurd (omega arith)
   drop_front (y ∷ l) (x ∷ v) (suc n) h g = drop_front l v n (omega arith) (omega arith)
+
+  -- a part that was replaced before the cut at n
+  pub take_put : (l : List A) (at n : ℕ) (v : List A) → at + length v ≤ n → n ≤ length l
+      → take n (put_part l at (length v) v) ≡ put_part (take n l) at (length v) v
+  take_put l zero n v h g = take_front l v n (omega arith) g
+  take_put [] (suc at) n v h g = absurd (omega arith)
+  take_put (x ∷ l) (suc at) zero v h g = absurd (omega arith)
+  take_put (x ∷ l) (suc at) (suc n) v h g = ap (λ (r : List A). x ∷ r) (take_put l at n v (omega arith) (omega arith))
 
   pub drop_put : (l : List A) (at n : ℕ) (v : List A) → at + length v ≤ n → n ≤ length l → drop n (put_part l at (length v) v) ≡ drop n l
   drop_put l zero n v h g = drop_front l v n (omega arith) g
@@ -41,11 +56,29 @@ module _ {A : Type 0} where
   drop_put (x ∷ l) (suc at) zero v h g = absurd (omega arith)
   drop_put (x ∷ l) (suc at) (suc n) v h g = drop_put l at n v (omega arith) (omega arith)
 
+  -- and after it
+  pub take_put_after : (l : List A) (at n p : ℕ) (v : List A) → n ≤ at → n ≤ length l → take n (put_part l at p v) ≡ take n l
+  take_put_after l at zero p v h g = refl
+  take_put_after [] at (suc n) p v h g = absurd (omega arith)
+  take_put_after (x ∷ l) zero (suc n) p v h g = absurd (omega arith)
+  take_put_after (x ∷ l) (suc at) (suc n) p v h g = ap (λ (r : List A). x ∷ r) (take_put_after l at n p v (omega arith) (omega arith))
+
+  pub drop_put_after : (l : List A) (at n j p : ℕ) (v : List A) → at ≡ n + j → n ≤ length l
+      → drop n (put_part l at p v) ≡ put_part (drop n l) j p v
+  drop_put_after l at zero j p v e g = let f : at ≡ j = omega arith in rw f
+  drop_put_after [] at (suc n) j p v e g = absurd (omega arith)
+  drop_put_after (x ∷ l) zero (suc n) j p v e g = absurd (omega arith)
+  drop_put_after (x ∷ l) (suc at) (suc n) j p v e g = drop_put_after l at n j p v (omega arith) (omega arith)
+
   -- the part that was replaced
   pub part_put : (l : List A) (at n : ℕ) (v : List A) → length v ≡ n → at ≤ length l → part (put_part l at n v) at n ≡ v
   part_put l at n v e h =
       let f : length (take at l) ≡ at = length-take-le at l h in
       rw (drop_at (take at l) (v ++ drop n (drop at l)) at f, take_at v (drop n (drop at l)) n e)
+
+  -- a list replaced as a whole
+  pub put_whole : (l v : List A) (n : ℕ) → length l ≤ n → put_part l 0 n v ≡ v
+  put_whole l v n h = rw (drop_of_length-le l h, append-nil)
 
   pub part_take : (w : List A) (n i p : ℕ) → i + p ≤ n → part (take n w) i p ≡ part w i p
   part_take w n zero p h = take-take p n w (omega arith)
