@@ -4,9 +4,14 @@ use Rattle.std.specs.Prelude.{ℕ, ◌+◌, ◌*◌, ◌/◌, ◌%◌, ◌^◌, 
 use Rattle.std.specs.Float.{binary64}
 use Rattle.std.specs.Float.Ieee.{div, of_int}
 
+-- the exclusive or of the k low binary digits of a and b
+unfoldable pub xor : ℕ → ℕ → ℕ → ℕ
+xor k a b = bit_xor (a % 2 ^ k) (b % 2 ^ k)
+
 -- z ^ (z >> k), of 64-bit words
 unfoldable pub folded_by : ℕ → ℕ → ℕ
-folded_by k z = bit_xor z (z / 2 ^ k)
+unfolding xor
+folded_by k z = xor 64 z (z / 2 ^ k)
 
 -- the generator's next state
 unfoldable pub step_of : ℕ → ℕ

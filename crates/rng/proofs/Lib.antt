@@ -1,0 +1,2 @@
+-- Laws that other proofs cite.
+pub mod Xor
