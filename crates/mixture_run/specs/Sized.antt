@@ -33,8 +33,8 @@ pub record SizedFound (m k d : ℕ) (responsibilities weights directions concent
 abbrev pub total : (m k d : ℕ) → ℕ
 total m k d = k * d + k * d + k + k + k + k + k + m * k
 
--- ---- in the rest: weights, concentrations, then log coefficients, whole weights and lengths of resultants, of which no
--- find is made, and the responsibilities
+-- ---- in the rest: weights, concentrations, then log coefficients, whole weights and lengths of resultants, which are
+-- no find, and the responsibilities
 abbrev pub weights_in : (k : ℕ) → List Float → List Float
 weights_in k rest = take k rest
 

@@ -127,7 +127,7 @@ pub fn found_in<'a>(shape: Shape, directions: &'a [f64], rest: &'a [f64]) -> Fou
 // Directions and resultants; of each group its weight, concentration, log coefficient, whole weight and length of
 // resultant; and the responsibilities, leaf by leaf.
 #[derive(Drop)]
-pub(crate) struct Groups<'a> {
+pub struct Groups<'a> {
     pub shape: Shape,
     pub leaves: Leaves<'a>,
     ghost fit: { Fit shape.m shape.d leaves.weights.now leaves.coords.now },

@@ -126,8 +126,8 @@ fn warm_start<'a>(
     end
 }
 
-// The rounds after a warm start, in the rest of an area: first the concentrations of the labelled groups. The labels are
-// only read: they are lent as `&mut`, so that it is known that they stay.
+// The rounds after a warm start, in the rest of an area: first the concentrations of the labelled groups. The labels
+// are only read: they are lent as `&mut`, so that it is known that they stay.
 fn run_rounds(
     problem: Problem,
     centers: &mut [f64],

@@ -20,8 +20,8 @@ returns c =
           rw w.halves-is (record {
             same = (e.same.1.0 ∙ r.ensures.same.0, e.same.1.1 ∙ r.ensures.same.1);
             same_held = e.same.0;
-            there = taken c.args.h c.after.result h.held w.hold.new.halves.held r.new.area (run_in h.free c.args.s c.args.t) r.result.loglik d.em value c.gives_way.result
-                c.gives_way.ensures w.if-gives_way.true e.held;
+            there = taken c.args.h c.after.result h.held w.hold.new.halves.held r.new.area (run_in h.free c.args.s c.args.t)
+                r.result.loglik d.em value c.gives_way.result c.gives_way.ensures w.if-gives_way.true e.held;
             counts = counts ∙ rw d.counts;
             small = rw (← d.counts) small;
           })
@@ -29,8 +29,8 @@ returns c =
           rw w.halves-is (record {
             same = r.ensures.same;
             same_held = refl;
-            there = left c.args.h c.after.result h.held h.held r.new.area (run_in h.free c.args.s c.args.t) r.result.loglik d.em value c.gives_way.result
-                c.gives_way.ensures w.if-gives_way.false;
+            there = left c.args.h c.after.result h.held h.held r.new.area (run_in h.free c.args.s c.args.t) r.result.loglik
+                d.em value c.gives_way.result c.gives_way.ensures w.if-gives_way.false;
             counts = counts ∙ rw d.counts;
             small = rw (← d.counts) small;
           })

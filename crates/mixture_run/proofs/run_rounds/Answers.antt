@@ -20,8 +20,8 @@ returns-clause-done c =
     let k₂ = s₂.0 ∙ s₁.0 in
     let l₂ = s₂.1 ∙ s₁.1 in
     let is = rounds_done c.args.s.kappa x.weights.now x.coords.now c.args.labels.now z.m z.k z.d c.args.s.rounds c.args.centers.now
-    c.args.sums.now (parts_of begun.new.area) (parts_of cleared.new.area) (parts_of a) c.em.result begun.ensures.parts (rw (← s₁.0) cleared.ensures.parts)
-    (rw (← k₂, ← l₂) c.em.ensures.rounds_done) in
+    c.args.sums.now (parts_of begun.new.area) (parts_of cleared.new.area) (parts_of a) c.em.result begun.ensures.parts
+    (rw (← s₁.0) cleared.ensures.parts) (rw (← k₂, ← l₂) c.em.ensures.rounds_done) in
     let k₃ = c.em.ensures.same.0 ∙ k₂ in
     let k = ap (λ (y : Shape). y.k) k₃ in
     let n = a.sized in
