@@ -11,7 +11,7 @@ pub record SizedArea (m k d : ℕ) (centers sums rest : List Float) (labels coun
   pub labels_long : length labels ≡ m
   pub counts_long : length counts ≡ k
 
-pub record SizedGroups (m k d : ℕ)
+pub record Sized (m k d : ℕ)
     (directions sums weights kappas log_coefficients totals norms responsibilities : List Float) : Type 0 where
   pub directions_long : length directions ≡ k * d
   pub sums_long : length sums ≡ k * d

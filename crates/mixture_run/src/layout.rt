@@ -4,7 +4,7 @@
 ghost use Rattle.std.specs.Prelude.{◌≡◌, ◌+◌, ◌*◌, ◌<◌, ◌≤◌, length};
 ghost use Rattle.rows.specs.Rows.{row_of};
 ghost use Rattle.kmeans_layout.specs.Sized.{Fit, Labelled, total as warm_total, work_u32_total};
-ghost use Rattle.mixture_run.specs.Sized.{SizedArea, SizedGroups, SizedFound, total};
+ghost use Rattle.mixture_run.specs.Sized.{SizedArea, Sized, SizedFound, total};
 ghost use Rattle.mixture_run.specs.Sized.{weights_in, kappas_in, responsibilities_in};
 
 use kmeans_layout::Problem;
@@ -139,7 +139,7 @@ pub struct Groups<'a> {
     pub totals: &'a mut [f64],
     pub norms: &'a mut [f64],
     pub responsibilities: &'a mut [f64],
-    ghost sized: { SizedGroups shape.m shape.k shape.d directions.now sums.now weights.now kappas.now
+    ghost sized: { Sized shape.m shape.k shape.d directions.now sums.now weights.now kappas.now
         log_coefficients.now totals.now norms.now responsibilities.now },
 }
 
