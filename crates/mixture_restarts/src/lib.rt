@@ -121,7 +121,7 @@ pub fn four_runs(halves: &mut Halves, s: Settings) -> Runs
 // ---- the keeper
 
 // Of what is the held run's and what is the last one's, that of the kept run: the last one's, unless its log-likelihood
-// is at most the held one's. Of two lent areas it hands back one.
+// is at most the held one's. Of two finds that are lent it hands back one.
 pub fn keeper<T: Copy>(r: Runs, held: T, last: T) -> T
     ensures { result ≡ kept_of r.held r.last held last }
 {
