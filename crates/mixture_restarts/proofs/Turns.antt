@@ -5,7 +5,6 @@ use mathlib.Core.Bool.{Bool, true, false, cond, not, true≢false}
 use Prim.Native.Nat.{ℕ, suc, ◌+◌, ◌-◌, ◌≤◌}
 use native.Mathlib.Omega.{arith}
 use lib.Ieee.{Float, le}
-use Rattle.limits.specs.declared.Shape.{Shape}
 use Rattle.counts.proofs.Sums.{at_most_more, at_most_plus}
 use Rattle.pick.proofs.Places.{either}
 use Rattle.kmeans_layout.specs.declared.Held.{Held}
@@ -13,9 +12,8 @@ use Rattle.mixture_kappa.specs.declared.Settings.{Settings}
 use Rattle.mixture_run.specs.Mixture.{Em}
 use Rattle.mixture_run.specs.Fits.{Once}
 use Rattle.kmeans_layout.specs.Kept.{kept_of}
-use Rattle.mixture_run.specs.Areas.{em_in, area_em, found_em}
+use Rattle.mixture_run.specs.Areas.{em_in, area_em}
 use Rattle.mixture_run.specs.declared.layout.Area.{Area}
-use Rattle.mixture_run.specs.declared.layout.Found.{Found}
 use Rattle.mixture_restarts.specs.Runs.{keep, runs_up_to}
 use Rattle.mixture_restarts.specs.Kept.{held_em, run_in, runs_in, fit_in, Holds, OneMore, Both, kept_loglik}
 use Rattle.mixture_restarts.specs.declared.Runs.{Runs}
@@ -101,12 +99,3 @@ module _ (a₀ a : Area) (q : Store) (s : Settings) (r : Runs) (both : Both (run
   pub kept_counts : r.counts ≡ (fit_in a₀ s).counts
   unfolding runs_up_to
   kept_counts = both.counts
-
--- of two finds the one that the test chose
-pub chosen_em : (t : Bool) (f g : Found) (l : Float) → found_em (cond t f g) l ≡ cond t (found_em f l) (found_em g l)
-chosen_em true f g l = refl
-chosen_em false f g l = refl
-
-pub chosen_shape : (t : Bool) (f g : Found) (z : Shape) → f.shape ≡ z → g.shape ≡ z → (cond t f g).shape ≡ z
-chosen_shape true f g z e h = e
-chosen_shape false f g z e h = h
