@@ -14,8 +14,7 @@ use kmeans_layout::{Area, Held, Problem};
 use limits::Rounds;
 
 // Two areas of the same sizes and leaves, in the halves of the lent work arrays: the held run stands in one, the other
-// is free for the next. It and that of mixture_restarts are no one struct of any area: the borrow checker takes no type
-// argument that holds a `&mut` beside a ghost field.
+// is free for the next. That of mixture_restarts is another: it holds one area, and beside it what is held.
 #[derive(Drop)]
 pub struct Halves<'a> {
     pub held: Area<'a, 'a>,
